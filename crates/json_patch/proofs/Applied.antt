@@ -1,0 +1,179 @@
+-- A run over a list of operations of the program, one step at a time.
+use Rattle.std.proofs.Common.{◌≡◌, ◌+◌, ◌<◌, ◌≤◌, ℕ, zero, suc, ◌*◌, List, [], ◌∷◌, ◌++◌, length, get_or, take, Some, option_map, Result, Ok, Err, refl, sym, ap, ap₂, ◌∙◌, subst, add-one, arith}
+use Rattle.std.proofs.lemmas.List.{map-append, reverse-append, reverse-reverse}
+use mathlib.Core.List.{reverse}
+use Rattle.std.specs.List.{slice_get}
+use Rattle.serde_json.specs.Data.{Data}
+use Rattle.jsonptr.specs.Text.{Pointer}
+use Rattle.json_patch.specs.Attempt.{Steps}
+use Rattle.json_patch.specs.Document.{IsDocument}
+use Rattle.json_patch.specs.Faulting.{Reports}
+use Rattle.json_patch.specs.InPlace.{AreInPlace, IsInPlace, NeverShort}
+use Rattle.json_patch.specs.Inverse.{IsInverse}
+use Rattle.json_patch.specs.InverseComputed.{block, inverse}
+use Rattle.json_patch.specs.Operation.{Operation, AreWhole, operation_of, operations, path_of}
+use Rattle.json_patch.specs.Refusal.{NamesFirst, IfRefused, OnMemory}
+use Rattle.json_patch.specs.Run.{Accepts, RefusesAt, IsAccepted}
+use Rattle.json_patch.specs.RunComputed.{stepped}
+use Rattle.json_patch.specs.Step.{Leaves, Refuses}
+use Rattle.json_patch.specs.declared.error.PatchErrorKind.{PatchErrorKind}
+use Rattle.json_patch.specs.declared.error.PatchFault.{PatchFault}
+use Rattle.json_patch.specs.declared.error.PatchFault.TheVariants.{Refused, Memory}
+use Rattle.json_patch.specs.declared.operation.PatchOperation.{PatchOperation}
+use Rattle.json_patch.specs.declared.walk.StepFault.{StepFault}
+use Rattle.json_patch.specs.declared.walk.StepFault.TheVariants.{Refused as step_refused, Memory as step_short}
+use Rattle.json_patch.proofs.Blocks.{inverse_is}
+use Rattle.json_patch.proofs.Inverted.{inverse_back, inverse_joined, inverse_length, inverse_whole}
+use Rattle.json_patch.proofs.Runs.{accepted, accepts_ran}
+use Rattle.json_patch.proofs.Stepped.{leaves_document, stepped_leaves, stepped_refuses}
+
+-- the state of the run before the operation at k
+abbrev pub IsState : Data → List PatchOperation → ℕ → Data → Type 0
+IsState d os k m = Accepts d (take k (operations os)) m
+
+-- the operation at k
+abbrev pub IsAt : List PatchOperation → ℕ → PatchOperation → Type 0
+IsAt os k o = o ≡ get_or os k o
+
+-- ---- one more step
+
+leaves_at : (d m e : Data) (x o : PatchOperation) → IsDocument d → AreWhole (operation_of x ∷ []) → d ≡ m → o ≡ x → stepped m (operation_of o) ≡ Ok e → Leaves d (operation_of x) e
+leaves_at d m e x o hd hv same is h = stepped_leaves d (operation_of x) e hd hv.0 (ap (λ c. stepped c (operation_of x)) same ∙ ap (λ y. stepped m (operation_of y)) (sym is) ∙ h)
+
+refuses_at : (d m : Data) (kind : PatchErrorKind) (x o : PatchOperation) → IsDocument d → AreWhole (operation_of x ∷ []) → d ≡ m → o ≡ x → stepped m (operation_of o) ≡ Err kind → Refuses d (operation_of x) kind
+refuses_at d m kind x o hd hv same is h = stepped_refuses d (operation_of x) kind hd hv.0 (ap (λ c. stepped c (operation_of x)) same ∙ ap (λ y. stepped m (operation_of y)) (sym is) ∙ h)
+
+state_suc : (d m e : Data) (os : List PatchOperation) (k : ℕ) (o : PatchOperation) → IsDocument d → AreWhole (operations os) → k < length os → IsAt os k o → IsState d os k m → stepped m (operation_of o) ≡ Ok e → IsState d os (suc k) e
+state_suc d m e [] k o hd hv less is h s = absurd (omega arith)
+state_suc d m e (x ∷ os) zero o hd hv less is h s = (e, leaves_at d m e x o hd (hv.0, tt) h is s, refl)
+state_suc d m e (x ∷ os) (suc k) o hd hv less is h s =
+    (h.0, h.1, state_suc h.0 m e os k o (leaves_document d (operation_of x) h.0 hd hv.0 h.1) hv.1 (omega arith) is h.2 s)
+
+pub state_more : (d m e : Data) (os : List PatchOperation) (k : ℕ) (o : PatchOperation) → IsDocument d → AreWhole (operations os) → k < length os → IsAt os k o → IsState d os k m → stepped m (operation_of o) ≡ Ok e → IsState d os (k + 1) e
+state_more d m e os k o hd hv less is h s = subst (λ n. IsState d os n e) (sym (add-one k)) (state_suc d m e os k o hd hv less is h s)
+
+pub state_refused : (d m : Data) (kind : PatchErrorKind) (os : List PatchOperation) (k : ℕ) (o : PatchOperation) → IsDocument d → AreWhole (operations os) → k < length os → IsAt os k o → IsState d os k m → stepped m (operation_of o) ≡ Err kind → RefusesAt d (operations os) k kind
+state_refused d m kind [] k o hd hv less is h s = absurd (omega arith)
+state_refused d m kind (x ∷ os) zero o hd hv less is h s = refuses_at d m kind x o hd (hv.0, tt) h is s
+state_refused d m kind (x ∷ os) (suc k) o hd hv less is h s =
+    (h.0, h.1, state_refused h.0 m kind os k o (leaves_document d (operation_of x) h.0 hd hv.0 h.1) hv.1 (omega arith) is h.2 s)
+
+-- ---- its ends
+
+pub state_all : (d m : Data) (os : List PatchOperation) (k : ℕ) → length os ≤ k → IsState d os k m → Accepts d (operations os) m
+state_all d m [] zero le h = h
+state_all d m [] (suc k) le h = h
+state_all d m (x ∷ os) zero le h = absurd (omega arith)
+state_all d m (x ∷ os) (suc k) le h = (h.0, h.1, state_all h.0 m os k (omega arith) h.2)
+
+pub state_document : (d m : Data) (os : List PatchOperation) (k : ℕ) → IsDocument d → AreWhole (operations os) → IsState d os k m → IsDocument m
+state_document d m os zero hd hv h = subst IsDocument h hd
+state_document d m [] (suc k) hd hv h = subst IsDocument h hd
+state_document d m (x ∷ os) (suc k) hd hv h = state_document h.0 m os k (leaves_document d (operation_of x) h.0 hd hv.0 h.1) hv.1 h.2
+
+-- ---- a refusal
+
+path_at : (os : List PatchOperation) (k : ℕ) (o : PatchOperation) → k < length os → IsAt os k o → option_map path_of (slice_get (operations os) k) ≡ Some (path_of (operation_of o))
+path_at [] k o less is = absurd (omega arith)
+path_at (x ∷ os) zero o less is = ap (λ y. Some (path_of (operation_of y))) (sym is)
+path_at (x ∷ os) (suc k) o less is = path_at os k o (omega arith) is
+
+refused_with : (fault : StepFault) (wanted : Result Data PatchErrorKind) (new : Data) (kind : PatchErrorKind) → fault ≡ step_refused kind → Steps {T = Unit {0}} (Err fault) wanted new → wanted ≡ Err kind
+refused_with fault wanted new kind is h = subst (λ f. Steps {T = Unit {0}} (Err f) wanted new) is h
+
+-- the fault of a run names what the step refused
+pub reported_names : (U : Type 0) (out : PatchFault) (fault : StepFault) (d m new : Data) (os : List PatchOperation) (k : ℕ) (o : PatchOperation) → IsDocument d → AreWhole (operations os) → k < length os → IsAt os k o → IsState d os k m
+    → Steps {T = Unit {0}} (Err fault) (stepped m (operation_of o)) new → Reports fault k (path_of (operation_of o)) out → IfRefused {T = U} (Err out) (NamesFirst d (operations os))
+reported_names U (Refused e) fault d m new os k o hd hv less is h s r =
+    let stepped_to = refused_with fault (stepped m (operation_of o)) new e.kind r.0 s in (
+      subst (λ n. RefusesAt d (operations os) n e.kind) (sym r.1) (state_refused d m e.kind os k o hd hv less is h stepped_to),
+      ap (λ n. option_map path_of (slice_get (operations os) n)) r.1 ∙ path_at os k o less is ∙ ap Some (sym r.2),
+    )
+reported_names U (Memory error) fault d m new os k o hd hv less is h s r = tt
+
+-- and leaves the state before it, where the step left that
+pub reported_state : (U : Type 0) (out : PatchFault) (fault : StepFault) (P : Pointer) (d m new : Data) (os : List PatchOperation) (k : ℕ) → IsState d os k m → new ≡ m → Reports fault k P out
+    → IfRefused {T = U} (Err out) (λ e. Accepts d (take e.operation (operations os)) new)
+reported_state U (Refused e) fault P d m new os k h same r = subst (λ x. Accepts d (take e.operation (operations os)) x) (sym same) (subst (λ n. IsState d os n m) (sym r.1) h)
+reported_state U (Memory error) fault P d m new os k h same r = tt
+
+pub short_state : (U : Type 0) (out : PatchFault) (d m new : Data) (os : List PatchOperation) (k : ℕ) → k < length os → IsState d os k m → new ≡ m
+    → OnMemory {T = U} (Err out) ((j : ℕ) × (j ≤ length os) × Accepts d (take j (operations os)) new)
+short_state U (Refused e) d m new os k less h same = tt
+short_state U (Memory error) d m new os k less h same = (k, omega arith, subst (λ x. IsState d os k x) (sym same) h)
+
+-- ---- what a recorded run has recorded
+
+-- the inverse of the operations before k, last first
+abbrev pub IsRecorded : Data → List PatchOperation → ℕ → List PatchOperation → Type 0
+IsRecorded d os k undo = reverse (operations undo) ≡ inverse d (take k (operations os))
+
+pub recorded_none : (d : Data) (os undo : List PatchOperation) → undo ≡ [] → IsRecorded d os 0 undo
+recorded_none d os undo is = ap (λ u. reverse (operations u)) is
+
+-- a list up to the item at k, and that item
+take_at : (os : List PatchOperation) (k : ℕ) (o : PatchOperation) → k < length os → IsAt os k o → take (suc k) (operations os) ≡ take k (operations os) ++ operation_of o ∷ []
+take_at [] k o less is = absurd (omega arith)
+take_at (x ∷ os) zero o less is = ap (λ y. operation_of y ∷ []) (sym is)
+take_at (x ∷ os) (suc k) o less is = ap (λ ops. operation_of x ∷ ops) (take_at os k o (omega arith) is)
+
+take_whole : (os : List PatchOperation) (k : ℕ) → AreWhole (operations os) → AreWhole (take k (operations os))
+take_whole os zero h = tt
+take_whole [] (suc k) h = tt
+take_whole (x ∷ os) (suc k) h = (h.0, take_whole os k h.1)
+
+block_after : (m : Data) (op : Operation) (e : Data) → stepped m op ≡ Ok e → inverse m (op ∷ []) ≡ block m op
+block_after m op e is = rw is refl
+
+pub recorded_more : (d m e : Data) (os : List PatchOperation) (k : ℕ) (o : PatchOperation) (undo more : List PatchOperation) → IsDocument d → AreWhole (operations os) → k < length os → IsAt os k o → IsState d os k m
+    → stepped m (operation_of o) ≡ Ok e → operations more ≡ operations undo ++ reverse (block m (operation_of o)) → IsRecorded d os k undo → IsRecorded d os (k + 1) more
+recorded_more d m e os k o undo more hd hv less is h s wrote so_far =
+    ap reverse wrote ∙ reverse-append (operations undo) (reverse (block m (operation_of o)))
+    ∙ ap₂ (λ x y. x ++ y) (reverse-reverse (block m (operation_of o)) ∙ sym (block_after m (operation_of o) e s)) so_far
+    ∙ sym (inverse_joined d (take k (operations os)) (operation_of o ∷ []) m hd (take_whole os k hv) h)
+    ∙ sym (ap (inverse d) (ap (λ n. take n (operations os)) (add-one k) ∙ take_at os k o less is))
+
+take_past : (os : List PatchOperation) (k : ℕ) → length os ≤ k → take k (operations os) ≡ operations os
+take_past [] zero le = refl
+take_past [] (suc k) le = refl
+take_past (x ∷ os) zero le = absurd (omega arith)
+take_past (x ∷ os) (suc k) le = ap (λ ops. operation_of x ∷ ops) (take_past os k (omega arith))
+
+operations-reverse : (os : List PatchOperation) → operations (reverse os) ≡ reverse (operations os)
+operations-reverse [] = refl
+operations-reverse (x ∷ os) =
+    ap operations (reverse-append (x ∷ []) os) ∙ map-append operation_of (reverse os) (x ∷ []) ∙ ap (λ ops. ops ++ operation_of x ∷ []) (operations-reverse os)
+    ∙ sym (reverse-append (operation_of x ∷ []) (operations os))
+
+pub record Records (d e : Data) (ops undo : List Operation) : Type 0 where
+  pub inverse : IsInverse d ops undo
+  pub leads_back : IsAccepted e undo d
+  pub short : length undo ≤ 2 * length ops
+  pub whole : AreWhole undo
+
+pub recorded_all : (d e : Data) (os undo left : List PatchOperation) (k : ℕ) → IsDocument d → AreWhole (operations os) → length os ≤ k → IsState d os k e → IsRecorded d os k undo → left ≡ reverse undo
+    → Records d e (operations os) (operations left)
+recorded_all d e os undo left k hd hv le h so_far is =
+    let same : operations left ≡ inverse d (operations os) = ap operations is ∙ operations-reverse undo ∙ so_far ∙ ap (inverse d) (take_past os k le) in
+    let end : Accepts d (operations os) e = state_all d e os k le h in
+    let he : IsDocument e = state_document d e os k hd hv h in
+    let iw : AreWhole (inverse d (operations os)) = inverse_whole d (operations os) e hd hv end in
+    subst (Records d e (operations os)) (sym same) (record {
+      inverse = inverse_is d (operations os) e hd hv end;
+      leads_back = accepted e (inverse d (operations os)) he iw d (accepts_ran e (inverse d (operations os)) d he iw (inverse_back d (operations os) e hd hv end));
+      short = inverse_length (operations os) d;
+      whole = iw;
+    })
+
+-- ---- a run that takes no memory
+
+in_place_at : (os : List PatchOperation) (k : ℕ) (o : PatchOperation) → k < length os → IsAt os k o → AreInPlace (operations os) → IsInPlace (operation_of o)
+in_place_at [] k o less is h = absurd (omega arith)
+in_place_at (x ∷ os) zero o less is h = subst (λ y. IsInPlace (operation_of y)) (sym is) h.0
+in_place_at (x ∷ os) (suc k) o less is h = in_place_at os k o (omega arith) is h.1
+
+pub not_stopped : (fault : StepFault) (d m new e : Data) (os : List PatchOperation) (k : ℕ) (o : PatchOperation) → IsDocument d → AreWhole (operations os) → k < length os → IsAt os k o → IsState d os k m
+    → Steps {T = Unit {0}} (Err fault) (stepped m (operation_of o)) new → (IsInPlace (operation_of o) → NeverShort {T = Unit {0}} (Err fault)) → AreInPlace (operations os) → Accepts d (operations os) e → ⊥
+not_stopped (step_refused kind) d m new e os k o hd hv less is h s light all end =
+    (accepted d (operations os) hd hv e (accepts_ran d (operations os) e hd hv end)).nowhere k kind (state_refused d m kind os k o hd hv less is h s)
+not_stopped (step_short error) d m new e os k o hd hv less is h s light all end = light (in_place_at os k o less is all)

@@ -1,0 +1,119 @@
+-- The blocks and the inverse that are computed are those that the definitions name, and no others are.
+use Rattle.std.proofs.Common.{◌≡◌, inl, inr, ⊎_elim, ℕ, List, [], ◌∷◌, ◌++◌, bytes_eq, Option, Some, None, refl, sym, ap, ◌∙◌, subst}
+use Rattle.serde_json.specs.Data.{Data, array, object, Items}
+use Rattle.jsonptr.specs.Text.{Pointer}
+use Rattle.jsonptr.specs.Places.{place_of, next_token}
+use Rattle.json_patch.specs.Document.{IsDocument, Step, key, place}
+use Rattle.json_patch.specs.Resolve.{Aims, HasTarget}
+use Rattle.json_patch.specs.Operation.{Operation, add, remove, replace, move, copy, test, IsWholeOp, AreWhole}
+use Rattle.json_patch.specs.Step.{Leaves}
+use Rattle.json_patch.specs.Run.{Accepts}
+use Rattle.json_patch.specs.Inverse.{TakesBack, UndoesAdd, IsBlock, IsInverse}
+use Rattle.json_patch.specs.ChangeComputed.{found, added, front_of, last_of, put_in}
+use Rattle.json_patch.specs.InverseComputed.{settled_token, undo_at, undo_in, undo_add, block, inverse}
+use Rattle.json_patch.proofs.Found.{found_resolves, resolves_found}
+use Rattle.json_patch.proofs.Resolved.{split_whole, split_is}
+use Rattle.json_patch.proofs.Altered.{IsAltered, altered_is}
+use Rattle.json_patch.proofs.Slots.{PutsIn, put_in_puts}
+use Rattle.json_patch.proofs.Exact.{added_exact, removed_exact}
+use Rattle.json_patch.proofs.Stepped.{stands_found, stands_document, removed_document, found_never, never_found, leaves_document}
+use Rattle.json_patch.proofs.Undone.{settled_place}
+use Rattle.jsonptr.proofs.PlaceTokens.{place_token}
+use Rattle.json_patch.proofs.Inverted.{inverse_step}
+
+-- ---- a last token as a number
+
+settled : (t : List ℕ) (ds : Items) (i : ℕ) → Aims (array ds) t (place i) → place_of (settled_token (Some (array ds)) t) ≡ Some i
+settled t ds i h = settled_place (bytes_eq t next_token) t ds i refl h
+
+pub settled_only : (t : List ℕ) (ds : Items) (i : ℕ) (u : List ℕ) → Aims (array ds) t (place i) → place_of u ≡ Some i → u ≡ settled_token (Some (array ds)) t
+settled_only t ds i u h is = place_token u i is ∙ sym (place_token (settled_token (Some (array ds)) t) i (settled t ds i h))
+
+-- ---- what undoes an add
+
+module _ (d : Data) (front : Pointer) (last : List ℕ) (P : Pointer) where
+  member_back : (k : List ℕ) (o : Option Data) → found d P ≡ o → TakesBack d P front (key k) (undo_at P o)
+  member_back k None is = inl (found_never d P is, refl)
+  member_back k (Some w) is = inr (w, found_resolves d P w is, refl)
+
+  takes_back : (p : Data) (s : Step) → Aims p last s → TakesBack d P front s (undo_in d front last P (Some p))
+  takes_back (array ds) (place i) aims = (settled_token (Some (array ds)) last, settled last ds i aims, refl)
+  takes_back (object ms) (key k) aims = member_back k (found d P) refl
+  takes_back p s aims = absurd aims
+
+  back_only : (p : Data) (s : Step) (u : Operation) → Aims p last s → TakesBack d P front s u → u ≡ undo_in d front last P (Some p)
+  back_only (array ds) (place i) u aims h =
+      h.2 ∙ ap (λ x. remove (front ++ x ∷ [])) (settled_only last ds i h.0 aims h.1)
+  back_only (object ms) (key k) u aims h =
+      ⊎_elim (λ n. n.1 ∙ ap (undo_at P) (sym (never_found d P n.0))) (λ w. w.2 ∙ ap (undo_at P) (sym (stands_found d P w.0 w.1))) h
+  back_only p s u aims h = absurd aims
+
+undoes_beyond : (d : Data) (t : List ℕ) (P : Pointer) (v e : Data) → added d (t ∷ P) v ≡ Some e → UndoesAdd d (t ∷ P) (undo_add d (t ∷ P))
+undoes_beyond d t P v e is =
+    let a : IsAltered (put_in v (last_of t P)) d (front_of t P) e = altered_is (put_in v (last_of t P)) d (front_of t P) e is in
+    let i : PutsIn v (last_of t P) a.p a.q = put_in_puts v (last_of t P) a.p a.q a.result in
+    let at : found d (front_of t P) ≡ Some a.p = resolves_found d (front_of t P) a.L a.p a.resolves in (
+      a.L,
+      i.s,
+      record { front = front_of t P; last = last_of t P; whole = split_whole t P; parent = a.p; resolves = a.resolves; aims = i.aims },
+      subst (λ o. TakesBack d (t ∷ P) (front_of t P) i.s (undo_in d (front_of t P) (last_of t P) (t ∷ P) o)) (sym at)
+          (takes_back d (front_of t P) (last_of t P) (t ∷ P) a.p i.s i.aims),
+    )
+
+undoes_is : (d : Data) (P : Pointer) (v e : Data) → added d P v ≡ Some e → UndoesAdd d P (undo_add d P)
+undoes_is d [] v e is = refl
+undoes_is d (t ∷ P) v e is = undoes_beyond d t P v e is
+
+undoes_only : (d : Data) (P : Pointer) (u : Operation) → UndoesAdd d P u → u ≡ undo_add d P
+undoes_only d [] u h = h
+undoes_only d (t ∷ P) u h =
+    let g : HasTarget d (t ∷ P) h.0 h.1 = h.2 in
+    let w : (g.front ≡ front_of t P) × (g.last ≡ last_of t P) = split_is t P g.front g.last g.whole in
+    let at : found d (front_of t P) ≡ Some g.parent = ap (found d) (sym w.0) ∙ resolves_found d g.front h.0 g.parent g.resolves in
+    back_only d g.front g.last (t ∷ P) g.parent h.1 u g.aims h.3
+    ∙ ap (λ x. undo_in d x g.last (t ∷ P) (Some g.parent)) w.0 ∙ ap (λ x. undo_in d (front_of t P) x (t ∷ P) (Some g.parent)) w.1
+    ∙ ap (undo_in d (front_of t P) (last_of t P) (t ∷ P)) (sym at)
+
+-- ---- blocks
+
+pub block_is : (d : Data) (op : Operation) (e : Data) → IsDocument d → IsWholeOp op → Leaves d op e → IsBlock d op (block d op)
+block_is d (add P v) e hd hv h = (undo_add d P, undoes_is d P v e (added_exact d P v e hd hv h), refl)
+block_is d (remove P) e hd hv h =
+    let was : found d P ≡ Some h.2 = resolves_found d P _ h.2 h.3 in rw was (h.2, found_resolves d P h.2 was, refl)
+block_is d (replace P v) e hd hv h =
+    let was : found d P ≡ Some h.1 = resolves_found d P h.0 h.1 h.2 in rw was (h.1, (h.0, h.2), refl)
+block_is d (move F P) e hd hv h =
+    let v = h.1.0 in let m = h.1.1 in
+    let hw : IsDocument v = stands_document d F v hd h.1.2 in
+    let hm : IsDocument m = removed_document d F m h.1.3 in
+    rw (stands_found d F v h.1.2, removed_exact d F m hd h.1.3)
+    (v, m, undo_add m P, h.1.2, h.1.3, undoes_is m P v e (added_exact m P v e hm hw h.1.4), refl)
+block_is d (copy F P) e hd hv h =
+    (undo_add d P, undoes_is d P h.0 e (added_exact d P h.0 e hd (stands_document d F h.0 hd h.1) h.2), refl)
+block_is d (test P v) e hd hv h = refl
+
+pub block_only : (d : Data) (op : Operation) (B : List Operation) → IsDocument d → IsBlock d op B → B ≡ block d op
+block_only d (add P v) B hd h = h.2 ∙ ap (λ u. u ∷ []) (undoes_only d P h.0 h.1)
+block_only d (remove P) B hd h = rw (stands_found d P h.0 h.1) h.2
+block_only d (replace P v) B hd h = rw (stands_found d P h.0 h.1) h.2
+block_only d (move F P) B hd h =
+    rw (stands_found d F h.0 h.3, removed_exact d F h.1 hd h.4) (h.6 ∙ ap (λ u. u ∷ add F h.0 ∷ []) (undoes_only h.1 P h.2 h.5))
+block_only d (copy F P) B hd h = h.2 ∙ ap (λ u. u ∷ []) (undoes_only d P h.0 h.1)
+block_only d (test P v) B hd h = h
+
+-- ---- lists
+
+pub inverse_is : (d : Data) (ops : List Operation) (e : Data) → IsDocument d → AreWhole ops → Accepts d ops e → IsInverse d ops (inverse d ops)
+inverse_is d [] e hd hv h = refl
+inverse_is d (op ∷ ops) e hd hv h =
+    (h.0, inverse h.0 ops, block d op, h.1, inverse_is h.0 ops e (leaves_document d op h.0 hd hv.0 h.1) hv.1 h.2, block_is d op h.0 hd hv.0 h.1, inverse_step d op ops h.0 hd hv.0 h.1)
+
+pub inverse_only : (d : Data) (ops : List Operation) (I : List Operation) → IsDocument d → AreWhole ops → IsInverse d ops I → I ≡ inverse d ops
+inverse_only d [] I hd hv h = h
+inverse_only d (op ∷ ops) I hd hv h =
+    h.6 ∙ ap (λ J. J ++ h.2) (inverse_only h.0 ops h.1 (leaves_document d op h.0 hd hv.0 h.3) hv.1 h.4)
+    ∙ ap (λ B. inverse h.0 ops ++ B) (block_only d op h.2 hd h.5) ∙ sym (inverse_step d op ops h.0 hd hv.0 h.3)
+
+pub inverse_accepted : (d : Data) (ops : List Operation) (I : List Operation) → IsInverse d ops I → (e : Data) × Accepts d ops e
+inverse_accepted d [] I h = (d, refl)
+inverse_accepted d (op ∷ ops) I h = let i : (e : Data) × Accepts h.0 ops e = inverse_accepted h.0 ops h.1 h.4 in (i.0, (h.0, h.3, i.1))

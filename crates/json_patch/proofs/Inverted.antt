@@ -1,0 +1,143 @@
+-- The inverse of an accepted list leads back, through every state.
+use Rattle.std.proofs.Common.{◌≡◌, ◌≤◌, ◌*◌, ℕ, List, [], ◌∷◌, ◌++◌, length, length-append, append_assoc, append-nil, Option, Some, None, Result, Ok, Err, refl, sym, ap, ◌∙◌, subst, arith}
+use Rattle.serde_json.specs.Data.{Data, array}
+use Rattle.jsonptr.specs.Text.{Pointer}
+use Rattle.json_patch.specs.Document.{IsDocument}
+use Rattle.json_patch.specs.Operation.{Operation, add, remove, replace, move, copy, test, IsWholeOp, AreWhole}
+use Rattle.json_patch.specs.declared.error.PatchErrorKind.{PatchErrorKind}
+use Rattle.json_patch.specs.declared.error.PatchErrorKind.TheVariants.{InvalidPointer}
+use Rattle.json_patch.specs.Step.{Leaves}
+use Rattle.json_patch.specs.Run.{Accepts}
+use Rattle.json_patch.specs.ChangeComputed.{found, removed, front_of, last_of}
+use Rattle.json_patch.specs.RunComputed.{or_refused, stepped, ran}
+use Rattle.json_patch.specs.InverseComputed.{undo_at, undo_in, undo_add, with_found, with_left, block, inverse}
+use Rattle.json_patch.proofs.Found.{resolves_found}
+use Rattle.json_patch.proofs.Exact.{added_exact, removed_exact, replaced_exact}
+use Rattle.json_patch.proofs.Stepped.{stands_found, stands_document, removed_document, leaves_stepped, leaves_document}
+use Rattle.json_patch.proofs.Runs.{ran_accepts, accepts_document, accepts_joined}
+use Rattle.json_patch.proofs.Undone.{found_document, undo_added, undo_removed, undo_replaced}
+
+ran_one : (u : Operation) (e d : Data) → stepped e u ≡ Ok d → ran e (u ∷ []) ≡ Ok d
+ran_one u e d is = rw is refl
+
+ran_two : (u w : Operation) (e m d : Data) → stepped e u ≡ Ok m → stepped m w ≡ Ok d → ran e (u ∷ w ∷ []) ≡ Ok d
+ran_two u w e m d is next = rw (is, next) refl
+
+-- on the document that the operation left, its block leads to the one before
+block_ran : (d : Data) (op : Operation) (e : Data) → IsDocument d → IsWholeOp op → Leaves d op e → ran e (block d op) ≡ Ok d
+block_ran d (add P v) e hd hv h = ran_one (undo_add d P) e d (undo_added d P v e hd hv (added_exact d P v e hd hv h))
+block_ran d (remove P) e hd hv h =
+    let was : found d P ≡ Some h.2 = resolves_found d P _ h.2 h.3 in
+    rw was (ran_one (add P h.2) e d (ap (or_refused InvalidPointer) (undo_removed d P h.2 e hd (removed_exact d P e hd h) was).1))
+block_ran d (replace P v) e hd hv h =
+    let was : found d P ≡ Some h.1 = resolves_found d P h.0 h.1 h.2 in
+    rw was (ran_one (replace P h.1) e d (ap (or_refused InvalidPointer) (undo_replaced d P v h.1 e hd hv (replaced_exact d P v e hd hv h) was)))
+block_ran d (move F P) e hd hv h =
+    let v = h.1.0 in let m = h.1.1 in
+    let hw : IsDocument v = stands_document d F v hd h.1.2 in
+    let hm : IsDocument m = removed_document d F m h.1.3 in
+    let was : found d F ≡ Some v = stands_found d F v h.1.2 in
+    let left : removed d F ≡ Some m = removed_exact d F m hd h.1.3 in
+    rw (was, left)
+    (ran_two (undo_add m P) (add F v) e m d (undo_added m P v e hm hw (added_exact m P v e hm hw h.1.4)) (ap (or_refused InvalidPointer) (undo_removed d F v m hd left was).1))
+block_ran d (copy F P) e hd hv h =
+    let hw : IsDocument h.0 = stands_document d F h.0 hd h.1 in
+    ran_one (undo_add d P) e d (undo_added d P h.0 e hd hw (added_exact d P h.0 e hd hw h.2))
+block_ran d (test P v) e hd hv h = ap Ok h.1
+
+-- ---- the block's values are documents
+
+undo_at_whole : (d : Data) (P : Pointer) (o : Option Data) → IsDocument d → found d P ≡ o → IsWholeOp (undo_at P o)
+undo_at_whole d P None hd is = tt
+undo_at_whole d P (Some w) hd is = found_document d P w hd is
+
+undo_in_whole : (d : Data) (front : Pointer) (last : List ℕ) (P : Pointer) (o : Option Data) → IsDocument d → IsWholeOp (undo_in d front last P o)
+undo_in_whole d front last P (Some (array ds)) hd = tt
+undo_in_whole d front last P o hd = undo_at_whole d P (found d P) hd refl
+
+undo_add_whole : (d : Data) (P : Pointer) → IsDocument d → IsWholeOp (undo_add d P)
+undo_add_whole d [] hd = hd
+undo_add_whole d (t ∷ P) hd = undo_in_whole d (front_of t P) (last_of t P) (t ∷ P) (found d (front_of t P)) hd
+
+pub block_whole : (d : Data) (op : Operation) (e : Data) → IsDocument d → IsWholeOp op → Leaves d op e → AreWhole (block d op)
+block_whole d (add P v) e hd hv h = (undo_add_whole d P hd, tt)
+block_whole d (remove P) e hd hv h =
+    let was : found d P ≡ Some h.2 = resolves_found d P _ h.2 h.3 in rw was (found_document d P h.2 hd was, tt)
+block_whole d (replace P v) e hd hv h =
+    let was : found d P ≡ Some h.1 = resolves_found d P h.0 h.1 h.2 in rw was (found_document d P h.1 hd was, tt)
+block_whole d (move F P) e hd hv h =
+    rw (stands_found d F h.1.0 h.1.2, removed_exact d F h.1.1 hd h.1.3)
+    (undo_add_whole h.1.1 P (removed_document d F h.1.1 h.1.3), (stands_document d F h.1.0 hd h.1.2, tt))
+block_whole d (copy F P) e hd hv h = (undo_add_whole d P hd, tt)
+block_whole d (test P v) e hd hv h = tt
+
+pub block_back : (d : Data) (op : Operation) (e : Data) → IsDocument d → IsWholeOp op → Leaves d op e → Accepts e (block d op) d
+block_back d op e hd hv h = ran_accepts e (block d op) d (leaves_document d op e hd hv h) (block_whole d op e hd hv h) (block_ran d op e hd hv h)
+
+-- ---- lists
+
+pub whole_joined : (xs ys : List Operation) → AreWhole xs → AreWhole ys → AreWhole (xs ++ ys)
+whole_joined [] ys h g = g
+whole_joined (op ∷ xs) ys h g = (h.0, whole_joined xs ys h.1 g)
+
+pub inverse_step : (d : Data) (op : Operation) (ops : List Operation) (m : Data) → IsDocument d → IsWholeOp op → Leaves d op m → inverse d (op ∷ ops) ≡ inverse m ops ++ block d op
+inverse_step d op ops m hd hv h = ap (λ r. with_left r (λ m. inverse m ops) ++ block d op) (leaves_stepped d op m hd hv h)
+
+pub inverse_whole : (d : Data) (ops : List Operation) (e : Data) → IsDocument d → AreWhole ops → Accepts d ops e → AreWhole (inverse d ops)
+inverse_whole d [] e hd hv h = tt
+inverse_whole d (op ∷ ops) e hd hv h =
+    subst AreWhole (sym (inverse_step d op ops h.0 hd hv.0 h.1))
+    (whole_joined (inverse h.0 ops) (block d op) (inverse_whole h.0 ops e (leaves_document d op h.0 hd hv.0 h.1) hv.1 h.2) (block_whole d op h.0 hd hv.0 h.1))
+
+-- the inverse is accepted on the end, and leads to the first document
+pub inverse_back : (d : Data) (ops : List Operation) (e : Data) → IsDocument d → AreWhole ops → Accepts d ops e → Accepts e (inverse d ops) d
+inverse_back d [] e hd hv h = sym h
+inverse_back d (op ∷ ops) e hd hv h =
+    subst (λ I. Accepts e I d) (sym (inverse_step d op ops h.0 hd hv.0 h.1))
+    (accepts_joined e (inverse h.0 ops) (block d op) h.0 d (inverse_back h.0 ops e (leaves_document d op h.0 hd hv.0 h.1) hv.1 h.2) (block_back d op h.0 hd hv.0 h.1))
+
+-- the inverse of a joined list: what leads back over the second part stands first
+pub inverse_joined : (d : Data) (xs ys : List Operation) (m : Data) → IsDocument d → AreWhole xs → Accepts d xs m → inverse d (xs ++ ys) ≡ inverse m ys ++ inverse d xs
+inverse_joined d [] ys m hd hv h = ap (λ x. inverse x ys) h ∙ sym (append-nil (inverse m ys))
+inverse_joined d (op ∷ xs) ys m hd hv h =
+    inverse_step d op (xs ++ ys) h.0 hd hv.0 h.1 ∙ ap (λ I. I ++ block d op) (inverse_joined h.0 xs ys m (leaves_document d op h.0 hd hv.0 h.1) hv.1 h.2)
+    ∙ append_assoc (inverse m ys) (inverse h.0 xs) (block d op) ∙ ap (λ I. inverse m ys ++ I) (sym (inverse_step d op xs h.0 hd hv.0 h.1))
+
+-- the inverse of the inverse is accepted on the first document, and leads to the end
+pub inverse_twice : (d : Data) (ops : List Operation) (e : Data) → IsDocument d → AreWhole ops → Accepts d ops e → Accepts d (inverse e (inverse d ops)) e
+inverse_twice d ops e hd hv h = inverse_back e (inverse d ops) d (accepts_document d ops e hd hv h) (inverse_whole d ops e hd hv h) (inverse_back d ops e hd hv h)
+
+-- ---- its length
+
+found_length : {X : Type 0} (o : Option X) (f : X → List Operation) → ((w : X) → length (f w) ≤ 2) → length (with_found o f) ≤ 2
+found_length None f h = omega arith
+found_length (Some w) f h = h w
+
+pub block_length : (op : Operation) (d : Data) → length (block d op) ≤ 2
+block_length (add P v) d = omega arith
+block_length (remove P) d = found_length (found d P) (λ w. add P w ∷ []) (λ w. omega arith)
+block_length (replace P v) d = found_length (found d P) (λ w. replace P w ∷ []) (λ w. omega arith)
+block_length (move F P) d =
+    found_length (found d F) (λ v. with_found (removed d F) (λ m. undo_add m P ∷ add F v ∷ [])) (λ v. found_length (removed d F) (λ m. undo_add m P ∷ add F v ∷ []) (λ m. omega arith))
+block_length (copy F P) d = omega arith
+block_length (test P v) d = omega arith
+
+left_length : (o : Result Data PatchErrorKind) (f : Data → List Operation) (n : ℕ) → ((m : Data) → length (f m) ≤ n) → length (with_left o f) ≤ n
+left_length (Ok m) f n h = h m
+left_length (Err kind) f n h = omega arith
+
+pub inverse_length : (ops : List Operation) (d : Data) → length (inverse d ops) ≤ 2 * length ops
+inverse_length [] d = omega arith
+inverse_length (op ∷ ops) d =
+    let a : length (with_left (stepped d op) (λ m. inverse m ops)) ≤ 2 * length ops = left_length (stepped d op) (λ m. inverse m ops) (2 * length ops) (λ m. inverse_length ops m) in
+    omega (arith, length-append (with_left (stepped d op) (λ m. inverse m ops)) (block d op), block_length op d)
+
+-- ---- one operation more
+
+inverse_one : (m : Data) (op : Operation) (e : Data) → IsDocument m → IsWholeOp op → Leaves m op e → inverse m (op ∷ []) ≡ block m op
+inverse_one m op e hm hv h = inverse_step m op [] e hm hv h
+
+pub inverse_push : (d : Data) (xs : List Operation) (m : Data) (op : Operation) (e : Data) → IsDocument d → AreWhole xs → IsWholeOp op → Accepts d xs m → Leaves m op e
+    → inverse d (xs ++ op ∷ []) ≡ block m op ++ inverse d xs
+inverse_push d xs m op e hd hv ho h l =
+    inverse_joined d xs (op ∷ []) m hd hv h ∙ ap (λ I. I ++ inverse d xs) (inverse_one m op e (accepts_document d xs m hd hv h) ho l)

@@ -1,0 +1,147 @@
+-- An operation as a change of its container, which the walk finds at all tokens but the last.
+use Rattle.std.proofs.Common.{◌≡◌, ◌<◌, ◌^◌, decimal, String, Global, string_bytes, ℕ, List, [], ◌∷◌, ◌++◌, not, true, false, Bool, IsTrue, Option, Some, None, option_map, option_and_then, Result, Ok, Err, IfOk, refl, sym, ap, ◌∙◌, subst}
+use Rattle.std.specs.Prelude.{◌↔◌}
+use Rattle.std.specs.declared.alloc.AllocError.{AllocError}
+use Rattle.std.specs.Result.{IsErr, IsErrAnd}
+use Rattle.std.proofs.lemmas.List.{append_cancel_left}
+use Rattle.serde_json.specs.Data.{Data, array, object, Items}
+use Rattle.serde_json.specs.View.{view}
+use Rattle.serde_json.specs.declared.value.Value.{Value}
+use Rattle.jsonptr.specs.Text.{Pointer, IsProperPrefix, ReplacesLast}
+use Rattle.jsonptr.specs.Places.{token_of}
+use Rattle.jsonptr.proofs.PlaceTokens.{token_decimal, token_place}
+use Rattle.json_patch.specs.Attempt.{Attempts, Excuses, Steps, TakesOut}
+use Rattle.json_patch.specs.Document.{child}
+use Rattle.json_patch.specs.Operation.{move, remove}
+use Rattle.json_patch.specs.ChangeComputed.{step_of, set_child, slot_of, put_in, take_from, found, altered, front_of, last_of, added, removed, replaced}
+use Rattle.json_patch.specs.Edits.{Displaces, DisplacesAt, undo_from}
+use Rattle.json_patch.specs.InPlace.{AreUnescaped, IsUnescaped, NeverShort}
+use Rattle.json_patch.specs.InverseComputed.{settled_token, undo_at, undo_in, undo_add}
+use Rattle.json_patch.specs.RunComputed.{moved, stepped}
+use Rattle.json_patch.specs.declared.error.PatchErrorKind.TheVariants.{InvalidFromPointer, CannotMoveInsideItself}
+use Rattle.json_patch.specs.declared.walk.Displaced.{Displaced}
+use Rattle.json_patch.specs.declared.walk.Displaced.TheVariants.{Nothing, LaterItems, Former}
+use Rattle.json_patch.specs.declared.walk.Edit.TheVariants.{Insert}
+use Rattle.json_patch.specs.declared.walk.StepFault.{StepFault}
+use Rattle.json_patch.specs.declared.walk.StepFault.TheVariants.{Refused, Memory}
+use Rattle.json_patch.proofs.Blocks.{settled_only}
+use Rattle.json_patch.proofs.Resolved.{split_is, split_whole}
+use Rattle.json_patch.proofs.Slots.{slot_aims}
+use Rattle.json_patch.proofs.Stepped.{prefix_begins, not_begins}
+use Rattle.json_patch.proofs.Undone.{found_append}
+
+-- ---- what is computed of the container
+
+no_last : (F : Pointer) (t : List ℕ) → [] ≡ F ++ t ∷ [] → ⊥
+no_last [] t is = cc
+no_last (s ∷ F) t is = cc
+
+pub added_in : (d : Data) (P F : Pointer) (t : List ℕ) (v : Data) → P ≡ F ++ t ∷ [] → added d P v ≡ altered (put_in v t) d F
+added_in d [] F t v is = absurd (no_last F t is)
+added_in d (s ∷ P) F t v is = let e = split_is s P F t is in rw (e.0, e.1) refl
+
+pub removed_in : (d : Data) (P F : Pointer) (t : List ℕ) → P ≡ F ++ t ∷ [] → removed d P ≡ altered (take_from t) d F
+removed_in d [] F t is = absurd (no_last F t is)
+removed_in d (s ∷ P) F t is = let e = split_is s P F t is in rw (e.0, e.1) refl
+
+altered-append : (g : Data → Option Data) (d : Data) (F Q : Pointer) → altered (λ c. altered g c Q) d F ≡ altered g d (F ++ Q)
+altered-append g d [] Q = refl
+altered-append g d (s ∷ F) Q = λ i. option_and_then (λ r. option_and_then (λ c. option_map (λ e. set_child r e d) (altered-append g c F Q i)) (child r d)) (step_of d s)
+
+pub replaced_in : (d : Data) (P F : Pointer) (t : List ℕ) (v : Data) → P ≡ F ++ t ∷ [] → replaced d P v ≡ altered (λ c. altered (λ x. Some v) c (t ∷ [])) d F
+replaced_in d P F t v is = ap (altered (λ x. Some v) d) is ∙ sym (altered-append (λ x. Some v) d F (t ∷ []))
+
+-- ---- what stands there
+
+pub found_in : (d : Data) (P F : Pointer) (t : List ℕ) (c e : Data) → P ≡ F ++ t ∷ [] → found d F ≡ Some c → found c (t ∷ []) ≡ Some e → found d P ≡ Some e
+found_in d P F t c e is at here = ap (found d) is ∙ found_append d F (t ∷ []) ∙ ap (option_and_then (λ p. found p (t ∷ []))) at ∙ here
+
+found_none : (d : Data) (P F : Pointer) (t : List ℕ) (c : Data) → P ≡ F ++ t ∷ [] → found d F ≡ Some c → found c (t ∷ []) ≡ None → found d P ≡ None
+found_none d P F t c is at here = ap (found d) is ∙ found_append d F (t ∷ []) ∙ ap (option_and_then (λ p. found p (t ∷ []))) at ∙ here
+
+-- ---- what undoes an add
+
+undo_add_in : (d : Data) (P F : Pointer) (t : List ℕ) → P ≡ F ++ t ∷ [] → undo_add d P ≡ undo_in d F t P (found d F)
+undo_add_in d [] F t is = absurd (no_last F t is)
+undo_add_in d (s ∷ P) F t is = let e = split_is s P F t is in rw (e.0, e.1) refl
+
+undo_later : (P F : Pointer) (t : List ℕ) (i : ℕ) → P ≡ F ++ t ∷ [] → undo_from P (LaterItems i) ≡ remove (F ++ token_of i ∷ [])
+undo_later [] F t i is = absurd (no_last F t is)
+undo_later (s ∷ P) F t i is = let e = split_is s P F t is in rw e.0 refl
+
+settles : (t : List ℕ) (ds : Items) (i : ℕ) → slot_of t ds ≡ Some i → token_of i ≡ settled_token (Some (array ds)) t
+settles t ds i is = settled_only t ds i (token_of i) (slot_aims t ds i is) (token_place i)
+
+undo_found : (was : Displaced) (v : Value) (d c : Data) (P F : Pointer) (t : List ℕ) → P ≡ F ++ t ∷ [] → found d F ≡ Some c → Displaces (Insert v) t c was → undo_from P was ≡ undo_in d F t P (Some c)
+undo_found (LaterItems i) v d (array ds) P F t is at h = undo_later P F t i is ∙ ap (λ x. remove (F ++ x ∷ [])) (settles t ds i h)
+undo_found Nothing v d (object ms) P F t is at h = sym (ap (undo_at P) (found_none d P F t (object ms) is at h))
+undo_found (Former w) v d (object ms) P F t is at h = sym (ap (undo_at P) (found_in d P F t (object ms) (view w) is at h))
+undo_found was v d c P F t is at h = absurd h
+
+pub undo_as_found : (r : Result Displaced StepFault) (v : Value) (d : Data) (P F : Pointer) (t : List ℕ) → P ≡ F ++ t ∷ [] → IfOk r (DisplacesAt (Insert v) d F t) → IfOk r (λ was. undo_from P was ≡ undo_add d P)
+undo_as_found (Err e) v d P F t is h = h
+undo_as_found (Ok was) v d P F t is h = undo_found was v d h.0 P F t is h.1 h.2 ∙ sym (undo_add_in d P F t is ∙ ap (undo_in d F t P) h.1)
+
+-- ---- attempts
+
+-- an error that `?` passed on
+pub passed_on : {T : Type 0} (r : Result T StepFault) (fault : StepFault) (wanted wanted' : Option Data) (old new : Data) → IsErr r × IsErrAnd r (λ f. f ≡ fault) → wanted' ≡ wanted → Excuses fault wanted × (new ≡ old) → Attempts r wanted' old new
+passed_on (Ok x) fault wanted wanted' old new h same e = absurd h.1
+passed_on (Err f) fault wanted wanted' old new h same e = rw (h.1, same) e
+
+-- ---- a move
+
+pub inside : (b : Bool) (F P R : Pointer) → P ≡ F ++ R → (IsTrue b ↔ (R ≡ [])) → IsTrue (not b) ↔ IsProperPrefix F P
+inside true F P R is h = (λ no. cc, λ (p : IsProperPrefix F P). (let e : R ≡ p.0 ∷ p.1 = append_cancel_left F R (p.0 ∷ p.1) (sym is ∙ p.2) in let z : R ≡ [] = h.0 refl in cc))
+inside false F P [] is h = (λ yes. (let z : false ≡ true = h.1 refl in cc), λ p. refl)
+inside false F P (t ∷ R) is h = (λ yes. (t, R, is), λ p. refl)
+
+pub move_inside : (d : Data) (F P : Pointer) → IsProperPrefix F P → stepped d (move F P) ≡ Err CannotMoveInsideItself
+move_inside d F P h = rw (prefix_begins F P h)
+
+pub moves : {T : Type 0} (r : Result T StepFault) (d m e v : Data) (F P : Pointer) → (IsProperPrefix F P → ⊥) → removed d F ≡ Some m → found d F ≡ Some v → Attempts r (added m P v) m e → Steps r (stepped d (move F P)) e
+moves (Ok x) d m e v F P out gone stood h = rw (not_begins F P out, gone, stood, h)
+moves (Err (Refused kind)) d m e v F P out gone stood h = rw (not_begins F P out, gone, stood, h.0.1) (ap Err (sym h.0.0))
+moves (Err (Memory f)) d m e v F P out gone stood h = tt
+
+no_source : (P : Pointer) (o : Option Data) → moved P o None ≡ Err InvalidFromPointer
+no_source P None = refl
+no_source P (Some v) = refl
+
+pub move_nowhere : (d : Data) (F P : Pointer) → (IsProperPrefix F P → ⊥) → removed d F ≡ None → stepped d (move F P) ≡ Err InvalidFromPointer
+move_nowhere d F P out none = rw (not_begins F P out, none) (no_source P (found d F))
+
+pub not_inside : (F P : Pointer) → (IsTrue false ↔ IsProperPrefix F P) → IsProperPrefix F P → ⊥
+not_inside F P h p = let yes : false ≡ true = h.1 p in cc
+
+-- the value is out, and can't be added
+pub move_stops : {T : Type 0} (r : Result T StepFault) (fault : StepFault) (d m e : Data) (v : Value) (F P : Pointer) → IsErr r × IsErrAnd r (λ f. f ≡ fault) → TakesOut d m F P v → Excuses fault (added m P (view v)) → Steps r (stepped d (move F P)) e
+move_stops (Ok x) fault d m e v F P gives out h = absurd gives.1
+move_stops {T} (Err f) fault d m e v F P gives out h =
+    moves {T = T} (Err f) d m m (view v) F P out.0 out.1 out.2 (subst (λ g. Excuses g (added m P (view v))) (sym gives.1) h, refl)
+
+pub move_ends : (d m e : Data) (v : Value) (F P : Pointer) → TakesOut d m F P v → added m P (view v) ≡ Some e → stepped d (move F P) ≡ Ok e
+move_ends d m e v F P out h = moves {T = Unit {0}} (Ok tt) d m e (view v) F P out.0 out.1 out.2 h
+
+-- ---- a place by its number
+
+pub place_text : (r : Result (String Global) AllocError) (i : ℕ) → i < 2 ^ 64 → IfOk r (λ s. string_bytes s ≡ decimal i) → IfOk r (λ s. string_bytes s ≡ token_of i)
+place_text (Ok s) i fits h = h ∙ sym (token_decimal i fits)
+place_text (Err e) i fits h = h
+
+pub numbered : (P Q : Pointer) (n : List ℕ) (i : ℕ) (d : Data) → undo_from P (LaterItems i) ≡ undo_add d P → n ≡ token_of i → ReplacesLast P n Q → remove Q ≡ undo_from P (LaterItems i)
+numbered [] Q n i d undoes is h = cc
+numbered (t ∷ P) Q n i d undoes is h = ap remove (h (front_of t P) (last_of t P) (split_whole t P) ∙ ap (λ x. front_of t P ++ x ∷ []) is)
+
+-- ---- without memory
+
+pub unescaped_parts : (P F : Pointer) (t : List ℕ) → P ≡ F ++ t ∷ [] → AreUnescaped P → AreUnescaped F × IsUnescaped t
+unescaped_parts P F t is h = split F (subst AreUnescaped is h)
+  where
+    split : (G : Pointer) → AreUnescaped (G ++ t ∷ []) → AreUnescaped G × IsUnescaped t
+    split [] g = (tt, g.0)
+    split (s ∷ G) g = let more = split G g.1 in ((g.0, more.0), more.1)
+
+pub never_short : {T : Type 0} (U : Type 0) (r : Result T StepFault) (fault : StepFault) → IsErr r × IsErrAnd r (λ f. f ≡ fault) → NeverShort {T = U} (Err fault) → NeverShort r
+never_short U (Ok x) fault gives h = tt
+never_short U (Err f) fault gives h = subst (λ g. NeverShort {T = U} (Err g)) (sym gives.1) h

@@ -1,0 +1,128 @@
+-- A run ends exactly where it is computed to end; joined lists.
+use Rattle.std.proofs.Common.{◌≡◌, ◌+◌, inl, inr, ℕ, zero, suc, List, [], ◌∷◌, ◌++◌, length, take, Result, Ok, Err, refl, sym, ap, ◌∙◌, subst, arith}
+use Rattle.serde_json.specs.Data.{Data}
+use Rattle.json_patch.specs.Document.{IsDocument}
+use Rattle.json_patch.specs.Operation.{Operation, test, IsWholeOp, AreWhole}
+use Rattle.json_patch.specs.declared.error.PatchErrorKind.{PatchErrorKind}
+use Rattle.json_patch.specs.Step.{Leaves, Refuses}
+use Rattle.json_patch.specs.Run.{Accepts, RefusesAt, IsAccepted, IsRefused, Ends, AreTests}
+use Rattle.json_patch.specs.RunComputed.{Outcome, fault, counted, ran_on, stepped, ran}
+use Rattle.json_patch.proofs.Stepped.{leaves_stepped, refuses_stepped, stepped_leaves, stepped_refuses, leaves_document}
+
+pub accepts_ran : (d : Data) (ops : List Operation) (e : Data) → IsDocument d → AreWhole ops → Accepts d ops e → ran d ops ≡ Ok e
+accepts_ran d [] e hd hv h = ap Ok h
+accepts_ran d (op ∷ ops) e hd hv h =
+    rw (leaves_stepped d op h.0 hd hv.0 h.1, accepts_ran h.0 ops e (leaves_document d op h.0 hd hv.0 h.1) hv.1 h.2) refl
+
+pub refuses_ran : (d : Data) (ops : List Operation) (k : ℕ) (kind : PatchErrorKind) → IsDocument d → AreWhole ops → RefusesAt d ops k kind → ran d ops ≡ Err (fault k kind)
+refuses_ran d [] k kind hd hv h = absurd h
+refuses_ran d (op ∷ ops) zero kind hd hv h = rw (refuses_stepped d op kind hd hv.0 h) refl
+refuses_ran d (op ∷ ops) (suc k) kind hd hv h =
+    rw (leaves_stepped d op h.0 hd hv.0 h.1, refuses_ran h.0 ops k kind (leaves_document d op h.0 hd hv.0 h.1) hv.1 h.2) refl
+
+-- ---- where a run ends, found out
+
+counted_ok : (o : Outcome) (e : Data) → counted o ≡ Ok e → o ≡ Ok e
+counted_ok (Ok f) e h = h
+counted_ok (Err (fault k kind)) e h = cc
+
+counted_err : (o : Outcome) (k : ℕ) (kind : PatchErrorKind) → counted o ≡ Err (fault k kind) → (j : ℕ) × (k ≡ suc j) × (o ≡ Err (fault j kind))
+counted_err (Ok f) k kind h = cc
+counted_err (Err (fault j other)) k kind h = (j, cc, cc)
+
+module _ (d : Data) (op : Operation) (ops : List Operation) (hd : IsDocument d) (hv : IsWholeOp op) where
+  accepts_on : (r : Result Data PatchErrorKind) (e : Data) → stepped d op ≡ r → ((m : Data) → IsDocument m → ran m ops ≡ Ok e → Accepts m ops e)
+      → ran_on r (λ m. ran m ops) ≡ Ok e → Accepts d (op ∷ ops) e
+  accepts_on (Ok m) e is more h =
+      let l : Leaves d op m = stepped_leaves d op m hd hv is in
+      (m, l, more m (leaves_document d op m hd hv l) (counted_ok (ran m ops) e h))
+  accepts_on (Err kind) e is more h = cc
+
+  refuses_on : (r : Result Data PatchErrorKind) (k : ℕ) (kind : PatchErrorKind) → stepped d op ≡ r → ((m : Data) (j : ℕ) → IsDocument m → ran m ops ≡ Err (fault j kind) → RefusesAt m ops j kind)
+      → ran_on r (λ m. ran m ops) ≡ Err (fault k kind) → RefusesAt d (op ∷ ops) k kind
+  refuses_on (Ok m) k kind is more h =
+      let l : Leaves d op m = stepped_leaves d op m hd hv is in
+      let c : (j : ℕ) × (k ≡ suc j) × (ran m ops ≡ Err (fault j kind)) = counted_err (ran m ops) k kind h in
+      subst (λ n. RefusesAt d (op ∷ ops) n kind) (sym c.1) (m, l, more m c.0 (leaves_document d op m hd hv l) c.2)
+  refuses_on (Err other) k kind is more h =
+      let a : zero ≡ k = cc in let b : other ≡ kind = cc in
+      subst (λ n. RefusesAt d (op ∷ ops) n kind) a (subst (Refuses d op) b (stepped_refuses d op other hd hv is))
+
+pub ran_accepts : (d : Data) (ops : List Operation) (e : Data) → IsDocument d → AreWhole ops → ran d ops ≡ Ok e → Accepts d ops e
+ran_accepts d [] e hd hv is = cc
+ran_accepts d (op ∷ ops) e hd hv is = accepts_on d op ops hd hv.0 (stepped d op) e refl (λ m hm at. ran_accepts m ops e hm hv.1 at) is
+
+pub ran_refuses : (d : Data) (ops : List Operation) (k : ℕ) (kind : PatchErrorKind) → IsDocument d → AreWhole ops → ran d ops ≡ Err (fault k kind) → RefusesAt d ops k kind
+ran_refuses d [] k kind hd hv is = cc
+ran_refuses d (op ∷ ops) k kind hd hv is = refuses_on d op ops hd hv.0 (stepped d op) k kind refl (λ m j hm at. ran_refuses m ops j kind hm hv.1 at) is
+
+-- ---- one end alone
+
+module _ (d : Data) (ops : List Operation) (hd : IsDocument d) (hv : AreWhole ops) where
+  pub accepted : (e : Data) → ran d ops ≡ Ok e → IsAccepted d ops e
+  accepted e is = record {
+    accepts = ran_accepts d ops e hd hv is;
+    end = λ f h. (let a : ran d ops ≡ Ok f = accepts_ran d ops f hd hv h in cc);
+    nowhere = λ k kind h. (let a : ran d ops ≡ Err (fault k kind) = refuses_ran d ops k kind hd hv h in cc);
+  }
+
+  refused : (k : ℕ) (kind : PatchErrorKind) → ran d ops ≡ Err (fault k kind) → IsRefused d ops k kind
+  refused k kind is = record {
+    refuses = ran_refuses d ops k kind hd hv is;
+    here = λ j other h. (let a : ran d ops ≡ Err (fault j other) = refuses_ran d ops j other hd hv h in let b : ◌≡◌ {A = Outcome} (Err (fault j other)) (Err (fault k kind)) = sym a ∙ is in (cc, cc));
+    never = λ e h. (let a : ran d ops ≡ Ok e = accepts_ran d ops e hd hv h in cc);
+  }
+
+  on_outcome : (o : Outcome) → ran d ops ≡ o → Ends d ops
+  on_outcome (Ok e) is = inl (e, accepted e is)
+  on_outcome (Err (fault k kind)) is = inr (k, kind, refused k kind is)
+
+pub ends : (d : Data) (ops : List Operation) → IsDocument d → AreWhole ops → Ends d ops
+ends d ops hd hv = on_outcome d ops hd hv (ran d ops) refl
+
+pub accepts_document : (d : Data) (ops : List Operation) (e : Data) → IsDocument d → AreWhole ops → Accepts d ops e → IsDocument e
+accepts_document d [] e hd hv h = subst IsDocument h hd
+accepts_document d (op ∷ ops) e hd hv h = accepts_document h.0 ops e (leaves_document d op h.0 hd hv.0 h.1) hv.1 h.2
+
+-- ---- joined lists
+
+pub accepts_joined : (d : Data) (xs ys : List Operation) (m e : Data) → Accepts d xs m → Accepts m ys e → Accepts d (xs ++ ys) e
+accepts_joined d [] ys m e h g = subst (λ x. Accepts x ys e) (sym h) g
+accepts_joined d (op ∷ xs) ys m e h g = (h.0, h.1, accepts_joined h.0 xs ys m e h.2 g)
+
+pub accepts_split : (d : Data) (xs ys : List Operation) (e : Data) → Accepts d (xs ++ ys) e → (m : Data) × Accepts d xs m × Accepts m ys e
+accepts_split d [] ys e h = (d, refl, h)
+accepts_split d (op ∷ xs) ys e h =
+    let i : (m : Data) × Accepts h.0 xs m × Accepts m ys e = accepts_split h.0 xs ys e h.2 in (i.0, (h.0, h.1, i.1), i.2)
+
+pub refuses_second : (d : Data) (xs ys : List Operation) (m : Data) (j : ℕ) (kind : PatchErrorKind) → Accepts d xs m → RefusesAt m ys j kind → RefusesAt d (xs ++ ys) (length xs + j) kind
+refuses_second d [] ys m j kind h g =
+    let e : j ≡ 0 + j = omega arith in subst (λ n. RefusesAt d ys n kind) e (subst (λ x. RefusesAt x ys j kind) (sym h) g)
+refuses_second d (op ∷ xs) ys m j kind h g =
+    let e : suc (length xs + j) ≡ suc (length xs) + j = omega arith in
+    subst (λ n. RefusesAt d (op ∷ (xs ++ ys)) n kind) e (h.0, h.1, refuses_second h.0 xs ys m j kind h.2 g)
+
+pub refuses_first : (d : Data) (xs ys : List Operation) (k : ℕ) (kind : PatchErrorKind) → RefusesAt d xs k kind → RefusesAt d (xs ++ ys) k kind
+refuses_first d [] ys k kind h = absurd h
+refuses_first d (op ∷ xs) ys zero kind h = h
+refuses_first d (op ∷ xs) ys (suc k) kind h = (h.0, h.1, refuses_first h.0 xs ys k kind h.2)
+
+pub tests_end : (d : Data) (ops : List Operation) (e : Data) → AreTests ops → Accepts d ops e → e ≡ d
+tests_end d [] e t h = sym h
+tests_end d (test P v ∷ ops) e t h = tests_end h.0 ops e t h.2 ∙ h.1.1
+tests_end d (op ∷ ops) e t h = absurd t
+
+-- ---- one operation more
+
+pub accepts_push : (d : Data) (xs : List Operation) (m : Data) (op : Operation) (e : Data) → Accepts d xs m → Leaves m op e → Accepts d (xs ++ op ∷ []) e
+accepts_push d xs m op e h l = accepts_joined d xs (op ∷ []) m e h (e, l, refl)
+
+pub refuses_here : (d : Data) (xs : List Operation) (m : Data) (op : Operation) (ys : List Operation) (kind : PatchErrorKind) → Accepts d xs m → Refuses m op kind → RefusesAt d (xs ++ op ∷ ys) (length xs) kind
+refuses_here d xs m op ys kind h r =
+    let e : length xs + 0 ≡ length xs = omega arith in subst (λ n. RefusesAt d (xs ++ op ∷ ys) n kind) e (refuses_second d xs (op ∷ ys) m 0 kind h r)
+
+-- a refused list is accepted up to the operation that is refused
+pub refused_after : (d : Data) (ops : List Operation) (k : ℕ) (kind : PatchErrorKind) → RefusesAt d ops k kind → (m : Data) × Accepts d (take k ops) m
+refused_after d [] k kind h = absurd h
+refused_after d (op ∷ ops) zero kind h = (d, refl)
+refused_after d (op ∷ ops) (suc k) kind h = let i : (m : Data) × Accepts h.0 (take k ops) m = refused_after h.0 ops k kind h.2 in (i.0, (h.0, h.1, i.1))

@@ -1,0 +1,95 @@
+-- On documents equality is `≡`, and what a comparison answers is what it says.
+use Rattle.std.proofs.Common.{◌≡◌, ◌↔◌, IsTrue, List, [], ◌∷◌, Bool, true, refl, sym, ap, subst}
+use Rattle.std.specs.Bool.{Decides}
+use Rattle.std.specs.Cmp.Lexicographic.{pointwise}
+use Rattle.std.specs.Ordering.{on}
+use Rattle.std.proofs.lemmas.Bool.Decides.{Decides-and, Decides-at, Decides-like, same_from_decides}
+use Rattle.serde_json.specs.Data.{Num, unsigned, negative, float, Data, null, boolean, number, string, array, object, Items, no_items, item, Members, no_members, member}
+use Rattle.jsonptr.specs.Text.{Pointer}
+use Rattle.json_patch.specs.Document.{IsDocument, AreDocuments, AreMembers, IsWhole}
+use Rattle.json_patch.specs.Operation.{Operation, add, remove, replace, move, copy, test, operation_of, operations, IsWholeOp, AreWhole}
+use Rattle.json_patch.specs.declared.operation.PatchOperation.{PatchOperation}
+use Rattle.json_patch.specs.Same.{AreSameNumbers, AreSame, AreSameItems, AreSameMembers, AreSameOperations, AreSameLists}
+use Rattle.json_patch.specs.SameComputed.{same, same_pointer, same_operation}
+use Rattle.json_patch.specs.SameLaws.{AreSame-refl, AreSame-sym, same-Decides, operation-refl, pointer-Decides, operation-Decides}
+
+numbers-is : (m n : Num) → IsWhole m → AreSameNumbers m n → m ≡ n
+numbers-is (unsigned m) (unsigned n) w h = ap unsigned h
+numbers-is (negative y) (negative z) w h = ap negative h
+numbers-is (float x) n w h = absurd w
+numbers-is _ _ w h = absurd h
+
+mutual
+  pub AreSame-is : (d e : Data) → IsDocument d → AreSame d e → d ≡ e
+  AreSame-is null null w h = refl
+  AreSame-is (boolean b) (boolean c) w h = ap boolean h
+  AreSame-is (number m) (number n) w h = ap number (numbers-is m n w h)
+  AreSame-is (string s) (string t) w h = ap string h
+  AreSame-is (array ds) (array es) w h = ap array (items-is ds es w h)
+  AreSame-is (object ms) (object ns) w h = ap object (members-is ms ns w h)
+  AreSame-is _ _ w h = absurd h
+
+  items-is : (ds es : Items) → AreDocuments ds → AreSameItems ds es → ds ≡ es
+  items-is no_items no_items w h = refl
+  items-is (item d ds) (item e es) w h = rw (AreSame-is d e w.0 h.0, items-is ds es w.1 h.1)
+  items-is _ _ w h = absurd h
+
+  members-is : (ms ns : Members) → AreMembers ms → AreSameMembers ms ns → ms ≡ ns
+  members-is no_members no_members w h = refl
+  members-is (member k d ms) (member l e ns) w h = rw (h.0, AreSame-is d e w.1 h.1, members-is ms ns w.2 h.2)
+  members-is _ _ w h = absurd h
+
+is-AreSame : (d e : Data) → d ≡ e → AreSame d e
+is-AreSame d e is = subst (AreSame d) is (AreSame-refl d)
+
+pub AreSame-document : (d e : Data) → IsDocument d → AreSame d e ↔ (d ≡ e)
+AreSame-document d e w = (AreSame-is d e w, is-AreSame d e)
+
+operation-is : (op other : Operation) → IsWholeOp op → AreSameOperations op other → op ≡ other
+operation-is (add P v) (add Q w) hv h = rw (h.0, AreSame-is v w hv h.1)
+operation-is (remove P) (remove Q) hv h = ap remove h
+operation-is (replace P v) (replace Q w) hv h = rw (h.0, AreSame-is v w hv h.1)
+operation-is (move F P) (move G Q) hv h = rw (h.0, h.1)
+operation-is (copy F P) (copy G Q) hv h = rw (h.0, h.1)
+operation-is (test P v) (test Q w) hv h = rw (h.0, AreSame-is v w hv h.1)
+operation-is _ _ hv h = absurd h
+
+lists-is : (ops others : List Operation) → AreWhole ops → AreSameLists ops others → ops ≡ others
+lists-is [] [] hv h = refl
+lists-is (op ∷ ops) (other ∷ others) hv h = rw (operation-is op other hv.0 h.0, lists-is ops others hv.1 h.1)
+lists-is _ _ hv h = absurd h
+
+lists-refl : (ops : List Operation) → AreSameLists ops ops
+lists-refl [] = tt
+lists-refl (op ∷ ops) = (operation-refl op, lists-refl ops)
+
+pub AreSameLists-whole : (ops others : List Operation) → AreWhole ops → AreSameLists ops others ↔ (ops ≡ others)
+AreSameLists-whole ops others hv = (lists-is ops others hv, λ e. subst (AreSameLists ops) e (lists-refl ops))
+
+-- ---- what a comparison answers
+
+pub same-is : (d e : Data) → IsDocument e → same d e ≡ true → d ≡ e
+same-is d e w h = sym (AreSame-is e d w (AreSame-sym d e ((same-Decides d e).0 h)))
+
+pub same-refl : (d : Data) → same d d ≡ true
+same-refl d = (same-Decides d d).1 (AreSame-refl d)
+
+pub same-says : (r : Bool) (d e : Data) → r ≡ same d e → IsTrue r ↔ AreSame d e
+same-says r d e is = Decides-at r (same d e) is (same-Decides d e)
+
+pub same-document : (r : Bool) (d e : Data) → r ≡ same d e → IsDocument d → IsTrue r ↔ (d ≡ e)
+same-document r d e is w = Decides-like r (AreSame-is d e w) (is-AreSame d e) (same-says r d e is)
+
+pub pointer_says : (r : Bool) (P Q : Pointer) → (IsTrue r ↔ (P ≡ Q)) → r ≡ same_pointer P Q
+pointer_says r P Q h = same_from_decides r (same_pointer P Q) h (pointer-Decides P Q)
+
+tests-Decide : (xs ys : List PatchOperation) → Decides (pointwise (on operation_of same_operation) xs ys) (AreSameLists (operations xs) (operations ys))
+tests-Decide [] [] = (λ h. tt, λ h. refl)
+tests-Decide (x ∷ xs) (y ∷ ys) =
+    Decides-and (same_operation (operation_of x) (operation_of y)) (pointwise (on operation_of same_operation) xs ys)
+    (operation-Decides (operation_of x) (operation_of y)) (tests-Decide xs ys)
+tests-Decide _ _ = (λ h. cc, λ h. absurd h)
+
+pub operations_say : (r : Bool) (xs ys : List PatchOperation) → r ≡ pointwise (on operation_of same_operation) xs ys
+    → IsTrue r ↔ AreSameLists (operations xs) (operations ys)
+operations_say r xs ys is = Decides-at r (pointwise (on operation_of same_operation) xs ys) is (tests-Decide xs ys)

@@ -1,0 +1,228 @@
+-- An operation leaves, or is refused for, exactly what is computed.
+use Rattle.std.proofs.Common.{◌≡◌, ◌&&◌, ℕ, List, [], ◌∷◌, ◌++◌, Bool, true, false, true≢false, bytes_eq, if◌then◌else◌, Option, Some, None, Ok, Err, refl, sym, ap, ◌∙◌, subst}
+use Rattle.std.proofs.lemmas.Slice.Eq.{bytes_eq-Decides}
+use Rattle.serde_json.specs.Data.{Data}
+use Rattle.jsonptr.specs.Text.{Pointer, IsProperPrefix}
+use Rattle.json_patch.specs.Document.{IsDocument}
+use Rattle.json_patch.specs.Change.{IsAdded, IsRemoved, IsReplaced}
+use Rattle.json_patch.specs.Operation.{Operation, add, remove, replace, move, copy, test, IsWholeOp}
+use Rattle.json_patch.specs.declared.error.PatchErrorKind.{PatchErrorKind}
+use Rattle.json_patch.specs.declared.error.PatchErrorKind.TheVariants.{TestFailed, InvalidFromPointer, InvalidPointer, CannotMoveInsideItself}
+use Rattle.json_patch.specs.Resolve.{StandsAt}
+use Rattle.json_patch.specs.Step.{Never, Leaves, Refuses}
+use Rattle.json_patch.specs.ChangeComputed.{found, added, removed, replaced}
+use Rattle.json_patch.specs.SameComputed.{same}
+use Rattle.json_patch.specs.RunComputed.{begins, or_refused, moved, copied, tested, stepped}
+use Rattle.json_patch.proofs.Samed.{same-is, same-refl}
+use Rattle.json_patch.proofs.Resolved.{resolves_document}
+use Rattle.json_patch.proofs.Found.{found_resolves, resolves_found}
+use Rattle.json_patch.proofs.Added.{added_is, added_none, IsAdded_document}
+use Rattle.json_patch.proofs.Removed.{removed_is, removed_none}
+use Rattle.json_patch.proofs.Replaced.{replaced_is, replaced_none}
+use Rattle.json_patch.proofs.Exact.{added_exact, removed_exact, replaced_exact}
+
+-- ---- proper prefixes
+
+both : (a b : Bool) → a && b ≡ true → (a ≡ true) × (b ≡ true)
+both true b h = (refl, h)
+both false b h = cc
+
+pub begins_prefix : (P Q : Pointer) → begins P Q ≡ true → IsProperPrefix P Q
+begins_prefix [] [] h = cc
+begins_prefix [] (u ∷ Q) h = (u, Q, refl)
+begins_prefix (t ∷ P) [] h = cc
+begins_prefix (t ∷ P) (u ∷ Q) h =
+    let two = both (bytes_eq t u) (begins P Q) h in
+    let i : IsProperPrefix P Q = begins_prefix P Q two.1 in
+    let e : t ≡ u = (bytes_eq-Decides t u).0 two.0 in
+    let f : Q ≡ P ++ i.0 ∷ i.1 = i.2 in
+    (i.0, i.1, cc)
+
+begins_long : (P : Pointer) (t : List ℕ) (R : Pointer) → begins P (P ++ t ∷ R) ≡ true
+begins_long [] t R = refl
+begins_long (u ∷ P) t R = rw ((bytes_eq-Decides u u).1 refl) (begins_long P t R)
+
+pub prefix_begins : (P Q : Pointer) → IsProperPrefix P Q → begins P Q ≡ true
+prefix_begins P Q h = ap (begins P) h.2 ∙ begins_long P h.0 h.1
+
+is_false : (b : Bool) → (b ≡ true → ⊥) → b ≡ false
+is_false true h = absurd (h refl)
+is_false false h = refl
+
+pub not_begins : (P Q : Pointer) → (IsProperPrefix P Q → ⊥) → begins P Q ≡ false
+not_begins P Q h = is_false (begins P Q) (λ e. h (begins_prefix P Q e))
+
+not_prefix : (P Q : Pointer) → begins P Q ≡ false → IsProperPrefix P Q → ⊥
+not_prefix P Q is h = let a : begins P Q ≡ true = prefix_begins P Q h in cc
+
+-- ---- options
+
+none_of : {A : Type 0} (o : Option A) → ((e : A) → o ≡ Some e → ⊥) → o ≡ None
+none_of None h = refl
+none_of (Some e) h = absurd (h e refl)
+
+pub or_ok : (kind : PatchErrorKind) (o : Option Data) (e : Data) → or_refused kind o ≡ Ok e → o ≡ Some e
+or_ok kind None e h = cc
+or_ok kind (Some f) e h = cc
+
+pub or_err : (kind other : PatchErrorKind) (o : Option Data) → or_refused kind o ≡ Err other → (o ≡ None) × (kind ≡ other)
+or_err kind other None h = (refl, cc)
+or_err kind other (Some f) h = cc
+
+-- ---- what stands, and what is never left
+
+pub stands_found : (d : Data) (P : Pointer) (v : Data) → StandsAt d P v → found d P ≡ Some v
+stands_found d P v h = resolves_found d P h.0 v h.1
+
+pub stands_document : (d : Data) (P : Pointer) (v : Data) → IsDocument d → StandsAt d P v → IsDocument v
+stands_document d P v hd h = resolves_document d P h.0 v hd h.1
+
+pub never_found : (d : Data) (P : Pointer) → Never (StandsAt d P) → found d P ≡ None
+never_found d P h = none_of (found d P) (λ v is. h v (found_resolves d P v is))
+
+pub found_never : (d : Data) (P : Pointer) → found d P ≡ None → Never (StandsAt d P)
+found_never d P is v h = let a : found d P ≡ Some v = stands_found d P v h in cc
+
+never_added : (d : Data) (P : Pointer) (v : Data) → IsDocument d → IsDocument v → Never (IsAdded d P v) → added d P v ≡ None
+never_added d P v hd hv h = none_of (added d P v) (λ e is. h e (added_is d P v e hd hv is))
+
+never_removed : (d : Data) (P : Pointer) → IsDocument d → Never (IsRemoved d P) → removed d P ≡ None
+never_removed d P hd h = none_of (removed d P) (λ e is. h e (removed_is d P e hd is))
+
+never_replaced : (d : Data) (P : Pointer) (v : Data) → IsDocument d → IsDocument v → Never (IsReplaced d P v) → replaced d P v ≡ None
+never_replaced d P v hd hv h = none_of (replaced d P v) (λ e is. h e (replaced_is d P v e hd hv is))
+
+pub removed_document : (d : Data) (P : Pointer) (m : Data) → IsRemoved d P m → IsDocument m
+removed_document d P m h = h.4
+
+-- nothing stands there, so nothing is removed
+nothing_removed : (d : Data) (P : Pointer) → found d P ≡ None → Never (IsRemoved d P)
+nothing_removed d P is e h = found_never d P is h.2 (h.0 ++ h.1 ∷ [], h.3)
+
+-- ---- from the relation
+
+same_other : (w v : Data) → IsDocument v → (w ≡ v → ⊥) → same w v ≡ false
+same_other w v hv other = is_false (same w v) (λ h. other (same-is w v hv h))
+
+moved_none : (P : Pointer) (o : Option Data) → moved P o None ≡ Err InvalidFromPointer
+moved_none P None = refl
+moved_none P (Some v) = refl
+
+pub leaves_stepped : (d : Data) (op : Operation) (e : Data) → IsDocument d → IsWholeOp op → Leaves d op e → stepped d op ≡ Ok e
+leaves_stepped d (add P v) e hd hv h = ap (or_refused InvalidPointer) (added_exact d P v e hd hv h)
+leaves_stepped d (remove P) e hd hv h = ap (or_refused InvalidPointer) (removed_exact d P e hd h)
+leaves_stepped d (replace P v) e hd hv h = ap (or_refused InvalidPointer) (replaced_exact d P v e hd hv h)
+leaves_stepped d (move F P) e hd hv h =
+    let v = h.1.0 in let m = h.1.1 in
+    let hm : IsDocument m = removed_document d F m h.1.3 in
+    rw (not_begins F P h.0, stands_found d F v h.1.2, removed_exact d F m hd h.1.3, added_exact m P v e hm (stands_document d F v hd h.1.2) h.1.4) refl
+leaves_stepped d (copy F P) e hd hv h =
+    rw (stands_found d F h.0 h.1, added_exact d P h.0 e hd (stands_document d F h.0 hd h.1) h.2) refl
+leaves_stepped d (test P v) e hd hv h = rw (stands_found d P v h.0, same-refl v) (ap Ok (sym h.1))
+
+pub refuses_stepped : (d : Data) (op : Operation) (kind : PatchErrorKind) → IsDocument d → IsWholeOp op → Refuses d op kind → stepped d op ≡ Err kind
+refuses_stepped d (add P v) InvalidPointer hd hv h = ap (or_refused InvalidPointer) (never_added d P v hd hv h)
+refuses_stepped d (remove P) InvalidPointer hd hv h = ap (or_refused InvalidPointer) (never_removed d P hd h)
+refuses_stepped d (replace P v) InvalidPointer hd hv h = ap (or_refused InvalidPointer) (never_replaced d P v hd hv h)
+refuses_stepped d (move F P) CannotMoveInsideItself hd hv h = rw (prefix_begins F P h) refl
+refuses_stepped d (move F P) InvalidFromPointer hd hv h = rw (not_begins F P h.0, never_removed d F hd h.1) (moved_none P (found d F))
+refuses_stepped d (move F P) InvalidPointer hd hv h =
+    let v = h.1.0 in let m = h.1.1 in
+    let hm : IsDocument m = removed_document d F m h.1.3 in
+    rw (not_begins F P h.0, stands_found d F v h.1.2, removed_exact d F m hd h.1.3, never_added m P v hm (stands_document d F v hd h.1.2) h.1.4) refl
+refuses_stepped d (copy F P) InvalidFromPointer hd hv h = rw (never_found d F h) refl
+refuses_stepped d (copy F P) InvalidPointer hd hv h =
+    rw (stands_found d F h.0 h.1, never_added d P h.0 hd (stands_document d F h.0 hd h.1) h.2) refl
+refuses_stepped d (test P v) InvalidPointer hd hv h = rw (never_found d P h) refl
+refuses_stepped d (test P v) TestFailed hd hv h = rw (stands_found d P h.0 h.1, same_other h.0 v hv h.2) refl
+refuses_stepped d op kind hd hv h = absurd h
+
+-- ---- to the relation
+
+added_leaves : (d : Data) (P : Pointer) (v e : Data) → IsDocument d → IsDocument v → or_refused InvalidPointer (added d P v) ≡ Ok e → IsAdded d P v e
+added_leaves d P v e hd hv is = added_is d P v e hd hv (or_ok InvalidPointer (added d P v) e is)
+
+added_refused : (d : Data) (P : Pointer) (v : Data) (kind : PatchErrorKind) → or_refused InvalidPointer (added d P v) ≡ Err kind → (InvalidPointer ≡ kind) × Never (IsAdded d P v)
+added_refused d P v kind is =
+    let h = or_err InvalidPointer kind (added d P v) is in (h.1, λ e. added_none d P v e h.0)
+
+module _ (d : Data) (F P : Pointer) (hd : IsDocument d) where
+  move_leaves : (b : Bool) (o p : Option Data) (e : Data) → begins F P ≡ b → found d F ≡ o → removed d F ≡ p → (if b then Err CannotMoveInsideItself else moved P o p) ≡ Ok e
+      → Leaves d (move F P) e
+  move_leaves true o p e b f r is = cc
+  move_leaves false None p e b f r is = cc
+  move_leaves false (Some v) None e b f r is = cc
+  move_leaves false (Some v) (Some m) e b f r is =
+      let s : StandsAt d F v = found_resolves d F v f in
+      let g : IsRemoved d F m = removed_is d F m hd r in
+      (not_prefix F P b, (v, m, s, g, added_leaves m P v e (removed_document d F m g) (stands_document d F v hd s) is))
+
+  move_refused : (b : Bool) (o p : Option Data) (kind : PatchErrorKind) → begins F P ≡ b → found d F ≡ o → removed d F ≡ p → (if b then Err CannotMoveInsideItself else moved P o p) ≡ Err kind
+      → Refuses d (move F P) kind
+  move_refused true o p kind b f r is = let e : CannotMoveInsideItself ≡ kind = cc in subst (Refuses d (move F P)) e (begins_prefix F P b)
+  move_refused false None p kind b f r is =
+      let e : InvalidFromPointer ≡ kind = cc in subst (Refuses d (move F P)) e (not_prefix F P b, nothing_removed d F f)
+  move_refused false (Some v) None kind b f r is =
+      let e : InvalidFromPointer ≡ kind = cc in subst (Refuses d (move F P)) e (not_prefix F P b, λ m. removed_none d F m r)
+  move_refused false (Some v) (Some m) kind b f r is =
+      let s : StandsAt d F v = found_resolves d F v f in
+      let g : IsRemoved d F m = removed_is d F m hd r in
+      let h = added_refused m P v kind is in
+      subst (Refuses d (move F P)) h.0 (not_prefix F P b, (v, m, s, g, h.1))
+
+  copy_leaves : (o : Option Data) (e : Data) → found d F ≡ o → copied d P o ≡ Ok e → Leaves d (copy F P) e
+  copy_leaves None e f is = cc
+  copy_leaves (Some v) e f is =
+      let s : StandsAt d F v = found_resolves d F v f in (v, s, added_leaves d P v e hd (stands_document d F v hd s) is)
+
+  copy_refused : (o : Option Data) (kind : PatchErrorKind) → found d F ≡ o → copied d P o ≡ Err kind → Refuses d (copy F P) kind
+  copy_refused None kind f is = let e : InvalidFromPointer ≡ kind = cc in subst (Refuses d (copy F P)) e (found_never d F f)
+  copy_refused (Some v) kind f is =
+      let s : StandsAt d F v = found_resolves d F v f in
+      let h = added_refused d P v kind is in
+      subst (Refuses d (copy F P)) h.0 (v, s, h.1)
+
+module _ (d : Data) (P : Pointer) (v : Data) where
+  test_leaves : (b : Bool) (w e : Data) → IsDocument v → found d P ≡ Some w → same w v ≡ b → (if b then Ok d else Err TestFailed) ≡ Ok e → Leaves d (test P v) e
+  test_leaves true w e hv f s is = (found_resolves d P v (f ∙ ap Some (same-is w v hv s)), cc)
+  test_leaves false w e hv f s is = cc
+
+  test_leaves_at : (o : Option Data) (e : Data) → IsDocument v → found d P ≡ o → tested d v o ≡ Ok e → Leaves d (test P v) e
+  test_leaves_at None e hv f is = cc
+  test_leaves_at (Some w) e hv f is = test_leaves (same w v) w e hv f refl is
+
+  test_refused : (b : Bool) (w : Data) (kind : PatchErrorKind) → IsDocument v → found d P ≡ Some w → same w v ≡ b → (if b then Ok d else Err TestFailed) ≡ Err kind → Refuses d (test P v) kind
+  test_refused true w kind hv f s is = cc
+  test_refused false w kind hv f s is =
+      let e : TestFailed ≡ kind = cc in
+      subst (Refuses d (test P v)) e (w, found_resolves d P w f, λ h. true≢false (sym (same-refl v) ∙ ap (λ x. same x v) (sym h) ∙ s))
+
+  test_refused_at : (o : Option Data) (kind : PatchErrorKind) → IsDocument v → found d P ≡ o → tested d v o ≡ Err kind → Refuses d (test P v) kind
+  test_refused_at None kind hv f is = let e : InvalidPointer ≡ kind = cc in subst (Refuses d (test P v)) e (found_never d P f)
+  test_refused_at (Some w) kind hv f is = test_refused (same w v) w kind hv f refl is
+
+pub stepped_leaves : (d : Data) (op : Operation) (e : Data) → IsDocument d → IsWholeOp op → stepped d op ≡ Ok e → Leaves d op e
+stepped_leaves d (add P v) e hd hv is = added_leaves d P v e hd hv is
+stepped_leaves d (remove P) e hd hv is = removed_is d P e hd (or_ok InvalidPointer (removed d P) e is)
+stepped_leaves d (replace P v) e hd hv is = replaced_is d P v e hd hv (or_ok InvalidPointer (replaced d P v) e is)
+stepped_leaves d (move F P) e hd hv is = move_leaves d F P hd (begins F P) (found d F) (removed d F) e refl refl refl is
+stepped_leaves d (copy F P) e hd hv is = copy_leaves d F P hd (found d F) e refl is
+stepped_leaves d (test P v) e hd hv is = test_leaves_at d P v (found d P) e hv refl is
+
+pub stepped_refuses : (d : Data) (op : Operation) (kind : PatchErrorKind) → IsDocument d → IsWholeOp op → stepped d op ≡ Err kind → Refuses d op kind
+stepped_refuses d (add P v) kind hd hv is = let h = added_refused d P v kind is in subst (Refuses d (add P v)) h.0 h.1
+stepped_refuses d (remove P) kind hd hv is =
+    let h = or_err InvalidPointer kind (removed d P) is in subst (Refuses d (remove P)) h.1 (λ e. removed_none d P e h.0)
+stepped_refuses d (replace P v) kind hd hv is =
+    let h = or_err InvalidPointer kind (replaced d P v) is in subst (Refuses d (replace P v)) h.1 (λ e. replaced_none d P v e h.0)
+stepped_refuses d (move F P) kind hd hv is = move_refused d F P hd (begins F P) (found d F) (removed d F) kind refl refl refl is
+stepped_refuses d (copy F P) kind hd hv is = copy_refused d F P hd (found d F) kind refl is
+stepped_refuses d (test P v) kind hd hv is = test_refused_at d P v (found d P) kind hv refl is
+
+pub leaves_document : (d : Data) (op : Operation) (e : Data) → IsDocument d → IsWholeOp op → Leaves d op e → IsDocument e
+leaves_document d (add P v) e hd hv h = IsAdded_document d P v e hv h
+leaves_document d (remove P) e hd hv h = h.4
+leaves_document d (replace P v) e hd hv h = h.3
+leaves_document d (move F P) e hd hv h = IsAdded_document h.1.1 P h.1.0 e (stands_document d F h.1.0 hd h.1.2) h.1.4
+leaves_document d (copy F P) e hd hv h = IsAdded_document d P h.0 e (stands_document d F h.0 hd h.1) h.2
+leaves_document d (test P v) e hd hv h = subst IsDocument (sym h.1) hd

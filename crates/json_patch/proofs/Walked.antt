@@ -1,0 +1,57 @@
+-- An operation as a walk to the parent, a change there, and the parent put back.
+use Rattle.std.proofs.Common.{◌≡◌, ℕ, List, [], ◌∷◌, ◌++◌, Option, Some, None, option_map, option_and_then, refl, ap, ◌∙◌}
+use Rattle.serde_json.specs.Data.{Data}
+use Rattle.json_patch.specs.Document.{Step, child}
+use Rattle.json_patch.specs.ChangeComputed.{step_of, set_child, found, altered, replaced, front_of, last_of, put_in, take_from, added, removed}
+
+again : (o : Option Data) → o ≡ option_and_then (λ q. Some q) o
+again None = refl
+again (Some q) = refl
+
+inside : (g : Data → Data) (h : Data → Option Data) (o : Option Data) → option_map g (option_and_then h o) ≡ option_and_then (λ q. option_map g (h q)) o
+inside g h None = refl
+inside g h (Some q) = refl
+
+within : (g : Data → Data) (f : Data → Option Data) (h : Data → Option Data) (o : Option Data)
+    → option_map g (option_and_then (λ p. option_and_then h (f p)) o) ≡ option_and_then (λ p. option_and_then (λ q. option_map g (h q)) (f p)) o
+within g f h None = refl
+within g f h (Some p) = inside g h (f p)
+
+abbrev Walks : (Data → Option Data) → Data → List (List ℕ) → Type 0
+Walks f d P = altered f d P ≡ option_and_then (λ p. option_and_then (λ q. replaced d P q) (f p)) (found d P)
+
+module _ (f : Data → Option Data) (d : Data) (P : List (List ℕ)) (more : (c : Data) → Walks f c P) where
+  at_child : (s : Step) (o : Option Data) → option_and_then (λ c. option_map (λ e. set_child s e d) (altered f c P)) o
+      ≡ option_and_then (λ p. option_and_then (λ q. option_and_then (λ c. option_map (λ e. set_child s e d) (replaced c P q)) o) (f p)) (option_and_then (λ c. found c P) o)
+  at_child s None = refl
+  at_child s (Some c) = ap (option_map (λ e. set_child s e d)) (more c) ∙ within (λ e. set_child s e d) f (λ q. replaced c P q) (found c P)
+
+  at_step : (o : Option Step) → option_and_then (λ s. option_and_then (λ c. option_map (λ e. set_child s e d) (altered f c P)) (child s d)) o
+      ≡ option_and_then (λ p. option_and_then (λ q. option_and_then (λ s. option_and_then (λ c. option_map (λ e. set_child s e d) (replaced c P q)) (child s d)) o) (f p))
+      (option_and_then (λ s. option_and_then (λ c. found c P) (child s d)) o)
+  at_step None = refl
+  at_step (Some s) = at_child s (child s d)
+
+pub altered_walks : (f : Data → Option Data) (d : Data) (P : List (List ℕ)) → Walks f d P
+altered_walks f d [] = again (f d)
+altered_walks f d (t ∷ P) = at_step f d P (λ c. altered_walks f c P) (step_of d t)
+
+pub front_append : (u t : List ℕ) (P : List (List ℕ)) → front_of u (P ++ t ∷ []) ≡ u ∷ P
+front_append u t [] = refl
+front_append u t (w ∷ P) = ap (λ Q. u ∷ Q) (front_append w t P)
+
+pub last_append : (u t : List ℕ) (P : List (List ℕ)) → last_of u (P ++ t ∷ []) ≡ t
+last_append u t [] = refl
+last_append u t (w ∷ P) = last_append w t P
+
+pub added_walks : (d : Data) (P : List (List ℕ)) (t : List ℕ) (v : Data)
+    → added d (P ++ t ∷ []) v ≡ option_and_then (λ p. option_and_then (λ q. replaced d P q) (put_in v t p)) (found d P)
+added_walks d [] t v = altered_walks (put_in v t) d []
+added_walks d (u ∷ P) t v =
+    ap (λ x. altered (put_in v x) d (front_of u (P ++ t ∷ []))) (last_append u t P) ∙ ap (λ Q. altered (put_in v t) d Q) (front_append u t P) ∙ altered_walks (put_in v t) d (u ∷ P)
+
+pub removed_walks : (d : Data) (P : List (List ℕ)) (t : List ℕ)
+    → removed d (P ++ t ∷ []) ≡ option_and_then (λ p. option_and_then (λ q. replaced d P q) (take_from t p)) (found d P)
+removed_walks d [] t = altered_walks (take_from t) d []
+removed_walks d (u ∷ P) t =
+    ap (λ x. altered (take_from x) d (front_of u (P ++ t ∷ []))) (last_append u t P) ∙ ap (λ Q. altered (take_from t) d Q) (front_append u t P) ∙ altered_walks (take_from t) d (u ∷ P)

@@ -1,0 +1,5 @@
+use Rattle.json_patch.proofs.Removed.{removed_one}
+use Rattle.json_patch.proofs.laws.changes.one_removed.Goals as goal
+
+pub returns : goal.returns
+returns c = removed_one

@@ -1,0 +1,5 @@
+use Rattle.json_patch.proofs.Exact.{removed_computed}
+use Rattle.json_patch.proofs.laws.changes.removed_is_computed.Goals as goal
+
+pub returns : goal.returns
+returns c = removed_computed

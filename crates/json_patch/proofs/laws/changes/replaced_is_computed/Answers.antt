@@ -1,0 +1,5 @@
+use Rattle.json_patch.proofs.Exact.{replaced_computed}
+use Rattle.json_patch.proofs.laws.changes.replaced_is_computed.Goals as goal
+
+pub returns : goal.returns
+returns c = replaced_computed

@@ -1,0 +1,7 @@
+use Rattle.std.proofs.Common.{◌≡◌, ◌++◌, drop}
+use Rattle.json_patch.specs.Operation.{operations}
+use Rattle.json_patch.proofs.operation.Patch.clone.Given as goal
+
+abbrev pub invariant-loop-operation : goal.invariant-loop-operation
+invariant-loop-operation l =
+    operations l.self.0.items ≡ operations l.copies.items ++ operations (drop l.operation-index l.operation-items)

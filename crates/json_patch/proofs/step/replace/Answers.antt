@@ -1,0 +1,20 @@
+use Rattle.serde_json.specs.View.{view}
+use Rattle.jsonptr.specs.Pointers.{token_of, tokens_of}
+use Rattle.json_patch.proofs.Parents.{found_in, passed_on, replaced_in}
+use Rattle.json_patch.proofs.step.replace.Goals as goal
+
+pub returns-in_err-former-clause-leaves : goal.returns-in_err-former-clause-leaves
+returns-in_err-former-clause-leaves c =
+    passed_on _ c.in_err-former.field-0.0 _ _ _ _ c.from_residual.ensures
+    (replaced_in (view c.args.doc.now) (tokens_of c.args.path) (tokens_of c.in-Some.parent) (token_of c.in-Some.last) (view c.args.value) c.in-Some.ensures.last)
+    (rw c.tokens.ensures.value at c.in_err-former.ensures.leaves)
+
+pub returns-clause-leaves : goal.returns-clause-leaves
+returns-clause-leaves c =
+    rw (replaced_in (view c.args.doc.now) (tokens_of c.args.path) (tokens_of c.in-Some.parent) (token_of c.in-Some.last) (view c.args.value) c.in-Some.ensures.last)
+    (rw c.tokens.ensures.value at c.in_ok-former.ensures.leaves)
+
+pub returns-clause-former : goal.returns-clause-former
+returns-clause-former c =
+    let stood = rw (c.tokens.ensures.value, c.in-Former.is) at c.in_ok-former.ensures.displaces in
+    found_in (view c.args.doc.now) (tokens_of c.args.path) (tokens_of c.in-Some.parent) (token_of c.in-Some.last) stood.0 (view c.in-Former.former) c.in-Some.ensures.last stood.1 stood.2

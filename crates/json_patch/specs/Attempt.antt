@@ -1,0 +1,35 @@
+-- For private clauses: what an attempt at a change leaves.
+use Rattle.std.specs.Prelude.{◌≡◌, Option, Some, None, Result, Ok, Err}
+use Rattle.serde_json.specs.Data.{Data}
+use Rattle.serde_json.specs.View.{view}
+use Rattle.serde_json.specs.declared.value.Value.{Value}
+use Rattle.jsonptr.specs.Text.{Pointer, IsProperPrefix}
+use Rattle.json_patch.specs.ChangeComputed.{found, removed}
+use Rattle.json_patch.specs.declared.error.PatchErrorKind.{PatchErrorKind}
+use Rattle.json_patch.specs.declared.error.PatchErrorKind.TheVariants.{InvalidPointer}
+use Rattle.json_patch.specs.declared.walk.StepFault.{StepFault}
+use Rattle.json_patch.specs.declared.walk.StepFault.TheVariants.{Refused, Memory}
+
+-- the pointer is refused where nothing is wanted; where memory is short, nothing is said
+abbrev pub Excuses : StepFault → Option Data → Type 0
+Excuses (Refused kind) wanted = (kind ≡ InvalidPointer) × (wanted ≡ None)
+Excuses (Memory e) wanted = Unit {0}
+
+-- what is wanted of `old` is left, or `old` is
+abbrev pub Attempts : {T : Type 0} → Result T StepFault → Option Data → Data → Data → Type 0
+Attempts (Ok x) wanted old new = wanted ≡ Some new
+Attempts (Err fault) wanted old new = Excuses fault wanted × (new ≡ old)
+
+-- the fault is the refusal of what an operation comes to; where memory is short, nothing is said
+abbrev pub Refuses : StepFault → Result Data PatchErrorKind → Type 0
+Refuses (Refused kind) wanted = wanted ≡ Err kind
+Refuses (Memory e) wanted = Unit {0}
+
+-- what an operation comes to, where memory suffices
+abbrev pub Steps : {T : Type 0} → Result T StepFault → Result Data PatchErrorKind → Data → Type 0
+Steps (Ok x) wanted new = wanted ≡ Ok new
+Steps (Err fault) wanted new = Refuses fault wanted
+
+-- a `move` from F to P can take the value out of `old`: that leaves `new`
+abbrev pub TakesOut : Data → Data → Pointer → Pointer → Value → Type 0
+TakesOut old new F P v = (IsProperPrefix F P → ⊥) × (removed old F ≡ Some new) × (found old F ≡ Some (view v))

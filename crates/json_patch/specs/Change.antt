@@ -1,0 +1,46 @@
+-- What add, remove and replace leave (RFC 6902, sections 4.1 to 4.3), by what is seen at every location afterwards.
+use Rattle.std.specs.Prelude.{◌≡◌, ◌≤◌, ℕ, List, [], ◌∷◌, ◌++◌, suc}
+use Rattle.serde_json.specs.Data.{Data}
+use Rattle.json_patch.specs.Document.{IsDocument, Step, key, place, look, nothing}
+use Rattle.json_patch.specs.Resolve.{Resolves, HasTarget}
+
+-- X is not under what the step s at L covers or moves
+abbrev pub IsBeside : List Step → Step → List Step → Type 0
+IsBeside L (key k) X = (R : List Step) → X ≡ L ++ key k ∷ R → ⊥
+IsBeside L (place i) X = (j : ℕ) (R : List Step) → i ≤ j → X ≡ L ++ place j ∷ R → ⊥
+
+-- the items of d from the place i on stand one place later in e
+abbrev pub ShiftsUp : Data → Data → List Step → Step → Type 0
+ShiftsUp d e L (key k) = Unit {0}
+ShiftsUp d e L (place i) = (j : ℕ) (R : List Step) → i ≤ j → look e (L ++ place (suc j) ∷ R) ≡ look d (L ++ place j ∷ R)
+
+-- the member is gone, or the items of d after the place i stand one place earlier in e
+abbrev pub ShiftsDown : Data → Data → List Step → Step → Type 0
+ShiftsDown d e L (key k) = (R : List Step) → look e (L ++ key k ∷ R) ≡ nothing
+ShiftsDown d e L (place i) = (j : ℕ) (R : List Step) → i ≤ j → look e (L ++ place j ∷ R) ≡ look d (L ++ place (suc j) ∷ R)
+
+pub record PutsAt (d e v : Data) (L : List Step) (s : Step) : Type 0 where
+  pub here : (R : List Step) → look e (L ++ s ∷ R) ≡ look v R
+  pub later : ShiftsUp d e L s
+  pub elsewhere : (X : List Step) → IsBeside L s X → look e X ≡ look d X
+
+pub record TakesAt (d e : Data) (L : List Step) (s : Step) : Type 0 where
+  pub later : ShiftsDown d e L s
+  pub elsewhere : (X : List Step) → IsBeside L s X → look e X ≡ look d X
+
+pub record SetsAt (d e v : Data) (L : List Step) : Type 0 where
+  pub here : (R : List Step) → look e (L ++ R) ≡ look v R
+  pub elsewhere : (X : List Step) → ((R : List Step) → X ≡ L ++ R → ⊥) → look e X ≡ look d X
+
+-- e is d with v added at P
+abbrev pub IsAdded : Data → List (List ℕ) → Data → Data → Type 0
+IsAdded d [] v e = e ≡ v
+IsAdded d (t ∷ P) v e = (L : List Step) × (s : Step) × HasTarget d (t ∷ P) L s × IsDocument e × PutsAt d e v L s
+
+-- e is d with what stands at P removed: not the whole document
+abbrev pub IsRemoved : Data → List (List ℕ) → Data → Type 0
+IsRemoved d P e = (L : List Step) × (s : Step) × (c : Data) × Resolves d P (L ++ s ∷ []) c × IsDocument e × TakesAt d e L s
+
+-- e is d with v in place of what stands at P
+abbrev pub IsReplaced : Data → List (List ℕ) → Data → Data → Type 0
+IsReplaced d P v e = (L : List Step) × (c : Data) × Resolves d P L c × IsDocument e × SetsAt d e v L

@@ -1,0 +1,43 @@
+-- Lists of operations that take no memory where they are accepted.
+use Rattle.std.specs.Prelude.{◌≡◌, ℕ, List, [], ◌∷◌, Result, Ok, Err}
+use Rattle.jsonptr.specs.Text.{Pointer, encoded}
+use Rattle.json_patch.specs.Operation.{Operation, add, remove, replace, move, copy, test}
+use Rattle.json_patch.specs.declared.walk.Edit.{Edit}
+use Rattle.json_patch.specs.declared.walk.Edit.TheVariants.{Insert, Take, Swap}
+use Rattle.json_patch.specs.declared.walk.StepFault.{StepFault}
+use Rattle.json_patch.specs.declared.walk.StepFault.TheVariants.{Refused, Memory}
+
+-- the token stands in a pointer's text as it is: there it has no ~
+abbrev pub IsUnescaped : List ℕ → Type 0
+IsUnescaped t = encoded t ≡ t
+
+-- the pointer's text holds no ~
+abbrev pub AreUnescaped : Pointer → Type 0
+AreUnescaped [] = Unit {0}
+AreUnescaped (t ∷ P) = IsUnescaped t × AreUnescaped P
+
+-- a `test` or a `remove` at a pointer whose text holds no ~
+abbrev pub IsInPlace : Operation → Type 0
+IsInPlace (add P v) = ⊥
+IsInPlace (remove P) = AreUnescaped P
+IsInPlace (replace P v) = ⊥
+IsInPlace (move F P) = ⊥
+IsInPlace (copy F P) = ⊥
+IsInPlace (test P v) = AreUnescaped P
+
+abbrev pub AreInPlace : List Operation → Type 0
+AreInPlace [] = Unit {0}
+AreInPlace (op ∷ ops) = IsInPlace op × AreInPlace ops
+
+-- ---- for private clauses
+
+abbrev pub IsTake : Edit → Type 0
+IsTake (Insert v) = ⊥
+IsTake Take = Unit {0}
+IsTake (Swap v) = ⊥
+
+-- memory wasn't short
+abbrev pub NeverShort : {T : Type 0} → Result T StepFault → Type 0
+NeverShort (Ok x) = Unit {0}
+NeverShort (Err (Refused kind)) = Unit {0}
+NeverShort (Err (Memory e)) = ⊥

@@ -1,0 +1,34 @@
+-- The operations that undo a run.
+use Rattle.std.specs.Prelude.{◌≡◌, ◌⊎◌, ℕ, List, [], ◌∷◌, ◌++◌, Some}
+use Rattle.serde_json.specs.Data.{Data}
+use Rattle.jsonptr.specs.Text.{Pointer}
+use Rattle.jsonptr.specs.Places.{place_of}
+use Rattle.json_patch.specs.Document.{Step, key, place}
+use Rattle.json_patch.specs.Resolve.{HasTarget, StandsAt}
+use Rattle.json_patch.specs.Change.{IsRemoved}
+use Rattle.json_patch.specs.Operation.{Operation, add, remove, replace, move, copy, test}
+use Rattle.json_patch.specs.Step.{Never, Leaves}
+
+-- u takes back what an add at P put at the step s: a member that was not there, one that was, or an item, named by its number
+abbrev pub TakesBack : Data → Pointer → Pointer → Step → Operation → Type 0
+TakesBack d P front (key k) u = (Never (StandsAt d P) × (u ≡ remove P)) ⊎ ((w : Data) × StandsAt d P w × (u ≡ replace P w))
+TakesBack d P front (place i) u = (t : List ℕ) × (place_of t ≡ Some i) × (u ≡ remove (front ++ t ∷ []))
+
+-- u undoes an add at P on d
+abbrev pub UndoesAdd : Data → Pointer → Operation → Type 0
+UndoesAdd d [] u = u ≡ replace [] d
+UndoesAdd d (t ∷ P) u = (L : List Step) × (s : Step) × (target : HasTarget d (t ∷ P) L s) × TakesBack d (t ∷ P) target.front s u
+
+-- B undoes op, accepted on d
+abbrev pub IsBlock : Data → Operation → List Operation → Type 0
+IsBlock d (add P v) B = (u : Operation) × UndoesAdd d P u × (B ≡ u ∷ [])
+IsBlock d (remove P) B = (w : Data) × StandsAt d P w × (B ≡ add P w ∷ [])
+IsBlock d (replace P v) B = (w : Data) × StandsAt d P w × (B ≡ replace P w ∷ [])
+IsBlock d (move F P) B = (v m : Data) × (u : Operation) × StandsAt d F v × IsRemoved d F m × UndoesAdd m P u × (B ≡ u ∷ add F v ∷ [])
+IsBlock d (copy F P) B = (u : Operation) × UndoesAdd d P u × (B ≡ u ∷ [])
+IsBlock d (test P v) B = B ≡ []
+
+-- the list is accepted on d, and I is its blocks, the last operation's first, each taken on the state before its operation
+abbrev pub IsInverse : Data → List Operation → List Operation → Type 0
+IsInverse d [] I = I ≡ []
+IsInverse d (op ∷ ops) I = (m : Data) × (J B : List Operation) × Leaves d op m × IsInverse m ops J × IsBlock d op B × (I ≡ J ++ B)

@@ -1,0 +1,82 @@
+-- The operations of JSON Patch (RFC 6902, section 4).
+use Rattle.std.specs.Prelude.{List, [], ◌∷◌, map}
+use Rattle.serde_json.specs.Data.{Data}
+use Rattle.serde_json.specs.View.{view}
+use Rattle.jsonptr.specs.Text.{Pointer}
+use Rattle.json_patch.specs.Document.{IsDocument}
+use Rattle.json_patch.specs.declared.operation.AddOperation.{AddOperation}
+use Rattle.json_patch.specs.declared.operation.CopyOperation.{CopyOperation}
+use Rattle.json_patch.specs.declared.operation.MoveOperation.{MoveOperation}
+use Rattle.json_patch.specs.declared.operation.PatchOperation.{PatchOperation}
+use Rattle.json_patch.specs.declared.operation.RemoveOperation.{RemoveOperation}
+use Rattle.json_patch.specs.declared.operation.ReplaceOperation.{ReplaceOperation}
+use Rattle.json_patch.specs.declared.operation.TestOperation.{TestOperation}
+use Rattle.json_patch.specs.declared.operation.PatchOperation.TheVariants.{Add, Remove, Replace, Move, Copy, Test}
+
+pub data Operation : Type 0 where
+  add : Pointer → Data → Operation
+  remove : Pointer → Operation
+  replace : Pointer → Data → Operation
+  move : Pointer → Pointer → Operation
+  copy : Pointer → Pointer → Operation
+  test : Pointer → Data → Operation
+
+-- what an operation of the program stands for
+abbrev pub add_of : AddOperation → Operation
+add_of o = add o.path (view o.value)
+
+abbrev pub remove_of : RemoveOperation → Operation
+remove_of o = remove o.path
+
+abbrev pub replace_of : ReplaceOperation → Operation
+replace_of o = replace o.path (view o.value)
+
+abbrev pub move_of : MoveOperation → Operation
+move_of o = move o.from o.path
+
+abbrev pub copy_of : CopyOperation → Operation
+copy_of o = copy o.from o.path
+
+abbrev pub test_of : TestOperation → Operation
+test_of o = test o.path (view o.value)
+
+abbrev pub operation_of : PatchOperation → Operation
+operation_of (Add o) = add_of o
+operation_of (Remove o) = remove_of o
+operation_of (Replace o) = replace_of o
+operation_of (Move o) = move_of o
+operation_of (Copy o) = copy_of o
+operation_of (Test o) = test_of o
+
+abbrev pub operations : List PatchOperation → List Operation
+operations os = map operation_of os
+
+-- the `path` of an operation
+abbrev pub path_of : Operation → Pointer
+path_of (add P v) = P
+path_of (remove P) = P
+path_of (replace P v) = P
+path_of (move F P) = P
+path_of (copy F P) = P
+path_of (test P v) = P
+
+abbrev pub IsMove : Operation → Type 0
+IsMove (add P v) = ⊥
+IsMove (remove P) = ⊥
+IsMove (replace P v) = ⊥
+IsMove (move F P) = Unit {0}
+IsMove (copy F P) = ⊥
+IsMove (test P v) = ⊥
+
+-- the operation's value, if it has one, is a document
+abbrev pub IsWholeOp : Operation → Type 0
+IsWholeOp (add P v) = IsDocument v
+IsWholeOp (remove P) = Unit {0}
+IsWholeOp (replace P v) = IsDocument v
+IsWholeOp (move F P) = Unit {0}
+IsWholeOp (copy F P) = Unit {0}
+IsWholeOp (test P v) = IsDocument v
+
+abbrev pub AreWhole : List Operation → Type 0
+AreWhole [] = Unit {0}
+AreWhole (op ∷ ops) = IsWholeOp op × AreWhole ops

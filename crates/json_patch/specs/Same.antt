@@ -1,0 +1,49 @@
+-- Equality of JSON values (RFC 6902, section 4.6), and of operations.
+use Rattle.std.specs.Prelude.{◌≡◌, List, [], ◌∷◌}
+use Rattle.serde_json.specs.Data.{Num, unsigned, negative, float, Data, null, boolean, number, string, array, object, Items, no_items, item, Members, no_members, member}
+use Rattle.json_patch.specs.Operation.{Operation, add, remove, replace, move, copy, test}
+
+-- numbers that aren't whole count as one value
+abbrev pub AreSameNumbers : Num → Num → Type 0
+AreSameNumbers (unsigned m) (unsigned n) = m ≡ n
+AreSameNumbers (negative y) (negative z) = y ≡ z
+AreSameNumbers (float x) (float y) = Unit {0}
+AreSameNumbers m n = ⊥
+
+-- atoms of one kind and value, lists item by item, objects member by member: a `Value` holds its members in the order of
+-- their names, so these are the members of each name
+abbrev mutual
+  pub AreSame : Data → Data → Type 0
+  AreSame null null = Unit {0}
+  AreSame (boolean b) (boolean c) = b ≡ c
+  AreSame (number m) (number n) = AreSameNumbers m n
+  AreSame (string s) (string t) = s ≡ t
+  AreSame (array ds) (array es) = AreSameItems ds es
+  AreSame (object ms) (object ns) = AreSameMembers ms ns
+  AreSame d e = ⊥
+
+  pub AreSameItems : Items → Items → Type 0
+  AreSameItems no_items no_items = Unit {0}
+  AreSameItems (item d ds) (item e es) = AreSame d e × AreSameItems ds es
+  AreSameItems ds es = ⊥
+
+  pub AreSameMembers : Members → Members → Type 0
+  AreSameMembers no_members no_members = Unit {0}
+  AreSameMembers (member k d ms) (member l e ns) = (k ≡ l) × AreSame d e × AreSameMembers ms ns
+  AreSameMembers ms ns = ⊥
+
+-- operations of one kind, with equal pointers and the same value
+abbrev pub AreSameOperations : Operation → Operation → Type 0
+AreSameOperations (add P v) (add Q w) = (P ≡ Q) × AreSame v w
+AreSameOperations (remove P) (remove Q) = P ≡ Q
+AreSameOperations (replace P v) (replace Q w) = (P ≡ Q) × AreSame v w
+AreSameOperations (move F P) (move G Q) = (F ≡ G) × (P ≡ Q)
+AreSameOperations (copy F P) (copy G Q) = (F ≡ G) × (P ≡ Q)
+AreSameOperations (test P v) (test Q w) = (P ≡ Q) × AreSame v w
+AreSameOperations op other = ⊥
+
+-- lists of operations, one by one
+abbrev pub AreSameLists : List Operation → List Operation → Type 0
+AreSameLists [] [] = Unit {0}
+AreSameLists (op ∷ ops) (other ∷ others) = AreSameOperations op other × AreSameLists ops others
+AreSameLists ops others = ⊥

@@ -1,0 +1,153 @@
+//! Why a patch is refused, or can't be read.
+
+ghost use Rattle.std.specs.Prelude.{◌≡◌};
+ghost use Rattle.json_patch.specs.declared.error.PatchErrorKind.TheVariants.{InvalidPointer};
+ghost use Rattle.json_patch.specs.declared.error.PatchFault.TheVariants.{Memory};
+
+use jsonptr::index::{OutOfBoundsError, ParseIndexError};
+use jsonptr::{ParseError, PointerBuf};
+use std::alloc::AllocError;
+use std::error::Error;
+use std::fmt;
+use thiserror::Error;
+
+/// Why an operation is refused (RFC 6902, section 4).
+#[derive(Debug, Drop, Error)]
+pub enum PatchErrorKind {
+    /// Another value stands where a `test` looks.
+    #[error("value did not match")]
+    TestFailed,
+    /// `from` of a `move` or a `copy` leads nowhere, or a `move` would take the whole document.
+    #[error("\"from\" path is invalid")]
+    InvalidFromPointer,
+    /// `path` leads nowhere, or no value can be put or taken there.
+    #[error("path is invalid")]
+    InvalidPointer,
+    /// A `move` would put a value inside itself.
+    #[error("cannot move the value inside itself")]
+    CannotMoveInsideItself,
+}
+
+impl From<ParseIndexError> for PatchErrorKind {
+    ghost from_gives = { λ _ kind. kind ≡ InvalidPointer };
+
+    fn from(_error: ParseIndexError) -> PatchErrorKind {
+        PatchErrorKind::InvalidPointer
+    }
+}
+
+impl From<OutOfBoundsError> for PatchErrorKind {
+    ghost from_gives = { λ _ kind. kind ≡ InvalidPointer };
+
+    fn from(_error: OutOfBoundsError) -> PatchErrorKind {
+        PatchErrorKind::InvalidPointer
+    }
+}
+
+/// The first operation of a patch that is refused (RFC 6902, section 5).
+#[derive(Debug, Drop, Error)]
+#[error("operation '/{operation}' failed at path '{path}': {kind}")]
+pub struct PatchError {
+    /// Which operation was refused, counted from 0.
+    pub operation: usize,
+    /// The operation's `path`, also where its `from` was at fault.
+    pub path: PointerBuf,
+    /// Why it was refused.
+    pub kind: PatchErrorKind,
+}
+
+/// Why a patch wasn't applied.
+#[derive(Debug, Drop, Error)]
+pub enum PatchFault {
+    /// An operation was refused.
+    #[error("{0}")]
+    Refused(PatchError),
+    /// A growth of memory was refused, on the way or for the path of the refusal.
+    #[error("out of memory")]
+    Memory(AllocError),
+}
+
+impl From<AllocError> for PatchFault {
+    ghost from_gives = { λ error fault. fault ≡ Memory error };
+
+    fn from(error: AllocError) -> PatchFault {
+        PatchFault::Memory(error)
+    }
+}
+
+/// Why a JSON value isn't read as a patch or an operation, in the order in which it is looked for.
+#[derive(Debug, Drop, Error)]
+pub enum ReadKind {
+    /// The patch isn't a list.
+    #[error("patch is not a list")]
+    NotAList,
+    /// The operation isn't an object.
+    #[error("operation is not an object")]
+    NotAnObject,
+    /// There is no member `op`.
+    #[error("member \"op\" is missing")]
+    MissingOp,
+    /// The member `op` isn't a text.
+    #[error("member \"op\" is not a text")]
+    OpNotText,
+    /// The member `op` names no operation.
+    #[error("member \"op\" is unknown")]
+    UnknownOp,
+    /// There is no member `from`.
+    #[error("member \"from\" is missing")]
+    MissingFrom,
+    /// The member `from` isn't a text.
+    #[error("member \"from\" is not a text")]
+    FromNotText,
+    /// The member `from` isn't the text of a pointer.
+    #[error("member \"from\" is not a pointer: {0}")]
+    BadFrom(ParseError),
+    /// There is no member `path`.
+    #[error("member \"path\" is missing")]
+    MissingPath,
+    /// The member `path` isn't a text.
+    #[error("member \"path\" is not a text")]
+    PathNotText,
+    /// The member `path` isn't the text of a pointer.
+    #[error("member \"path\" is not a pointer: {0}")]
+    BadPath(ParseError),
+    /// There is no member `value`.
+    #[error("member \"value\" is missing")]
+    MissingValue,
+    /// The member `value` holds a number with a fraction, an exponent or more than 64 bits.
+    #[error("member \"value\" holds a number that is not whole")]
+    ValueNotWhole,
+}
+
+/// The first thing at fault in a JSON value that isn't read as a patch or an operation.
+#[derive(Debug, Drop)]
+pub struct ReadError {
+    /// Which operation of the list is at fault, counted from 0. There is none where a single
+    /// operation is read, or where the patch isn't a list.
+    pub operation: Option<usize>,
+    /// What is at fault.
+    pub kind: ReadKind,
+}
+
+impl fmt::Display for ReadError {
+    fn fmt<W: fmt::Write>(&self, f: &mut fmt::Formatter<W>) -> fmt::Result {
+        let kind = &self.kind;
+        match self.operation {
+            Some(operation) => write!(f, "operation '/{operation}': {kind}"),
+            None => write!(f, "{kind}"),
+        }
+    }
+}
+
+impl Error for ReadError {}
+
+/// Why a patch or an operation wasn't read.
+#[derive(Debug, Drop, Error)]
+pub enum ReadFault {
+    /// The value is at fault.
+    #[error("{0}")]
+    Refused(ReadError),
+    /// A growth of memory was refused.
+    #[error("out of memory")]
+    Memory(AllocError),
+}

@@ -1,0 +1,25 @@
+//! Documents: what is seen of them, and where pointers lead in them.
+
+ghost use Rattle.std.specs.Prelude.{◌≡◌, ◌↔◌, List, Some};
+ghost use Rattle.serde_json.specs.Data.{Data};
+ghost use Rattle.jsonptr.specs.Text.{Pointer};
+ghost use Rattle.json_patch.specs.ChangeComputed.{found};
+ghost use Rattle.json_patch.specs.Document.{IsDocument, Step, look, standing};
+ghost use Rattle.json_patch.specs.Resolve.{Resolves, StandsAt};
+
+/// Documents that look alike at every location are equal.
+pub fn alike_is_equal()
+    ensures { (d e : Data) → IsDocument d → IsDocument e
+        → ((L : List Step) → look d L ≡ look e L) → d ≡ e }
+{}
+
+/// A pointer resolves to what stands at its location.
+pub fn resolves_to_what_stands()
+    ensures { (d : Data) (P : Pointer) (L : List Step) (c : Data)
+        → Resolves d P L c → standing d L ≡ Some c }
+{}
+
+/// What stands where a pointer leads is what is found there.
+pub fn found_is_computed()
+    ensures { (d : Data) (P : Pointer) (c : Data) → StandsAt d P c ↔ (found d P ≡ Some c) }
+{}

@@ -1,0 +1,33 @@
+//! Laws of equality, each the contract of a function that does nothing.
+
+ghost use Rattle.std.specs.Prelude.{◌≡◌, ◌↔◌, List};
+ghost use Rattle.serde_json.specs.Data.{Data};
+ghost use Rattle.json_patch.specs.Document.{IsDocument};
+ghost use Rattle.json_patch.specs.Operation.{AreWhole, Operation};
+ghost use Rattle.json_patch.specs.Same.{AreSame, AreSameLists};
+
+/// Each value is the same as itself.
+pub fn same_as_itself()
+    ensures { (d : Data) → AreSame d d }
+{}
+
+/// Which of two values stands first makes no difference.
+pub fn same_either_way()
+    ensures { (d e : Data) → AreSame d e → AreSame e d }
+{}
+
+/// Two values that are the same as a third are the same.
+pub fn same_in_turn()
+    ensures { (d e f : Data) → AreSame d e → AreSame e f → AreSame d f }
+{}
+
+/// A document is the same as itself alone.
+pub fn same_as_document()
+    ensures { (d e : Data) → IsDocument d → (AreSame d e ↔ (d ≡ e)) }
+{}
+
+/// A list of operations whose values are documents is the same as itself alone.
+pub fn same_as_whole_list()
+    ensures { (ops others : List Operation) → AreWhole ops
+        → (AreSameLists ops others ↔ (ops ≡ others)) }
+{}

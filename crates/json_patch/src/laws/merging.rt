@@ -1,0 +1,37 @@
+//! Laws of merge patches, each the contract of a function that does nothing.
+
+ghost use Rattle.json_patch.specs.Document.{IsDocument, map, sight_of};
+ghost use Rattle.json_patch.specs.Merged.{IsMerged};
+ghost use Rattle.json_patch.specs.MergedComputed.{merged};
+ghost use Rattle.serde_json.specs.Data.{Data};
+ghost use Rattle.serde_json.specs.Find.{get};
+ghost use Rattle.std.specs.Prelude.{◌≡◌, ◌≢◌, ◌↔◌, List, ℕ};
+
+/// A merge leaves a document, and that one alone.
+pub fn merged_is_one()
+    ensures { (d p : Data) → IsDocument d → IsDocument p
+        → (e : Data) × IsDocument e × IsMerged d p e
+        × ((f : Data) → IsDocument f → IsMerged d p f → f ≡ e) }
+{}
+
+/// What a merge leaves is what is computed.
+pub fn merged_is_computed()
+    ensures { (d p e : Data) → IsDocument d → IsDocument p → IsDocument e
+        → IsMerged d p e ↔ (merged d p ≡ e) }
+{}
+
+/// What is merged changes no more when it is merged again.
+pub fn merged_again()
+    ensures { (d p e : Data) → IsMerged d p e → IsMerged e p e }
+{}
+
+/// A merge patch that is no object is the result.
+pub fn patch_that_is_no_object()
+    ensures { (d p e : Data) → sight_of p ≢ map → IsMerged d p e ↔ (e ≡ p) }
+{}
+
+/// A member that a merge patch, an object, doesn't name stays.
+pub fn unnamed_stays()
+    ensures { (d p e : Data) (k : List ℕ) → sight_of p ≡ map → IsMerged d p e
+        → get k p ≡ None → get k e ≡ get k d }
+{}

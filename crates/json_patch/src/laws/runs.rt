@@ -1,0 +1,71 @@
+//! Single operations and runs.
+
+ghost use Rattle.std.specs.Prelude.{◌≡◌, ◌↔◌, ◌+◌, ◌++◌, ℕ, List, Ok, Err, length};
+ghost use Rattle.serde_json.specs.Data.{Data};
+ghost use Rattle.json_patch.specs.Document.{IsDocument};
+ghost use Rattle.json_patch.specs.Operation.{AreWhole, IsWholeOp, Operation};
+ghost use Rattle.json_patch.specs.Run.{Accepts, AreTests, Ends, RefusesAt};
+ghost use Rattle.json_patch.specs.RunComputed.{fault, ran, stepped};
+ghost use Rattle.json_patch.specs.Step.{Leaves, Refuses};
+ghost use Rattle.json_patch.specs.declared.error.PatchErrorKind.{PatchErrorKind};
+
+/// What an operation leaves is what is computed.
+pub fn step_left()
+    ensures { (d : Data) (op : Operation) → IsDocument d → IsWholeOp op
+        → (e : Data) → Leaves d op e ↔ (stepped d op ≡ Ok e) }
+{}
+
+/// An operation is refused where and as is computed.
+pub fn step_refused()
+    ensures { (d : Data) (op : Operation) → IsDocument d → IsWholeOp op
+        → (kind : PatchErrorKind) → Refuses d op kind ↔ (stepped d op ≡ Err kind) }
+{}
+
+/// A list is accepted where it is computed to be, with the end that is computed.
+pub fn run_accepted()
+    ensures { (d : Data) (ops : List Operation) → IsDocument d → AreWhole ops
+        → (e : Data) → Accepts d ops e ↔ (ran d ops ≡ Ok e) }
+{}
+
+/// A list is refused where and as is computed.
+pub fn run_refused()
+    ensures { (d : Data) (ops : List Operation) → IsDocument d → AreWhole ops
+        → (k : ℕ) (kind : PatchErrorKind)
+        → RefusesAt d ops k kind ↔ (ran d ops ≡ Err (fault k kind)) }
+{}
+
+/// A list is accepted with one end, or refused at one operation and for one kind, and not both.
+pub fn run_ends()
+    ensures { (d : Data) (ops : List Operation) → IsDocument d → AreWhole ops → Ends d ops }
+{}
+
+/// A run leads from a document to a document.
+pub fn run_keeps_documents()
+    ensures { (d : Data) (ops : List Operation) (e : Data) → IsDocument d → AreWhole ops
+        → Accepts d ops e → IsDocument e }
+{}
+
+/// A joined list is accepted where the first is and the second is on its end.
+pub fn joined_accepted()
+    ensures { (d : Data) (xs ys : List Operation) (e : Data)
+        → Accepts d (xs ++ ys) e ↔ ((m : Data) × Accepts d xs m × Accepts m ys e) }
+{}
+
+/// A joined list is refused where its first part is.
+pub fn joined_refused_first()
+    ensures { (d : Data) (xs ys : List Operation) (k : ℕ) (kind : PatchErrorKind)
+        → RefusesAt d xs k kind → RefusesAt d (xs ++ ys) k kind }
+{}
+
+/// A joined list is refused where its second part is, counted on from the first.
+pub fn joined_refused_second()
+    ensures { (d : Data) (xs ys : List Operation) (m : Data) (j : ℕ) (kind : PatchErrorKind)
+        → Accepts d xs m → RefusesAt m ys j kind
+        → RefusesAt d (xs ++ ys) (length xs + j) kind }
+{}
+
+/// A list of tests ends where it began.
+pub fn tests_change_nothing()
+    ensures { (d : Data) (ops : List Operation) (e : Data)
+        → AreTests ops → Accepts d ops e → e ≡ d }
+{}

@@ -1,0 +1,25 @@
+//! JSON Patch (RFC 6902) and JSON Merge Patch (RFC 7396).
+#![tactic(auto)]
+
+mod cloning;
+mod equality;
+mod error;
+pub mod laws;
+mod merging;
+mod operation;
+mod reading;
+mod record;
+mod run;
+mod step;
+mod walk;
+mod writing;
+
+pub use equality::{is_whole, same};
+pub use error::{PatchError, PatchErrorKind, PatchFault, ReadError, ReadFault, ReadKind};
+pub use jsonptr;
+pub use merging::merge;
+pub use operation::{
+    AddOperation, CopyOperation, MoveOperation, Patch, PatchOperation, RemoveOperation,
+    ReplaceOperation, TestOperation,
+};
+pub use run::{apply_patches, patch, patch_unsafe};

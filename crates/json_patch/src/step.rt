@@ -1,0 +1,205 @@
+//! One operation on a document (RFC 6902, section 4).
+
+ghost use Rattle.std.specs.Prelude.{◌≡◌, IfOk, IfErr, OnErr, IsTrue, ◌↔◌, Some};
+ghost use Rattle.serde_json.specs.Data.{Data};
+ghost use Rattle.serde_json.specs.View.{view};
+ghost use Rattle.jsonptr.specs.Pointers.{tokens_of};
+ghost use Rattle.jsonptr.specs.Text.{IsProperPrefix};
+ghost use Rattle.json_patch.specs.Attempt.{Attempts, Refuses, Steps, TakesOut};
+ghost use Rattle.json_patch.specs.ChangeComputed.{added, removed, replaced, found};
+ghost use Rattle.json_patch.specs.Edits.{undo_from};
+ghost use Rattle.json_patch.specs.InPlace.{AreUnescaped, IsInPlace, NeverShort};
+ghost use Rattle.json_patch.specs.InverseComputed.{undo_add};
+ghost use Rattle.json_patch.specs.Operation.{IsMove, operation_of, copy as copy_at, move as move_at, test as test_at};
+ghost use Rattle.json_patch.specs.RunComputed.{stepped};
+
+use crate::equality::same_values;
+use crate::error::PatchErrorKind;
+use crate::operation::PatchOperation;
+use crate::walk::{Displaced, Edit, StepFault, edit_at, find};
+use jsonptr::Pointer;
+use serde_json::Value;
+use std::alloc::Global;
+use std::mem;
+
+/// Makes the operation. A refused one leaves the document as it was, but for a `move`, which may
+/// have lost the value: it is for a copy of the document.
+pub(crate) fn step(
+    alloc: Global,
+    doc: &mut Value,
+    operation: &PatchOperation,
+) -> Result<(), StepFault>
+    ensures leaves { Steps result (stepped (view doc.old) (operation_of operation.now)) (view doc.new) }
+    ensures unchanged { OnErr result
+        ((IsMove (operation_of operation.now) → ⊥) → view doc.new ≡ view doc.old) }
+    ensures in_place { IsInPlace (operation_of operation.now) → NeverShort result }
+{
+    match operation {
+        PatchOperation::Add(operation) => {
+            let value = operation.value.clone()?;
+            add(alloc, doc, operation.path.as_pointer(), value)?;
+        }
+        PatchOperation::Remove(operation) => {
+            remove(alloc, doc, operation.path.as_pointer())?;
+        }
+        PatchOperation::Replace(operation) => {
+            let value = operation.value.clone()?;
+            replace(alloc, doc, operation.path.as_pointer(), value)?;
+        }
+        PatchOperation::Move(operation) => {
+            let from = operation.from.as_pointer();
+            move_value(alloc, doc, from, operation.path.as_pointer())?;
+        }
+        PatchOperation::Copy(operation) => {
+            let from = operation.from.as_pointer();
+            copy_value(alloc, doc, from, operation.path.as_pointer())?;
+        }
+        PatchOperation::Test(operation) => {
+            test(alloc, doc, operation.path.as_pointer(), &operation.value)?;
+        }
+    }
+    Ok(())
+}
+
+/// `add` (section 4.1).
+pub(crate) fn add(
+    alloc: Global,
+    doc: &mut Value,
+    path: Pointer<'_>,
+    value: Value,
+) -> Result<Displaced, StepFault>
+    ensures leaves { Attempts result (added (view doc.old) (tokens_of path.entry) (view value))
+        (view doc.old) (view doc.new) }
+    ensures undo { IfOk result (λ was. undo_from (tokens_of path.entry) was
+        ≡ undo_add (view doc.old) (tokens_of path.entry)) }
+{
+    match path.split_back() {
+        Some((parent, last)) => edit_at(alloc, doc, parent.tokens(), last, Edit::Insert(value)),
+        None => Ok(Displaced::Former(mem::replace(doc, value))),
+    }
+}
+
+/// `remove` (section 4.2), with the value that stood there.
+pub(crate) fn remove(alloc: Global, doc: &mut Value, path: Pointer<'_>) -> Result<Value, StepFault>
+    ensures leaves { Attempts result (removed (view doc.old) (tokens_of path.entry))
+        (view doc.old) (view doc.new) }
+    ensures former { IfOk result (λ v. found (view doc.old) (tokens_of path.entry) ≡ Some (view v)) }
+    ensures in_place { AreUnescaped (tokens_of path.entry) → NeverShort result }
+{
+    let Some((parent, last)) = path.split_back() else {
+        return Err(StepFault::Refused(PatchErrorKind::InvalidPointer));
+    };
+    match edit_at(alloc, doc, parent.tokens(), last, Edit::Take)? {
+        Displaced::Former(value) => Ok(value),
+        _ => unreachable!(),
+    }
+}
+
+/// `replace` (section 4.3), with the value that stood there.
+pub(crate) fn replace(
+    alloc: Global,
+    doc: &mut Value,
+    path: Pointer<'_>,
+    value: Value,
+) -> Result<Value, StepFault>
+    ensures leaves { Attempts result (replaced (view doc.old) (tokens_of path.entry) (view value))
+        (view doc.old) (view doc.new) }
+    ensures former { IfOk result (λ v. found (view doc.old) (tokens_of path.entry) ≡ Some (view v)) }
+{
+    let Some((parent, last)) = path.split_back() else {
+        return Ok(mem::replace(doc, value));
+    };
+    match edit_at(alloc, doc, parent.tokens(), last, Edit::Swap(value))? {
+        Displaced::Former(former) => Ok(former),
+        _ => unreachable!(),
+    }
+}
+
+/// `move` (section 4.4). Where the place is refused or memory is short, the value is lost.
+fn move_value(
+    alloc: Global,
+    doc: &mut Value,
+    from: Pointer<'_>,
+    path: Pointer<'_>,
+) -> Result<(), StepFault>
+    ensures { Steps result
+        (stepped (view doc.old) (move_at (tokens_of from.entry) (tokens_of path.entry)))
+        (view doc.new) }
+{
+    let value = take_out(alloc, doc, from, path)?;
+    add(alloc, doc, path, value)?;
+    Ok(())
+}
+
+/// The value that a `move` takes out of the document.
+pub(crate) fn take_out(
+    alloc: Global,
+    doc: &mut Value,
+    from: Pointer<'_>,
+    path: Pointer<'_>,
+) -> Result<Value, StepFault>
+    ensures taken { IfOk result (TakesOut (view doc.old) (view doc.new)
+        (tokens_of from.entry) (tokens_of path.entry)) }
+    ensures refused { IfErr result (λ fault. Refuses fault
+        (stepped (view doc.old) (move_at (tokens_of from.entry) (tokens_of path.entry)))) }
+{
+    if is_inside(path, from) {
+        return Err(StepFault::Refused(PatchErrorKind::CannotMoveInsideItself));
+    }
+    match remove(alloc, doc, from) {
+        Ok(value) => Ok(value),
+        Err(StepFault::Refused(_)) => {
+            Err(StepFault::Refused(PatchErrorKind::InvalidFromPointer))
+        }
+        Err(fault) => Err(fault),
+    }
+}
+
+/// Whether something follows in `path` after all of `from`.
+fn is_inside(path: Pointer<'_>, from: Pointer<'_>) -> bool
+    ensures { IsTrue result ↔ IsProperPrefix (tokens_of from.entry) (tokens_of path.entry) }
+{
+    match path.strip_prefix(from) {
+        Some(rest) => !rest.is_root(),
+        None => false,
+    }
+}
+
+/// `copy` (section 4.5).
+pub(crate) fn copy_value(
+    alloc: Global,
+    doc: &mut Value,
+    from: Pointer<'_>,
+    path: Pointer<'_>,
+) -> Result<Displaced, StepFault>
+    ensures leaves { Steps result
+        (stepped (view doc.old) (copy_at (tokens_of from.entry) (tokens_of path.entry)))
+        (view doc.new) }
+    ensures unchanged { OnErr result (view doc.new ≡ view doc.old) }
+    ensures undo { IfOk result (λ was. undo_from (tokens_of path.entry) was
+        ≡ undo_add (view doc.old) (tokens_of path.entry)) }
+{
+    let Some(value) = find(alloc, doc, from.tokens())? else {
+        return Err(StepFault::Refused(PatchErrorKind::InvalidFromPointer));
+    };
+    let copy = value.clone()?;
+    add(alloc, doc, path, copy)
+}
+
+/// `test` (section 4.6).
+pub(crate) fn test(
+    alloc: Global,
+    doc: &Value,
+    path: Pointer<'_>,
+    value: &Value,
+) -> Result<(), StepFault>
+    ensures leaves { Steps result
+        (stepped (view doc.now) (test_at (tokens_of path.entry) (view value.now))) (view doc.now) }
+    ensures in_place { AreUnescaped (tokens_of path.entry) → NeverShort result }
+{
+    match find(alloc, doc, path.tokens())? {
+        Some(place) if same_values(place, value) => Ok(()),
+        Some(_) => Err(StepFault::Refused(PatchErrorKind::TestFailed)),
+        None => Err(StepFault::Refused(PatchErrorKind::InvalidPointer)),
+    }
+}

@@ -1,0 +1,249 @@
+//! One way down a value to a container, and one change there.
+
+ghost use Rattle.std.specs.Prelude.{◌≡◌, ◌∷◌, [], ℕ, ◌<◌, ◌≤◌, ◌^◌, Some, None, IfOk, IsOk, MatchResult, option_map, alloc_error};
+ghost use Rattle.std.specs.Cow.{cow_str_bytes};
+ghost use Rattle.serde_json.specs.Data.{array, object};
+ghost use Rattle.serde_json.specs.View.{view, items_view, members_view};
+ghost use Rattle.jsonptr.specs.Places.{place_of};
+ghost use Rattle.jsonptr.specs.Pointers.{token_of, tokens_left};
+ghost use Rattle.json_patch.specs.Attempt.{Attempts};
+ghost use Rattle.json_patch.specs.ChangeComputed.{altered, found, slot_in};
+ghost use Rattle.json_patch.specs.InPlace.{AreUnescaped, IsTake, IsUnescaped, NeverShort};
+ghost use Rattle.json_patch.specs.Edits.{made_by, Displaces, DisplacesAt};
+ghost use Rattle.json_patch.specs.declared.error.PatchErrorKind.TheVariants.{InvalidPointer};
+ghost use Rattle.json_patch.specs.declared.walk.StepFault.TheVariants.{Refused, Memory};
+
+use crate::error::PatchErrorKind;
+use jsonptr::{Token, Tokens};
+use serde_json::{Map, Value};
+use std::alloc::{AllocError, AllocFailed, Global};
+use std::borrow::CowStr;
+use std::mem;
+
+/// A change to one member or item of a container.
+#[derive(Drop)]
+pub(crate) enum Edit {
+    Insert(Value),
+    Take,
+    Swap(Value),
+}
+
+/// What an edit found at its place.
+#[derive(Drop)]
+pub(crate) enum Displaced {
+    /// No member of that name.
+    Nothing,
+    /// The items from this place on, which are one place later now.
+    LaterItems(usize),
+    /// The value that stood there, and no longer does.
+    Former(Value),
+}
+
+/// Why a step isn't made.
+#[derive(Drop)]
+pub(crate) enum StepFault {
+    Refused(PatchErrorKind),
+    Memory(AllocError),
+}
+
+impl From<PatchErrorKind> for StepFault {
+    ghost from_gives = { λ kind fault. fault ≡ Refused kind };
+
+    fn from(kind: PatchErrorKind) -> StepFault {
+        StepFault::Refused(kind)
+    }
+}
+
+impl<T: Drop> From<AllocFailed<T>> for StepFault {
+    ghost from_gives = { λ _ fault. fault ≡ Memory alloc_error };
+
+    fn from(_failed: AllocFailed<T>) -> StepFault {
+        StepFault::Memory(AllocError)
+    }
+}
+
+impl From<AllocError> for StepFault {
+    ghost from_gives = { λ error fault. fault ≡ Memory error };
+
+    fn from(error: AllocError) -> StepFault {
+        StepFault::Memory(error)
+    }
+}
+
+/// Makes the edit at the token `last` of the container to which the tokens of `parent` lead.
+pub(crate) fn edit_at(
+    alloc: Global,
+    target: &mut Value,
+    mut parent: Tokens<'_>,
+    last: Token<'_>,
+    edit: Edit,
+) -> Result<Displaced, StepFault>
+    ensures leaves { Attempts result
+        (altered (made_by edit (token_of last.entry)) (view target.old) (tokens_left parent.entry))
+        (view target.old) (view target.new) }
+    ensures displaces { IfOk result
+        (DisplacesAt edit (view target.old) (tokens_left parent.entry) (token_of last.entry)) }
+    ensures in_place { IsTake edit → AreUnescaped (tokens_left parent.entry)
+        → IsUnescaped (token_of last.entry) → NeverShort result }
+{
+    let Some(token) = parent.next() else {
+        return edit_in(alloc, target, last, edit);
+    };
+    match target {
+        Value::Object(members) => {
+            let name = name_of(alloc, token)?;
+            let Some(child) = members.get_mut(name.as_str()) else {
+                return Err(StepFault::Refused(PatchErrorKind::InvalidPointer));
+            };
+            edit_at(alloc, child, parent, last, edit)
+        }
+        Value::Array(items) => {
+            let index = item_index(token, items.len())?;
+            edit_at(alloc, &mut items[index], parent, last, edit)
+        }
+        _ => Err(StepFault::Refused(PatchErrorKind::InvalidPointer)),
+    }
+}
+
+/// Makes the edit in the container itself.
+fn edit_in(
+    alloc: Global,
+    container: &mut Value,
+    token: Token<'_>,
+    edit: Edit,
+) -> Result<Displaced, StepFault>
+    ensures leaves { Attempts result (made_by edit (token_of token.entry) (view container.old))
+        (view container.old) (view container.new) }
+    ensures displaces { IfOk result (Displaces edit (token_of token.entry) (view container.old)) }
+    ensures in_place { IsTake edit → IsUnescaped (token_of token.entry) → NeverShort result }
+{
+    match container {
+        Value::Object(members) => edit_members(alloc, members, token, edit),
+        Value::Array(items) => edit_items(items, token, edit),
+        _ => Err(StepFault::Refused(PatchErrorKind::InvalidPointer)),
+    }
+}
+
+fn edit_members(
+    alloc: Global,
+    members: &mut Map<String, Value>,
+    token: Token<'_>,
+    edit: Edit,
+) -> Result<Displaced, StepFault>
+    ensures leaves { Attempts result
+        (made_by edit (token_of token.entry) (object (members_view members.old.entries)))
+        (object (members_view members.old.entries)) (object (members_view members.new.entries)) }
+    ensures displaces { IfOk result
+        (Displaces edit (token_of token.entry) (object (members_view members.old.entries))) }
+    ensures in_place { IsTake edit → IsUnescaped (token_of token.entry) → NeverShort result }
+{
+    match edit {
+        Edit::Insert(value) => {
+            let name = token.decoded(alloc)?;
+            match members.insert(name, value)? {
+                Some(former) => Ok(Displaced::Former(former)),
+                None => Ok(Displaced::Nothing),
+            }
+        }
+        Edit::Take => {
+            let name = name_of(alloc, token)?;
+            match members.remove(name.as_str()) {
+                Some(former) => Ok(Displaced::Former(former)),
+                None => Err(StepFault::Refused(PatchErrorKind::InvalidPointer)),
+            }
+        }
+        Edit::Swap(value) => {
+            let name = name_of(alloc, token)?;
+            match members.get_mut(name.as_str()) {
+                Some(place) => Ok(Displaced::Former(mem::replace(place, value))),
+                None => Err(StepFault::Refused(PatchErrorKind::InvalidPointer)),
+            }
+        }
+    }
+}
+
+fn edit_items(items: &mut Vec<Value>, token: Token<'_>, edit: Edit) -> Result<Displaced, StepFault>
+    ensures leaves { Attempts result
+        (made_by edit (token_of token.entry) (array (items_view items.old.items)))
+        (array (items_view items.old.items)) (array (items_view items.new.items)) }
+    ensures displaces { IfOk result
+        (Displaces edit (token_of token.entry) (array (items_view items.old.items))) }
+    ensures in_place { IsTake edit → NeverShort result }
+{
+    match edit {
+        Edit::Insert(value) => {
+            let index = slot_index(token, items.len())?;
+            items.insert(index, value)?;
+            Ok(Displaced::LaterItems(index))
+        }
+        Edit::Take => {
+            let index = item_index(token, items.len())?;
+            Ok(Displaced::Former(items.remove(index)))
+        }
+        Edit::Swap(value) => {
+            let index = item_index(token, items.len())?;
+            Ok(Displaced::Former(mem::replace(&mut items[index], value)))
+        }
+    }
+}
+
+/// What stands where the tokens lead.
+pub(crate) fn find<'v>(
+    alloc: Global,
+    document: &'v Value,
+    mut tokens: Tokens<'_>,
+) -> Result<Option<&'v Value>, AllocError>
+    ensures found { IfOk result (λ place. option_map (λ v. view v.now) place
+        ≡ found (view document.now) (tokens_left tokens.entry)) }
+    ensures in_place { AreUnescaped (tokens_left tokens.entry) → IsOk result }
+{
+    let Some(token) = tokens.next() else {
+        return Ok(Some(document));
+    };
+    match document {
+        Value::Object(members) => {
+            let name = name_of(alloc, token)?;
+            match members.get(name.as_str()) {
+                Some(child) => find(alloc, child, tokens),
+                None => Ok(None),
+            }
+        }
+        Value::Array(items) => match item_index(token, items.len()) {
+            Ok(index) => find(alloc, &items[index], tokens),
+            Err(_) => Ok(None),
+        },
+        _ => Ok(None),
+    }
+}
+
+/// The member's name that a token stands for: its own text where that holds no escape.
+fn name_of<'a>(alloc: Global, token: Token<'a>) -> Result<CowStr<'a>, AllocError>
+    ensures name { IfOk result (λ name. cow_str_bytes name ≡ token_of token.entry) }
+    ensures in_place { IsUnescaped (token_of token.entry) → IsOk result }
+{
+    let text = token.encoded();
+    if token.is_key(text) {
+        Ok(CowStr::Borrowed(text))
+    } else {
+        Ok(CowStr::Owned(token.decoded(alloc)?))
+    }
+}
+
+/// The place of the item that a token names, among so many.
+fn item_index(token: Token<'_>, len: usize) -> Result<usize, PatchErrorKind>
+    ensures { MatchResult result
+        (λ i. (i < len) × (place_of (token_of token.entry) ≡ Some i))
+        (λ kind. (kind ≡ InvalidPointer)
+        × ((i : ℕ) → place_of (token_of token.entry) ≡ Some i → len ≤ i)) }
+{
+    Ok(token.to_index()?.for_len(len)?)
+}
+
+/// The place at which a token puts a new item, among so many: that of one, or the one after the last.
+fn slot_index(token: Token<'_>, len: usize) -> Result<usize, PatchErrorKind>
+    ensures { MatchResult result
+        (λ i. (i ≤ len) × (slot_in (token_of token.entry) len ≡ Some i))
+        (λ kind. (kind ≡ InvalidPointer) × (slot_in (token_of token.entry) len ≡ None)) }
+{
+    Ok(token.to_index()?.for_len_incl(len)?)
+}

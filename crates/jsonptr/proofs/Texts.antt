@@ -1,0 +1,478 @@
+-- The texts of pointers and their tokens.
+use Rattle.std.proofs.Common.{take_all, length-append, take-append-drop, ◌≡◌, ℕ, ◌+◌, ◌<◌, ◌≤◌, Bool, true, false, cond, eqb, List, [], ◌∷◌, ◌++◌, length, get_or, take, drop, refl, sym, ap, ◌∙◌, subst, inl, inr, ⊎_elim, append_assoc, append-nil, add-one, suc, zero, arith}
+use Rattle.std.specs.Prelude.{◌⊎◌}
+use Rattle.std.proofs.lemmas.Bool.{cases_eq, ne_eqb, eqb-false}
+use Rattle.std.specs.Prelude.{MatchOption, Option, Some, None, IfNone, Result, Ok, Err, OnErr}
+use Rattle.std.specs.List.{count_by}
+use Rattle.std.proofs.lemmas.Slice.Eq.{bytes_eq-Decides}
+use Rattle.std.proofs.Math.Utf8.{encode, encodes}
+use Rattle.std.proofs.lemmas.Str.{encodes-append}
+use Rattle.std.proofs.lemmas.List.{append_cancel_left}
+use Rattle.std.proofs.lemmas.List.Sums.{count_by-le-length}
+use Rattle.std.proofs.lemmas.List.Recursion.{is_count_by}
+use Rattle.std.specs.Str.{bytes_eq, NoCharPasses, IsCharBoundary}
+use Rattle.std.specs.Str.Pattern.{FindsChar, RFindsChar, SplitsAroundMatch, StripsPrefix, FindsTextPrefix}
+use Rattle.std.proofs.lemmas.Str.Pattern.{find_char, NoCharPasses-char, drop_at_char}
+use Rattle.jsonptr.specs.Faults.{IsBareTilde, BeginsWell, IsFault}
+use Rattle.jsonptr.specs.declared.error.ParseError.{ParseError}
+use Rattle.jsonptr.specs.declared.error.ParseError.TheVariants.{NoLeadingSlash, InvalidEncoding}
+use Rattle.jsonptr.specs.Text.{encoded_byte, encoded, text_of, IsPrefix, IsNoPointerText}
+use Rattle.jsonptr.specs.Scanning.{after_tilde, put, decoded, scan, scanned, tokens_of_text, ReadsBack, IsEncoded, Starts, NoSlash, StartsEscape, Escaped}
+
+pub if_none : {A : Type 0} {P : Type 0} (o : Option A) → P → IfNone o P
+if_none None p = p
+if_none (Some x) p = tt
+
+pub on_err : {A E P : Type 0} (r : Result A E) → P → OnErr r P
+on_err (Ok x) p = tt
+on_err (Err e) p = p
+
+-- ---- one byte: a byte is /, ~ or another
+
+by_byte : (P : ℕ → Type 0) → P 47 → P 126 → ((x : ℕ) → eqb x 47 ≡ false → eqb x 126 ≡ false → P x) → (x : ℕ) → P x
+by_byte P slash tilde other x =
+    ⊎_elim (λ e. subst P (sym e) slash)
+    (λ n. ⊎_elim (λ e. subst P (sym e) tilde) (λ m. other x (ne_eqb x 47 n) (ne_eqb x 126 m)) (cases_eq x 126))
+    (cases_eq x 47)
+
+by_escape : (P : ℕ → Type 0) → P 48 → P 49 → ((x : ℕ) → eqb x 49 ≡ false → eqb x 48 ≡ false → P x) → (x : ℕ) → P x
+by_escape P zero_ one other x =
+    ⊎_elim (λ e. subst P (sym e) zero_)
+    (λ n. ⊎_elim (λ e. subst P (sym e) one) (λ m. other x (ne_eqb x 49 m) (ne_eqb x 48 n)) (cases_eq x 49))
+    (cases_eq x 48)
+
+-- ---- the tokens of a text in two parts
+
+scanned-Starts : (r : List ℕ) → Starts r → (scanned r).0 ≡ []
+scanned-Starts [] h = refl
+scanned-Starts (x ∷ t) h = rw h refl
+
+pub scanned-append : (a r : List ℕ) → Starts r → scanned (a ++ r) ≡ ((scanned a).0, (scanned a).1 ++ (scanned r).1)
+scanned-append [] r h = let e : (scanned r).0 ≡ [] = scanned-Starts r h in ap (λ c. (c, (scanned r).1)) e
+scanned-append (x ∷ a) r h = rw (scanned-append a r h) (by_byte
+    (λ y. scan y ((scanned a).0, (scanned a).1 ++ (scanned r).1) ≡ ((scan y (scanned a)).0, (scan y (scanned a)).1 ++ (scanned r).1))
+    refl refl (λ y n m. rw (n, m) refl) x)
+
+pub tokens_of_text-append : (a r : List ℕ) → Starts r → tokens_of_text (a ++ r) ≡ tokens_of_text a ++ tokens_of_text r
+tokens_of_text-append a r h = ap (λ s. s.1) (scanned-append a r h)
+
+pub scanned-NoSlash : (e : List ℕ) → NoSlash e → scanned e ≡ (decoded e, [])
+scanned-NoSlash [] h = refl
+scanned-NoSlash (x ∷ e) h = rw (scanned-NoSlash e h.1, ne_eqb x 47 h.0) refl
+
+pub tokens_of_text-one : (e : List ℕ) → NoSlash e → tokens_of_text (47 ∷ e) ≡ decoded e ∷ []
+tokens_of_text-one e h = rw (scanned-NoSlash e h) refl
+
+-- ---- a text of tokens
+
+pub Starts-text_of : (P : List (List ℕ)) → Starts (text_of P)
+Starts-text_of [] = tt
+Starts-text_of (t ∷ P) = refl
+
+NoSlash-append : (a b : List ℕ) → NoSlash a → NoSlash b → NoSlash (a ++ b)
+NoSlash-append [] b h k = k
+NoSlash-append (x ∷ a) b h k = (h.0, NoSlash-append a b h.1 k)
+
+NoSlash-encoded_byte : (x : ℕ) → NoSlash (encoded_byte x)
+NoSlash-encoded_byte = by_byte (λ x. NoSlash (encoded_byte x))
+    (omega arith, (omega arith, tt)) (omega arith, (omega arith, tt))
+    (λ x n m. rw (n, m) (eqb-false x 47 n, tt))
+
+pub NoSlash-encoded : (t : List ℕ) → NoSlash (encoded t)
+NoSlash-encoded [] = tt
+NoSlash-encoded (x ∷ t) = NoSlash-append (encoded_byte x) (encoded t) (NoSlash-encoded_byte x) (NoSlash-encoded t)
+
+decoded-byte : (r : List ℕ) (x : ℕ) → decoded (encoded_byte x ++ r) ≡ x ∷ decoded r
+decoded-byte r = by_byte (λ x. decoded (encoded_byte x ++ r) ≡ x ∷ decoded r)
+    refl refl (λ x n m. rw (n, m, m) refl)
+
+pub decoded-encoded : (t : List ℕ) → decoded (encoded t) ≡ t
+decoded-encoded [] = refl
+decoded-encoded (x ∷ t) = decoded-byte (encoded t) x ∙ ap (λ r. x ∷ r) (decoded-encoded t)
+
+-- the tokens of a text give the text, and the text gives the tokens
+pub tokens_of_text-text_of : (P : List (List ℕ)) → tokens_of_text (text_of P) ≡ P
+tokens_of_text-text_of [] = refl
+tokens_of_text-text_of (t ∷ P) =
+    tokens_of_text-append (47 ∷ encoded t) (text_of P) (Starts-text_of P)
+    ∙ ap (λ a. a ++ tokens_of_text (text_of P)) (tokens_of_text-one (encoded t) (NoSlash-encoded t))
+    ∙ rw (decoded-encoded t, tokens_of_text-text_of P) refl
+
+pub text_of-append : (P Q : List (List ℕ)) → text_of (P ++ Q) ≡ text_of P ++ text_of Q
+text_of-append [] Q = refl
+text_of-append (t ∷ P) Q = rw (text_of-append P Q, append_assoc (encoded t) (text_of P) (text_of Q)) refl
+
+-- ---- a text with its escapes
+
+-- a text is what it was scanned to
+abbrev pub unscanned : List ℕ × List (List ℕ) → List ℕ
+unscanned s = encoded s.0 ++ text_of s.1
+
+unscanned-tilde : (t : List ℕ) → StartsEscape t → unscanned (scan 126 (scanned t)) ≡ 126 ∷ unscanned (scanned t)
+unscanned-tilde [] h = absurd h
+unscanned-tilde (y ∷ t) h = ⊎_elim (λ e. rw e refl) (λ e. rw e refl) h
+
+pub unscanned-scanned : (t : List ℕ) → Escaped t → unscanned (scanned t) ≡ t
+unscanned-scanned [] h = refl
+unscanned-scanned (x ∷ t) h =
+    let P : ℕ → Type 0 = λ y. (y ≡ 126 → StartsEscape t) → unscanned (scan y (scanned t)) ≡ y ∷ unscanned (scanned t) in
+    by_byte P (λ k. refl) (λ k. unscanned-tilde t (k refl)) (λ y n m k. rw (n, m, n, m) refl) x h.0
+    ∙ ap (λ r. x ∷ r) (unscanned-scanned t h.1)
+
+pub text_of-tokens_of_text : (t : List ℕ) → Starts t → Escaped t → text_of (tokens_of_text t) ≡ t
+text_of-tokens_of_text t s h =
+    (let e : (scanned t).0 ≡ [] = scanned-Starts t s in ap (λ c. encoded c ++ text_of (scanned t).1) (sym e)) ∙ unscanned-scanned t h
+
+pub encoded-decoded : (e : List ℕ) → NoSlash e → Escaped e → encoded (decoded e) ≡ e
+encoded-decoded e n h = rw (scanned-NoSlash e n, append-nil (encoded (decoded e))) at (unscanned-scanned e h)
+
+-- ---- escapes of a text in two parts
+
+StartsEscape-left : (a r : List ℕ) → Starts r → StartsEscape (a ++ r) → StartsEscape a
+StartsEscape-left [] [] s h = h
+StartsEscape-left [] (x ∷ r) s h = ⊎_elim (λ e. absurd (omega arith)) (λ e. absurd (omega arith)) h
+StartsEscape-left (y ∷ a) r s h = h
+
+pub Escaped-left : (a r : List ℕ) → Starts r → Escaped (a ++ r) → Escaped a
+Escaped-left [] r s h = tt
+Escaped-left (x ∷ a) r s h = (λ e. StartsEscape-left a r s (h.0 e), Escaped-left a r s h.1)
+
+pub Escaped-right : (a r : List ℕ) → Escaped (a ++ r) → Escaped r
+Escaped-right [] r h = h
+Escaped-right (x ∷ a) r h = Escaped-right a r h.1
+
+StartsEscape-more : (a r : List ℕ) → StartsEscape a → StartsEscape (a ++ r)
+StartsEscape-more [] r h = absurd h
+StartsEscape-more (y ∷ a) r h = h
+
+pub Escaped-append : (a r : List ℕ) → Escaped a → Escaped r → Escaped (a ++ r)
+Escaped-append [] r h k = k
+Escaped-append (x ∷ a) r h k = (λ e. StartsEscape-more a r (h.0 e), Escaped-append a r h.1 k)
+
+Escaped-encoded_byte : (x : ℕ) → Escaped (encoded_byte x)
+Escaped-encoded_byte = by_byte (λ x. Escaped (encoded_byte x))
+    (λ e. inr refl, (λ e. absurd (omega arith), tt)) (λ e. inl refl, (λ e. absurd (omega arith), tt))
+    (λ x n m. rw (n, m) (λ e. absurd (eqb-false x 126 m e), tt))
+
+pub Escaped-encoded : (t : List ℕ) → Escaped (encoded t)
+Escaped-encoded [] = tt
+Escaped-encoded (x ∷ t) = Escaped-append (encoded_byte x) (encoded t) (Escaped-encoded_byte x) (Escaped-encoded t)
+
+pub Escaped-text_of : (P : List (List ℕ)) → Escaped (text_of P)
+Escaped-text_of [] = tt
+Escaped-text_of (t ∷ P) = (λ e. absurd (omega arith), Escaped-append (encoded t) (text_of P) (Escaped-encoded t) (Escaped-text_of P))
+
+-- ---- the same by the index
+
+bare_at_next : (x k : ℕ) (t : List ℕ) → IsBareTilde t k → IsBareTilde (x ∷ t) (suc k)
+bare_at_next x k t h = rw (add-one (suc k)) (omega arith, h.1, rw (add-one k) at h.2, rw (add-one k) at h.3)
+
+StartsEscape-from : (t : List ℕ) → (get_or t 0 0 ≡ 48) ⊎ (get_or t 0 0 ≡ 49) → StartsEscape t
+StartsEscape-from [] h = ⊎_elim (λ e. absurd (omega arith)) (λ e. absurd (omega arith)) h
+StartsEscape-from (y ∷ t) h = h
+
+StartsEscape-reads : (t : List ℕ) → StartsEscape t → (get_or t 0 0 ≡ 48) ⊎ (get_or t 0 0 ≡ 49)
+StartsEscape-reads [] h = absurd h
+StartsEscape-reads (y ∷ t) h = h
+
+Escaped-from_none : (t : List ℕ) → ((k : ℕ) → k < length t → ¬ IsBareTilde t k) → Escaped t
+Escaped-from_none [] h = tt
+Escaped-from_none (x ∷ t) h = (
+  (λ e. StartsEscape-from t (⊎_elim inl (λ n. ⊎_elim inr (λ m. absurd (h 0 (omega arith) (omega arith, e, n, m))) (cases_eq (get_or t 0 0) 49)) (cases_eq (get_or t 0 0) 48))),
+  Escaped-from_none t (λ k l b. h (suc k) (omega arith) (bare_at_next x k t b)),
+)
+
+pub Escaped-not_bare : (t : List ℕ) (k : ℕ) → Escaped t → ¬ IsBareTilde t k
+Escaped-not_bare [] k h b = absurd (omega arith)
+Escaped-not_bare (x ∷ t) zero h b = ⊎_elim b.2 b.3 (StartsEscape-reads t (h.0 b.1))
+Escaped-not_bare (x ∷ t) (suc k) h b =
+    Escaped-not_bare t k h.1 (omega arith, b.1, rw (add-one k) (rw (add-one (suc k)) at b.2), rw (add-one k) (rw (add-one (suc k)) at b.3))
+
+pub Starts-from : (t : List ℕ) → BeginsWell t → Starts t
+Starts-from [] h = tt
+Starts-from (x ∷ t) h = h (omega arith)
+
+pub BeginsWell-from : (t : List ℕ) → Starts t → BeginsWell t
+BeginsWell-from [] h l = absurd (omega arith)
+BeginsWell-from (x ∷ t) h l = h
+
+pub text_of-none : (t : List ℕ) → BeginsWell t → ((k : ℕ) → k < length t → ¬ IsBareTilde t k) → text_of (tokens_of_text t) ≡ t
+text_of-none t b h = text_of-tokens_of_text t (Starts-from t b) (Escaped-from_none t h)
+
+-- the text of a list of tokens has no fault
+pub text_of-has_no_fault : (P : List (List ℕ)) (e : ParseError) → ¬ IsFault (text_of P) e
+text_of-has_no_fault P NoLeadingSlash f = f.1 (BeginsWell-from (text_of P) (Starts-text_of P) f.0)
+text_of-has_no_fault P (InvalidEncoding i) f = Escaped-not_bare (text_of P) i (Escaped-text_of P) f.1
+
+-- a text with a fault is no pointer's
+pub no_pointer : (t : List ℕ) (e : ParseError) → IsFault t e → IsNoPointerText t
+no_pointer t e f P is = text_of-has_no_fault P e (subst (λ s. IsFault s e) (sym is) f)
+
+-- ---- the parts of a pointer's text
+
+Escaped-from_ReadsBack : (t : List ℕ) → ReadsBack t → Escaped t
+Escaped-from_ReadsBack t v = subst Escaped v (Escaped-text_of (tokens_of_text t))
+
+Starts-from_ReadsBack : (t : List ℕ) → ReadsBack t → Starts t
+Starts-from_ReadsBack t v = subst Starts v (Starts-text_of (tokens_of_text t))
+
+Starts-left : (f r : List ℕ) → Starts (f ++ r) → Starts f
+Starts-left [] r h = tt
+Starts-left (x ∷ f) r h = h
+
+-- t is / and the token e, and then r
+pub record CutsFront (t e r : List ℕ) : Type 0 where
+  pub tokens : tokens_of_text t ≡ decoded e ∷ tokens_of_text r
+  pub first : IsEncoded e
+  pub rest : ReadsBack r
+
+pub cuts_front : (t e r : List ℕ) → ReadsBack t → t ≡ 47 ∷ (e ++ r) → NoSlash e → Starts r → CutsFront t e r
+cuts_front t e r v is n s =
+    let escaped : Escaped (47 ∷ (e ++ r)) = subst Escaped is (Escaped-from_ReadsBack t v) in
+    record {
+      tokens = ap tokens_of_text is ∙ tokens_of_text-append (47 ∷ e) r s ∙ ap (λ a. a ++ tokens_of_text r) (tokens_of_text-one e n);
+      first = encoded-decoded e n (Escaped-left e r s escaped.1);
+      rest = text_of-tokens_of_text r s (Escaped-right e r escaped.1);
+    }
+
+pub cuts_inner : (t inner e r : List ℕ) → ReadsBack t → t ≡ 47 ∷ inner → inner ≡ e ++ r → NoSlash e → Starts r → CutsFront t e r
+cuts_inner t inner e r v is parts n s = cuts_front t e r v (is ∙ ap (λ i. 47 ∷ i) parts) n s
+
+-- t is f, and then / and the token e
+pub record CutsBack (t f e : List ℕ) : Type 0 where
+  pub tokens : tokens_of_text t ≡ tokens_of_text f ++ decoded e ∷ []
+  pub front : ReadsBack f
+  pub last : IsEncoded e
+
+pub cuts_back : (t f e : List ℕ) → ReadsBack t → t ≡ f ++ 47 ∷ e → NoSlash e → CutsBack t f e
+cuts_back t f e v is n =
+    let escaped : Escaped (f ++ 47 ∷ e) = subst Escaped is (Escaped-from_ReadsBack t v) in
+    let starts : Starts (f ++ 47 ∷ e) = subst Starts is (Starts-from_ReadsBack t v) in
+    let right : Escaped (47 ∷ e) = Escaped-right f (47 ∷ e) escaped in
+    record {
+      tokens = ap tokens_of_text is ∙ tokens_of_text-append f (47 ∷ e) refl ∙ ap (λ a. tokens_of_text f ++ a) (tokens_of_text-one e n);
+      front = text_of-tokens_of_text f (Starts-left f (47 ∷ e) starts) (Escaped-left f (47 ∷ e) refl escaped);
+      last = encoded-decoded e n right.1;
+    }
+
+-- ---- by the index
+
+NoSlash-from : (t : List ℕ) → ((i : ℕ) → i < length t → get_or t i 0 ≡ 47 → ⊥) → NoSlash t
+NoSlash-from [] h = tt
+NoSlash-from (x ∷ t) h = (h 0 (omega arith), NoSlash-from t (λ i l. h (suc i) (omega arith)))
+
+NoSlash-take : (k : ℕ) (t : List ℕ) → ((i : ℕ) → i < k → get_or t i 0 ≡ 47 → ⊥) → NoSlash (take k t)
+NoSlash-take zero t h = tt
+NoSlash-take (suc k) [] h = tt
+NoSlash-take (suc k) (x ∷ t) h = (h 0 (omega arith), NoSlash-take k t (λ i l. h (suc i) (omega arith)))
+
+Starts-drop : (k : ℕ) (t : List ℕ) → get_or t k 0 ≡ 47 → Starts (drop k t)
+Starts-drop zero [] h = tt
+Starts-drop zero (x ∷ t) h = h
+Starts-drop (suc k) [] h = tt
+Starts-drop (suc k) (x ∷ t) h = Starts-drop k t h
+
+-- what `find` says of a /
+pub find_cuts : (t : List ℕ) (k : ℕ) → MatchOption (Some k) (FindsChar 47 t None) (λ i. (j : ℕ) × FindsChar 47 t (Some (i, j)) × (i ≤ j) × IsCharBoundary t i × IsCharBoundary t j) → NoSlash (take k t) × Starts (drop k t)
+find_cuts t k h = let f = find_char 47 t (Some k) h (omega arith) in (NoSlash-take k t f.2, Starts-drop k t f.1)
+
+pub find_none : (t : List ℕ) → FindsChar 47 t None → NoSlash t
+find_none t h = NoSlash-from t (λ i l. NoCharPasses-char 47 t i h (omega arith) l)
+
+-- what `rsplit_once` says of a /
+pub rsplit_cuts : (t f e : List ℕ) → SplitsAroundMatch (RFindsChar 47) t f e → (t ≡ f ++ 47 ∷ e) × NoSlash e
+rsplit_cuts t f e (i, j, finds, front, back, le, flen, blen) = (
+  sym (take-append-drop i t) ∙ ap (λ a. a ++ drop i t) (sym front) ∙ ap (λ a. f ++ a) (drop_at_char 47 t i j finds.1 (omega arith) ∙ ap (λ a. 47 ∷ a) (sym back)),
+  NoSlash-from e (λ k l. NoCharPasses-char 47 e k (subst (NoCharPasses (λ d. eqb d 47)) (sym back) finds.0) (omega arith) l),
+)
+
+pub tokens_none : (t : List ℕ) → NoSlash t → tokens_of_text t ≡ []
+tokens_none t n = ap (λ s. s.1) (scanned-NoSlash t n)
+
+-- the pointer whose text is empty is the one with no tokens
+pub tokens_from_no_slash : (t : List ℕ) → ReadsBack t → ((rest : List ℕ) → t ≡ 47 ∷ rest → ⊥) → tokens_of_text t ≡ []
+tokens_from_no_slash [] v h = refl
+tokens_from_no_slash (x ∷ t) v h = absurd (h t (ap (λ y. y ∷ t) (Starts-from_ReadsBack (x ∷ t) v)))
+
+pub rsplit_back : (t f e : List ℕ) → ReadsBack t → SplitsAroundMatch (RFindsChar 47) t f e → CutsBack t f e
+rsplit_back t f e v h = let k = rsplit_cuts t f e h in cuts_back t f e v k.0 k.1
+
+tokens-other : (y : ℕ) (t : List ℕ) → eqb y 47 ≡ false → tokens_of_text (y ∷ t) ≡ tokens_of_text t
+tokens-other y t n = rw (n, tokens_of_text) refl
+
+pub length-tokens : (t : List ℕ) → length (tokens_of_text t) ≡ count_by (λ x. eqb x 47) t
+length-tokens = is_count_by (λ t. length (tokens_of_text t)) (λ x. eqb x 47) refl
+    (λ x t. by_byte (λ y. length (tokens_of_text (y ∷ t)) ≡ cond (eqb y 47) (1 + length (tokens_of_text t)) (length (tokens_of_text t)))
+    (omega arith) refl (λ y n m. ap length (tokens-other y t n) ∙ rw n refl) x)
+
+-- ---- prefixes
+
+pub prefix_text : (s p : List ℕ) (R : List (List ℕ)) → ReadsBack s → ReadsBack p → tokens_of_text s ≡ tokens_of_text p ++ R → s ≡ p ++ text_of R
+prefix_text s p R v w e = sym v ∙ ap text_of e ∙ text_of-append (tokens_of_text p) R ∙ ap (λ a. a ++ text_of R) w
+
+pub strips_text : (s p x : List ℕ) → StripsPrefix (FindsTextPrefix p) s x → s ≡ p ++ x
+strips_text s p x (n, finds, is, fits) = finds.1 ∙ ap (λ a. p ++ a) (sym is)
+
+pub rest-ReadsBack : (s p x : List ℕ) → ReadsBack s → s ≡ p ++ x → Starts x → ReadsBack x
+rest-ReadsBack s p x v e h = text_of-tokens_of_text x h (Escaped-right p x (subst Escaped e (Escaped-from_ReadsBack s v)))
+
+pub tokens-rest : (s p x : List ℕ) → s ≡ p ++ x → Starts x → tokens_of_text s ≡ tokens_of_text p ++ tokens_of_text x
+tokens-rest s p x e h = ap tokens_of_text e ∙ tokens_of_text-append p x h
+
+-- where s goes on after p with another byte than /, the tokens of p do not begin those of s
+pub not_prefix : (s p x : List ℕ) → ReadsBack s → ReadsBack p → s ≡ p ++ x → (Starts x → ⊥) → IsPrefix (tokens_of_text p) (tokens_of_text s) → ⊥
+not_prefix s p x v w e h (R, is) =
+    h (subst Starts (append_cancel_left p (text_of R) x (sym (prefix_text s p R v w is) ∙ e)) (Starts-text_of R))
+
+pub length-tokens-le : (t : List ℕ) → length (tokens_of_text t) ≤ length t
+length-tokens-le t = omega (arith, length-tokens t, count_by-le-length (λ x. eqb x 47) t)
+
+-- ---- an encoded token
+
+pub Escaped-from_IsEncoded : (e : List ℕ) → IsEncoded e → Escaped e
+Escaped-from_IsEncoded e v = subst Escaped v (Escaped-encoded (decoded e))
+
+pub escape_missing : (t : List ℕ) → StartsEscape t → ((rest : List ℕ) → t ≡ 48 ∷ rest → ⊥) → ((rest : List ℕ) → t ≡ 49 ∷ rest → ⊥) → ⊥
+escape_missing [] s h k = s
+escape_missing (y ∷ t) s h k = ⊎_elim (λ e. h t (ap (λ x. x ∷ t) e)) (λ e. k t (ap (λ x. x ∷ t) e)) s
+
+abbrev pub NoTilde : List ℕ → Type 0
+NoTilde [] = Unit {0}
+NoTilde (x ∷ t) = (x ≡ 126 → ⊥) × NoTilde t
+
+pub NoTilde-from : (t : List ℕ) → ((i : ℕ) → i < length t → get_or t i 0 ≡ 126 → ⊥) → NoTilde t
+NoTilde-from [] h = tt
+NoTilde-from (x ∷ t) h = (h 0 (omega arith), NoTilde-from t (λ i l. h (suc i) (omega arith)))
+
+pub decoded-plain : (a r : List ℕ) → NoTilde a → decoded (a ++ r) ≡ a ++ decoded r
+decoded-plain [] r h = refl
+decoded-plain (x ∷ a) r h = rw (decoded-plain a r h.1, ne_eqb x 126 h.0) refl
+
+pub decoded-NoTilde : (a : List ℕ) → NoTilde a → decoded a ≡ a
+decoded-NoTilde [] h = refl
+decoded-NoTilde (x ∷ a) h = rw (decoded-NoTilde a h.1, ne_eqb x 126 h.0) refl
+
+pub tilde_none : (t : List ℕ) → FindsChar 126 t None → NoTilde t
+tilde_none t h = NoTilde-from t (λ i l. NoCharPasses-char 126 t i h (omega arith) l)
+
+-- what `split_once` says of a ~
+pub record CutsTilde (t plain after : List ℕ) : Type 0 where
+  pub whole : t ≡ plain ++ 126 ∷ after
+  pub none : NoTilde plain
+
+pub tilde_cuts : (t plain after : List ℕ) → SplitsAroundMatch (FindsChar 126) t plain after → CutsTilde t plain after
+tilde_cuts t f e (i, j, finds, front, back, le, flen, blen) = record {
+  whole = sym (take-append-drop i t) ∙ ap (λ a. a ++ drop i t) (sym front) ∙ ap (λ a. f ++ a) (drop_at_char 126 t i j finds.1 (omega arith) ∙ ap (λ a. 126 ∷ a) (sym back));
+  none = NoTilde-from f (λ k l. NoCharPasses-char 126 f k (subst (NoCharPasses (λ d. eqb d 126)) (sym front) finds.0) (omega arith) l);
+}
+
+put-other : (x : ℕ) (t : List ℕ) → eqb x 126 ≡ false → put x t ≡ x ∷ t
+put-other x t m = rw (m, put) refl
+
+after_tilde-other : (y : ℕ) (t : List ℕ) → eqb y 49 ≡ false → eqb y 48 ≡ false → after_tilde (y ∷ t) ≡ 126 ∷ y ∷ t
+after_tilde-other y t n m = rw (n, m, after_tilde) refl
+
+after_tilde_nonempty : (t : List ℕ) → length (after_tilde t) ≡ 0 → ⊥
+after_tilde_nonempty [] = λ h. omega arith
+after_tilde_nonempty (y ∷ t) = by_escape (λ y. length (after_tilde (y ∷ t)) ≡ 0 → ⊥) (λ h. omega arith) (λ h. omega arith)
+    (λ x n m. subst (λ l. length l ≡ 0 → ⊥) (sym (after_tilde-other x t n m)) (λ h. omega arith)) y
+
+put_nonempty : (x : ℕ) (t : List ℕ) → length (put x t) ≡ 0 → ⊥
+put_nonempty x t = by_byte (λ x. length (put x t) ≡ 0 → ⊥) (λ h. omega arith) (after_tilde_nonempty t)
+    (λ x n m. subst (λ l. length l ≡ 0 → ⊥) (sym (put-other x t m)) (λ h. omega arith)) x
+
+empty_text : (t : List ℕ) → length t ≡ 0 → t ≡ []
+empty_text [] h = refl
+empty_text (x ∷ t) h = absurd (omega arith)
+
+pub decoded_nonempty : (t : List ℕ) → length (decoded t) ≡ 0 → length t ≡ 0
+decoded_nonempty [] h = refl
+decoded_nonempty (x ∷ t) h = absurd (put_nonempty x (decoded t) h)
+
+-- the key was read to its end
+pub is_key_all : (key rest d : List ℕ) (i : ℕ) → length key ≤ i → d ≡ take i key ++ decoded rest → (length rest ≡ 0 → d ≡ key) × (d ≡ key → length rest ≡ 0)
+is_key_all key rest d i l e = (
+  (λ z. e ∙ rw (take_all i key l, empty_text rest z) (append-nil key)),
+  (λ same. decoded_nonempty rest (omega (arith, length-append key (decoded rest), ap length (sym same ∙ e ∙ ap (λ k. k ++ decoded rest) (take_all i key l))))),
+)
+
+unescapes : (after others : List ℕ) (r : ℕ) → StartsEscape after → (x : ℕ) × (after ≡ x ∷ others) → after_tilde after ≡ r ∷ others → decoded (126 ∷ after) ≡ r ∷ decoded others
+unescapes [] others r s h gives = absurd s
+unescapes (y ∷ t) others r s (x, is) gives =
+    ⊎_elim (λ e. let g = rw e at gives in rw e (cc g)) (λ e. let g = rw e at gives in rw e (cc g)) s
+
+pub escaped_after : (rest plain after : List ℕ) → Escaped rest → CutsTilde rest plain after → StartsEscape after × Escaped after
+escaped_after rest plain after h cuts =
+    let both : Escaped (126 ∷ after) = Escaped-right plain (126 ∷ after) (subst Escaped cuts.whole h) in
+    (both.0 refl, both.1)
+
+pub Escaped-others : (x : ℕ) (after others : List ℕ) → after ≡ x ∷ others → Escaped after → Escaped others
+Escaped-others x after others is h = let k : Escaped (x ∷ others) = subst Escaped is h in k.1
+
+pub decoded_step : (rest plain after others : List ℕ) (r : ℕ) → Escaped rest → CutsTilde rest plain after → (x : ℕ) × (after ≡ x ∷ others) → after_tilde after ≡ r ∷ others → decoded rest ≡ plain ++ r ∷ decoded others
+decoded_step rest plain after others r h cuts is gives =
+    ap decoded cuts.whole ∙ decoded-plain plain (126 ∷ after) cuts.none ∙ ap (λ a. plain ++ a) (unescapes after others r (escaped_after rest plain after h cuts).0 is gives)
+
+encoded_byte-other : (x : ℕ) → eqb x 47 ≡ false → eqb x 126 ≡ false → encoded_byte x ≡ x ∷ []
+encoded_byte-other x n m = rw (n, m, encoded_byte) refl
+
+-- a digit stands as it is
+pub encoded-digit : (x : ℕ) → 48 ≤ x → x ≤ 57 → encoded_byte x ≡ x ∷ []
+encoded-digit x l h = encoded_byte-other x (ne_eqb x 47 (λ e. omega arith)) (ne_eqb x 126 (λ e. omega arith))
+
+-- pieces pushed one after another
+pub pushed : (d o p q tail s1 s2 e : List ℕ) (r : ℕ) → d ≡ o ++ q → q ≡ p ++ r ∷ tail → s1 ≡ o ++ p → s2 ≡ s1 ++ e → e ≡ r ∷ [] → d ≡ s2 ++ tail
+pushed d o p q tail s1 s2 e r a b c f g = rw (a, b, f, c, g) (simp append_assoc)
+
+-- ---- the encoded text of characters
+
+pub encoded-append : (a b : List ℕ) → encoded (a ++ b) ≡ encoded a ++ encoded b
+encoded-append [] b = refl
+encoded-append (x ∷ a) b = ap (λ r. encoded_byte x ++ r) (encoded-append a b) ∙ sym (append_assoc (encoded_byte x) (encoded a) (encoded b))
+
+encoded-plain : (t : List ℕ) → NoSlash t → NoTilde t → encoded t ≡ t
+encoded-plain [] h k = refl
+encoded-plain (x ∷ t) h k = rw (encoded_byte-other x (ne_eqb x 47 h.0) (ne_eqb x 126 k.0)) (ap (λ r. x ∷ r) (encoded-plain t h.1 k.1))
+
+char_lacks : (c d : ℕ) → (c ≡ d → ⊥) → NoCharPasses (λ x. eqb x d) (encode c)
+char_lacks c d n = (c ∷ [], append-nil (encode c), (ne_eqb c d n, tt))
+
+pub encoded-char : (c : ℕ) → (c ≡ 126 → ⊥) → (c ≡ 47 → ⊥) → encoded (encode c) ≡ encode c
+encoded-char c n m = encoded-plain (encode c)
+    (NoSlash-from (encode c) (λ i l. NoCharPasses-char 47 (encode c) i (char_lacks c 47 m) (omega arith) l))
+    (NoTilde-from (encode c) (λ i l. NoCharPasses-char 126 (encode c) i (char_lacks c 126 n) (omega arith) l))
+
+encodes_push : (cs : List ℕ) (c : ℕ) → encodes (cs ++ c ∷ []) ≡ encodes cs ++ encode c
+encodes_push cs c = encodes-append cs (c ∷ []) ∙ ap (λ r. encodes cs ++ r) (append-nil (encode c))
+
+-- one more character was encoded
+pub encoded_push : (cs : List ℕ) (c : ℕ) → encoded (encodes (cs ++ c ∷ [])) ≡ encoded (encodes cs) ++ encoded (encode c)
+encoded_push cs c = ap encoded (encodes_push cs c) ∙ encoded-append (encodes cs) (encode c)
+
+-- one more piece was written after /
+pub written : (before out out' e p e' : List ℕ) → out ≡ before ++ 47 ∷ e → out' ≡ out ++ p → e' ≡ e ++ p → out' ≡ before ++ 47 ∷ e'
+written before out out' e p e' a b c = b ∙ ap (λ o. o ++ p) a ∙ append_assoc before (47 ∷ e) p ∙ ap (λ r. before ++ 47 ∷ r) (sym c)
+
+-- ---- a token at the end
+
+Starts-append : (a r : List ℕ) → Starts a → Starts r → Starts (a ++ r)
+Starts-append [] r h k = k
+Starts-append (x ∷ a) r h k = h
+
+pub push_valid : (t raw : List ℕ) → ReadsBack t → ReadsBack (t ++ 47 ∷ encoded raw)
+push_valid t raw v = text_of-tokens_of_text (t ++ 47 ∷ encoded raw)
+    (Starts-append t (47 ∷ encoded raw) (Starts-from_ReadsBack t v) refl)
+    (Escaped-append t (47 ∷ encoded raw) (Escaped-from_ReadsBack t v) (λ e. absurd (omega arith), Escaped-encoded raw))
+
+pub push_tokens : (t raw : List ℕ) → tokens_of_text (t ++ 47 ∷ encoded raw) ≡ tokens_of_text t ++ raw ∷ []
+push_tokens t raw = tokens_of_text-append t (47 ∷ encoded raw) refl
+    ∙ ap (λ a. tokens_of_text t ++ a) (tokens_of_text-one (encoded raw) (NoSlash-encoded raw) ∙ ap (λ d. d ∷ []) (decoded-encoded raw))
+
+-- a text has one list of tokens
+pub text_of-injective : (P Q : List (List ℕ)) → text_of P ≡ text_of Q → P ≡ Q
+text_of-injective P Q e = sym (tokens_of_text-text_of P) ∙ ap tokens_of_text e ∙ tokens_of_text-text_of Q
+
+pub same_tokens : (P Q : List (List ℕ)) (r : Bool) → r ≡ bytes_eq (text_of P) (text_of Q) → (r ≡ true → P ≡ Q) × (P ≡ Q → r ≡ true)
+same_tokens P Q r e =
+    let d = bytes_eq-Decides (text_of P) (text_of Q) in
+    ((λ h. text_of-injective P Q (d.0 (sym e ∙ h))), (λ h. e ∙ d.1 (ap text_of h)))

@@ -1,0 +1,42 @@
+-- Pointers and their texts (RFC 6901, section 3). A text is a list of bytes in UTF-8: 47 is the
+-- slash, 126 the tilde, 48 and 49 are `0` and `1`. No byte of a longer character is one of these.
+use Rattle.std.specs.Prelude.{◌≡◌, ◌≢◌, ℕ, List, [], ◌∷◌, ◌++◌, ◌==◌, if◌then◌else◌}
+
+-- a pointer: its tokens, each the text that it stands for
+abbrev pub Pointer : Type 0
+Pointer = List (List ℕ)
+
+-- a byte of a token as it stands in a pointer's text: ~ is written ~0, and / is written ~1
+abbrev pub encoded_byte : ℕ → List ℕ
+encoded_byte x = if x == 126 then 126 ∷ 48 ∷ [] else (if x == 47 then 126 ∷ 49 ∷ [] else x ∷ [])
+
+-- a token as it stands in a pointer's text
+abbrev pub encoded : List ℕ → List ℕ
+encoded [] = []
+encoded (x ∷ t) = encoded_byte x ++ encoded t
+
+-- the text of a pointer: for each token / and the encoded token
+abbrev pub text_of : List (List ℕ) → List ℕ
+text_of [] = []
+text_of (t ∷ P) = 47 ∷ (encoded t ++ text_of P)
+
+-- t is the text of a pointer
+abbrev pub IsPointerText : List ℕ → Type 0
+IsPointerText t = (P : Pointer) × (text_of P ≡ t)
+
+-- t is the text of no pointer
+abbrev pub IsNoPointerText : List ℕ → Type 0
+IsNoPointerText t = (P : Pointer) → text_of P ≢ t
+
+-- the tokens of P begin those of Q
+abbrev pub IsPrefix : Pointer → Pointer → Type 0
+IsPrefix P Q = (R : Pointer) × (Q ≡ P ++ R)
+
+-- the tokens of P begin those of Q, and at least one follows
+abbrev pub IsProperPrefix : Pointer → Pointer → Type 0
+IsProperPrefix P Q = (t : List ℕ) × (R : Pointer) × (Q ≡ P ++ t ∷ R)
+
+-- Q is P with t in place of its last token
+abbrev pub ReplacesLast : Pointer → List ℕ → Pointer → Type 0
+ReplacesLast P t Q =
+    (front : Pointer) (last : List ℕ) → P ≡ front ++ last ∷ [] → Q ≡ front ++ t ∷ []

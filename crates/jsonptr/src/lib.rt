@@ -1,0 +1,20 @@
+//! JSON pointers (RFC 6901): a pointer is a list of tokens, and each call answers by that list.
+//!
+//! A text is a pointer's where it is empty or a sequence of parts, each a slash and an encoded
+//! token. In an encoded token `~1` stands for a slash and `~0` for a tilde, and a tilde stands
+//! nowhere else. The text and the list of decoded tokens determine each other.
+#![tactic(auto)]
+
+mod buf;
+mod error;
+pub mod index;
+mod pointer;
+mod token;
+
+pub use buf::PointerBuf;
+pub use error::{ParseError, PointerFault};
+pub use pointer::Pointer;
+pub use token::{Token, Tokens};
+
+#[cfg(test)]
+mod tests;

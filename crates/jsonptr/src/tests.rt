@@ -1,0 +1,288 @@
+use crate::index::{Index, OutOfBoundsError, ParseIndexError};
+use crate::{ParseError, Pointer, PointerBuf, PointerFault};
+use std::alloc::{AllocError, Global};
+use std::test::Fail;
+
+/// The decoded tokens, each with a semicolon after it.
+fn decoded_tokens(alloc: Global, pointer: Pointer) -> Result<String, AllocError> {
+    let mut out = String::new(alloc);
+    for token in pointer.tokens() {
+        out.push_str(token.decoded(alloc)?.as_str())?;
+        out.push(';')?;
+    }
+    Ok(out)
+}
+
+#[test]
+fn pointers_have_their_tokens(rt: HostRuntime) -> Result<(), Fail> {
+    let cases = [
+        ("", ""),
+        ("/", ";"),
+        ("/a/", "a;;"),
+        ("/a~1b/m~0n", "a/b;m~n;"),
+        ("/~01", "~1;"),
+        ("/a//~1", "a;;/;"),
+        ("/é~1/漢", "é/;漢;"),
+    ];
+    for (text, tokens) in cases {
+        let shown = decoded_tokens(rt.alloc(), Pointer::parse(text)?)?;
+        assert_eq!(rt; shown.as_str(), tokens, "the tokens of {text}");
+    }
+    Ok(())
+}
+
+#[test]
+fn pointers_keep_their_texts(rt: HostRuntime) -> Result<(), Fail> {
+    let alloc = rt.alloc();
+    for text in ["", "/", "/a/", "/a~1b/m~0n", "/~01", "/a//~1", "/é~1/漢"] {
+        let pointer = Pointer::parse(text)?;
+        assert_eq!(rt; pointer.as_str(), text);
+        assert_eq!(rt; pointer.len(), text.len(), "the length of {text}");
+        assert_eq!(rt; pointer.is_root(), text == "", "whether {text} is the root");
+        assert_eq!(rt; pointer.to_string(alloc)?.as_str(), text);
+
+        let owned = PointerBuf::parse(alloc, text)?;
+        assert_eq!(rt; owned.as_str(), text);
+        assert_eq!(rt; owned.to_string(alloc)?.as_str(), text);
+        assert_eq!(rt; pointer.to_buf(alloc)?.as_str(), text);
+        assert_eq!(rt; owned.clone(alloc)?.as_str(), text);
+        assert!(rt; owned.as_pointer() == pointer, "the pointer lent by {text}");
+    }
+    Ok(())
+}
+
+#[test]
+fn other_texts_have_their_fault(rt: HostRuntime) -> Result<(), Fail> {
+    let alloc = rt.alloc();
+    let cases = [
+        ("a", "NoLeadingSlash"),
+        ("a~", "NoLeadingSlash"),
+        ("/~2", "InvalidEncoding { offset: 1 }"),
+        ("/ab~", "InvalidEncoding { offset: 3 }"),
+        ("/~0~/x", "InvalidEncoding { offset: 3 }"),
+        ("/é~", "InvalidEncoding { offset: 3 }"),
+        ("/~~0", "InvalidEncoding { offset: 1 }"),
+    ];
+    for (text, fault) in cases {
+        let Some(error) = Pointer::parse(text).err() else {
+            return Err(Fail::new("a pointer was parsed"));
+        };
+        assert_eq!(rt;
+            format!(in alloc; "{error:?}")?.as_str(),
+            fault,
+            "parsing {text}"
+        );
+        match PointerBuf::parse(alloc, text) {
+            Err(PointerFault::Parse(error)) => {
+                assert_eq!(rt;
+                    format!(in alloc; "{error:?}")?.as_str(),
+                    fault,
+                    "parsing {text}"
+                );
+            }
+            _ => return Err(Fail::new("a text without a fault")),
+        }
+    }
+    Ok(())
+}
+
+#[test]
+fn texts_name_indexes(rt: HostRuntime) -> Result<(), Fail> {
+    let cases = [
+        ("0", "Ok(Num(0))"),
+        ("10", "Ok(Num(10))"),
+        ("-", "Ok(Next)"),
+        ("18446744073709551615", "Ok(Num(18446744073709551615))"),
+        ("18446744073709551616", "Err(InvalidInteger)"),
+        ("", "Err(InvalidInteger)"),
+        ("00", "Err(LeadingZeros)"),
+        ("01", "Err(LeadingZeros)"),
+        ("0a", "Err(LeadingZeros)"),
+        ("1a", "Err(InvalidCharacter { offset: 1 })"),
+        ("-1", "Err(InvalidCharacter { offset: 0 })"),
+        ("+1", "Err(InvalidCharacter { offset: 0 })"),
+        ("1é", "Err(InvalidCharacter { offset: 1 })"),
+    ];
+    for (text, answer) in cases {
+        let index = Index::parse(text);
+        assert_eq!(rt;
+            format!(in rt.alloc(); "{index:?}")?.as_str(),
+            answer,
+            "the index {text}"
+        );
+        let pointer = PointerBuf::parse(rt.alloc(), format!(in rt.alloc(); "/{text}")?.as_str())?;
+        let (_, token) = pointer.as_pointer().split_back().ok_or("the root")?;
+        let index = token.to_index();
+        assert_eq!(rt;
+            format!(in rt.alloc(); "{index:?}")?.as_str(),
+            answer,
+            "the token {text}"
+        );
+    }
+    let (_, escaped) = Pointer::parse("/1~1")?.split_back().ok_or("the root")?;
+    let index = escaped.to_index();
+    assert_eq!(rt;
+        format!(in rt.alloc(); "{index:?}")?.as_str(),
+        "Err(InvalidCharacter { offset: 1 })"
+    );
+    Ok(())
+}
+
+#[test]
+fn indexes_lie_in_lists(rt: HostRuntime) -> Result<(), Fail> {
+    let outside = "Err(OutOfBoundsError { length: 2, index: 2 })";
+    let cases = [
+        (Index::Num(1), "Ok(1)", "Ok(1)"),
+        (Index::Num(2), outside, "Ok(2)"),
+        (
+            Index::Num(3),
+            "Err(OutOfBoundsError { length: 2, index: 3 })",
+            "Err(OutOfBoundsError { length: 2, index: 3 })",
+        ),
+        (Index::Next, outside, "Ok(2)"),
+    ];
+    for (index, within, incl) in cases {
+        let place = index.for_len(2);
+        assert_eq!(rt;
+            format!(in rt.alloc(); "{place:?}")?.as_str(),
+            within,
+            "{index:?} in 2"
+        );
+        let place = index.for_len_incl(2);
+        assert_eq!(rt;
+            format!(in rt.alloc(); "{place:?}")?.as_str(),
+            incl,
+            "{index:?} to 2"
+        );
+    }
+    Ok(())
+}
+
+#[test]
+fn prefixes_go_by_tokens(rt: HostRuntime) -> Result<(), Fail> {
+    let cases = [
+        ("/ab", "/a", None),
+        ("/a/b", "/a", Some("/b")),
+        ("/a", "/a", Some("")),
+        ("", "", Some("")),
+        ("/", "", Some("/")),
+        ("/a/b", "", Some("/a/b")),
+        ("", "/", None),
+        ("/a/b", "/a/", None),
+        ("/~1", "/~0", None),
+        ("/", "//", None),
+        ("/", "/a", None),
+        ("/a", "/ab", None),
+    ];
+    for (text, prefix, rest) in cases {
+        let pointer = Pointer::parse(text)?;
+        let prefix = Pointer::parse(prefix)?;
+        assert_eq!(rt;
+            pointer.starts_with(prefix),
+            rest.is_some(),
+            "{text} after {prefix}"
+        );
+        let left = pointer.strip_prefix(prefix).map(|left| left.as_str());
+        assert_eq!(rt; left, rest, "{text} after {prefix}");
+    }
+    Ok(())
+}
+
+#[test]
+fn the_last_token_splits_off(rt: HostRuntime) -> Result<(), Fail> {
+    for (text, front, last) in [("/a/b", "/a", "b"), ("/", "", ""), ("/a~1b", "", "a~1b")] {
+        let (pointer, token) = Pointer::parse(text)?.split_back().ok_or("the root")?;
+        assert_eq!(rt; pointer.as_str(), front, "the front of {text}");
+        assert_eq!(rt; token.encoded(), last, "the last token of {text}");
+    }
+    assert!(rt; Pointer::root().split_back().is_none());
+    Ok(())
+}
+
+#[test]
+fn tokens_compare_decoded(rt: HostRuntime) -> Result<(), Fail> {
+    let cases = [
+        ("/a~1b", "a/b", true),
+        ("/a~1b", "a~1b", false),
+        ("/~01", "~1", true),
+        ("/~01", "/", false),
+        ("/ab", "a", false),
+        ("/a", "ab", false),
+        ("/", "", true),
+    ];
+    for (text, key, same) in cases {
+        let token = Pointer::parse(text)?.tokens().next().ok_or("the root")?;
+        assert_eq!(rt; token.is_key(key), same, "whether {text} is {key}");
+    }
+    Ok(())
+}
+
+#[test]
+fn pointers_grow(rt: HostRuntime) -> Result<(), Fail> {
+    let alloc = rt.alloc();
+    let mut pointer = PointerBuf::new();
+    pointer.push_back(alloc, "a/b~")?;
+    assert_eq!(rt; pointer.as_str(), "/a~1b~0");
+    pointer.push_back(alloc, "é")?;
+    assert_eq!(rt; pointer.as_str(), "/a~1b~0/é");
+
+    let mut list = PointerBuf::parse(alloc, "/l/-")?;
+    assert!(rt; list != PointerBuf::new());
+    assert_eq!(rt; list.with_last(alloc, "1")?.as_str(), "/l/1");
+    assert_eq!(rt; list.with_last(alloc, "~/")?.as_str(), "/l/~0~1");
+    list.push_back(alloc, "")?;
+    assert_eq!(rt; list.as_str(), "/l/-/");
+    assert!(rt; PointerBuf::default() == PointerBuf::new());
+    assert_eq!(rt; PointerBuf::default().as_str(), "");
+    Ok(())
+}
+
+#[test]
+fn faults_have_their_texts(rt: HostRuntime) -> Result<(), Fail> {
+    let alloc = rt.alloc();
+    let unslashed = "pointer does not begin with a slash";
+    assert_eq!(rt;
+        ParseError::NoLeadingSlash.to_string(alloc)?.as_str(),
+        unslashed
+    );
+    assert_eq!(rt;
+        ParseError::InvalidEncoding { offset: 12 }
+            .to_string(alloc)?
+            .as_str(),
+        "invalid escape at byte 12"
+    );
+    assert_eq!(rt;
+        PointerFault::Parse(ParseError::NoLeadingSlash)
+            .to_string(alloc)?
+            .as_str(),
+        unslashed
+    );
+    assert_eq!(rt;
+        PointerFault::Memory(AllocError).to_string(alloc)?.as_str(),
+        "out of memory"
+    );
+    assert_eq!(rt;
+        ParseIndexError::LeadingZeros.to_string(alloc)?.as_str(),
+        "index has a leading zero"
+    );
+    assert_eq!(rt;
+        ParseIndexError::InvalidCharacter { offset: 3 }
+            .to_string(alloc)?
+            .as_str(),
+        "invalid character at byte 3"
+    );
+    assert_eq!(rt;
+        ParseIndexError::InvalidInteger.to_string(alloc)?.as_str(),
+        "index is not a number in range"
+    );
+    assert_eq!(rt;
+        OutOfBoundsError {
+            length: 2,
+            index: 3
+        }
+        .to_string(alloc)?
+        .as_str(),
+        "index 3 is out of bounds for length 2"
+    );
+    Ok(())
+}
