@@ -9,7 +9,7 @@ use Rattle.json_patch.specs.Attempt.{Steps}
 use Rattle.json_patch.specs.Document.{IsDocument}
 use Rattle.json_patch.specs.Faulting.{Reports}
 use Rattle.json_patch.specs.InPlace.{AreInPlace, IsInPlace, NeverShort}
-use Rattle.json_patch.specs.Inverse.{IsInverse}
+use Rattle.json_patch.specs.Inverse.{ArePlain, IsInverse}
 use Rattle.json_patch.specs.InverseComputed.{block, inverse}
 use Rattle.json_patch.specs.Operation.{Operation, AreWhole, operation_of, operations, path_of}
 use Rattle.json_patch.specs.Refusal.{NamesFirst, IfRefused, OnMemory}
@@ -24,6 +24,7 @@ use Rattle.json_patch.specs.declared.walk.StepFault.{StepFault}
 use Rattle.json_patch.specs.declared.walk.StepFault.TheVariants.{Refused as step_refused, Memory as step_short}
 use Rattle.json_patch.proofs.Blocks.{inverse_is}
 use Rattle.json_patch.proofs.Inverted.{inverse_back, inverse_joined, inverse_length, inverse_whole}
+use Rattle.json_patch.proofs.Plain.{inverse_plain}
 use Rattle.json_patch.proofs.Runs.{accepted, accepts_ran}
 use Rattle.json_patch.proofs.Stepped.{leaves_document, stepped_leaves, stepped_refuses}
 
@@ -148,6 +149,7 @@ operations-reverse (x ∷ os) =
 pub record Records (d e : Data) (ops undo : List Operation) : Type 0 where
   pub inverse : IsInverse d ops undo
   pub leads_back : IsAccepted e undo d
+  pub plain : ArePlain e undo
   pub short : length undo ≤ 2 * length ops
   pub whole : AreWhole undo
 
@@ -161,6 +163,7 @@ recorded_all d e os undo left k hd hv le h so_far is =
     subst (Records d e (operations os)) (sym same) (record {
       inverse = inverse_is d (operations os) e hd hv end;
       leads_back = accepted e (inverse d (operations os)) he iw d (accepts_ran e (inverse d (operations os)) d he iw (inverse_back d (operations os) e hd hv end));
+      plain = inverse_plain d (operations os) e hd hv end;
       short = inverse_length (operations os) d;
       whole = iw;
     })

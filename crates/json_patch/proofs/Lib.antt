@@ -16,6 +16,7 @@ pub mod Removed
 pub mod Replaced
 pub mod Found
 pub mod PlaceLaws
+pub mod Texts
 pub mod Exact
 pub mod Floats
 pub mod Walked
@@ -29,6 +30,7 @@ pub mod Undone
 pub mod Inverted
 pub mod Blocks
 pub mod Parents
+pub mod Plain
 pub mod Applied
 pub mod PointerTexts
 pub mod PatchFaults

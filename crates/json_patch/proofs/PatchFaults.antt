@@ -7,12 +7,11 @@ use Rattle.serde_json.specs.Find.{get}
 use Rattle.jsonptr.specs.Text.{Pointer, text_of}
 use Rattle.jsonptr.specs.Faults.{IsFault}
 use Rattle.jsonptr.specs.declared.ParseError.{ParseError}
-use Rattle.jsonptr.proofs.Texts.{text_of-has_no_fault}
 use Rattle.json_patch.specs.Document.{IsDocument, AreDocuments, AreMembers, IsBelowMembers, IsWhole}
 use Rattle.json_patch.specs.PatchValue.{IsObject, Lacks, HasNoText, HasNoPointer, HasNoDocument, IsOneOf, IsFieldFault, NoneBelow, IsFirst, rank}
 use Rattle.json_patch.specs.declared.error.ReadKind.{ReadKind}
 use Rattle.json_patch.specs.declared.error.ReadKind.TheVariants.{NotAList, NotAnObject, MissingOp, OpNotText, UnknownOp, MissingFrom, FromNotText, BadFrom, MissingPath, PathNotText, BadPath, MissingValue, ValueNotWhole}
-use Rattle.json_patch.proofs.PointerTexts.{pointer_or_fault, fault_one}
+use Rattle.json_patch.proofs.PointerTexts.{pointer_or_fault, pointer_has_no_fault, fault_one}
 
 -- ---- a value is a document, or it isn't
 
@@ -128,7 +127,7 @@ same_text v k t s e f = cc
 
 pub found_pointer : (v : Data) (k : List ℕ) (P : Pointer) (e : ParseError) → get k v ≡ Some (string (text_of P)) → HasNoPointer v k e → ⊥
 found_pointer v k P e f h =
-    text_of-has_no_fault P e (subst (λ t. IsFault t e) (same_text v k h.0 (text_of P) h.1 f) h.2)
+    pointer_has_no_fault P e (subst (λ t. IsFault t e) (same_text v k h.0 (text_of P) h.1 f) h.2)
 
 pub found_document : (v : Data) (k : List ℕ) (d : Data) → get k v ≡ Some d → IsDocument d → HasNoDocument v k → ⊥
 found_document v k d e doc h = h.2 (subst IsDocument (same_found v k d h.0 e h.1) doc)

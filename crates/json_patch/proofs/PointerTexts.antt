@@ -1,12 +1,11 @@
 -- A text is a pointer's, or has one fault.
 use Rattle.std.proofs.Common.{◌≡◌, ◌<◌, ◌+◌, ℕ, zero, suc, List, [], ◌∷◌, ◌⊎◌, length, slice_index, refl, sym, ap, inl, inr, subst, arith, ⊎_elim}
 use Rattle.std.proofs.lemmas.Bool.{cases_eq, cases_lt}
-use Rattle.jsonptr.specs.Scanning.{tokens_of_text}
 use Rattle.jsonptr.specs.Text.{Pointer, text_of}
 use Rattle.jsonptr.specs.Faults.{IsFault, IsBareTilde, BeginsWell}
 use Rattle.jsonptr.specs.declared.ParseError.{ParseError}
 use Rattle.jsonptr.specs.declared.ParseError.TheVariants.{NoLeadingSlash, InvalidEncoding}
-use Rattle.jsonptr.proofs.Texts.{text_of-none}
+use Rattle.jsonptr.proofs.Texts.{text_of-none, text_of-has_no_fault, text_of-injective}
 
 bare_or_not : (t : List ℕ) (i : ℕ) → IsBareTilde t i ⊎ (IsBareTilde t i → ⊥)
 bare_or_not t i =
@@ -37,7 +36,7 @@ begins_or_not (x ∷ t) = ⊎_elim (λ e. inl (λ l. e)) (λ n. inr (omega arith
 pub pointer_or_fault : (t : List ℕ) → ((P : Pointer) × (t ≡ text_of P)) ⊎ ((e : ParseError) × IsFault t e)
 pointer_or_fault t =
     ⊎_elim (λ well. ⊎_elim (λ found. inr (InvalidEncoding found.0, (well, found.1.0, found.1.1)))
-    (λ none. inl (tokens_of_text t, sym (text_of-none t well none))) (bare_below t (length t)))
+    (λ none. inl (_, sym (text_of-none t well none))) (bare_below t (length t)))
     (λ f. inr (NoLeadingSlash, f)) (begins_or_not t)
 
 first_bare_one : (t : List ℕ) (i j : ℕ) → IsFirstBare t i → IsFirstBare t j → i ≡ j
@@ -50,3 +49,11 @@ fault_one t NoLeadingSlash NoLeadingSlash h g = refl
 fault_one t NoLeadingSlash (InvalidEncoding j) h g = absurd (h.1 (g.0 h.0))
 fault_one t (InvalidEncoding i) NoLeadingSlash h g = absurd (g.1 (h.0 g.0))
 fault_one t (InvalidEncoding i) (InvalidEncoding j) h g = ap InvalidEncoding (first_bare_one t i j (h.1, h.2) (g.1, g.2))
+
+-- a pointer's text has none
+pub pointer_has_no_fault : (P : Pointer) (e : ParseError) → IsFault (text_of P) e → ⊥
+pointer_has_no_fault = text_of-has_no_fault
+
+-- a text is one pointer's
+pub pointer_one : (P Q : Pointer) → text_of P ≡ text_of Q → P ≡ Q
+pointer_one = text_of-injective

@@ -1,8 +1,8 @@
 -- The operations that undo a run.
 use Rattle.std.specs.Prelude.{◌≡◌, ◌⊎◌, ℕ, List, [], ◌∷◌, ◌++◌, Some}
-use Rattle.serde_json.specs.Data.{Data}
+use Rattle.serde_json.specs.Data.{Data, array, Items}
 use Rattle.jsonptr.specs.Text.{Pointer}
-use Rattle.jsonptr.specs.Places.{place_of}
+use Rattle.jsonptr.specs.Places.{place_of, next_token}
 use Rattle.json_patch.specs.Document.{Step, key, place}
 use Rattle.json_patch.specs.Resolve.{HasTarget, StandsAt}
 use Rattle.json_patch.specs.Change.{IsRemoved}
@@ -32,3 +32,21 @@ IsBlock d (test P v) B = B ≡ []
 abbrev pub IsInverse : Data → List Operation → List Operation → Type 0
 IsInverse d [] I = I ≡ []
 IsInverse d (op ∷ ops) I = (m : Data) × (J B : List Operation) × Leaves d op m × IsInverse m ops J × IsBlock d op B × (I ≡ J ++ B)
+
+-- no token of P is `-` where what stands before it in d is a list
+abbrev pub NamesNoNext : Data → Pointer → Type 0
+NamesNoNext d P = (front rest : Pointer) (ds : Items) → P ≡ front ++ next_token ∷ rest → StandsAt d front (array ds) → ⊥
+
+-- an add, remove or replace, with no `-` for a place in a list of d
+abbrev pub IsPlain : Data → Operation → Type 0
+IsPlain d (add P v) = NamesNoNext d P
+IsPlain d (remove P) = NamesNoNext d P
+IsPlain d (replace P v) = NamesNoNext d P
+IsPlain d (move F P) = ⊥
+IsPlain d (copy F P) = ⊥
+IsPlain d (test P v) = ⊥
+
+-- the list is accepted on d, and each operation is plain on the state that it is made on
+abbrev pub ArePlain : Data → List Operation → Type 0
+ArePlain d [] = Unit {0}
+ArePlain d (op ∷ ops) = (m : Data) × IsPlain d op × Leaves d op m × ArePlain m ops

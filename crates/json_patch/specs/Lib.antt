@@ -12,6 +12,7 @@ pub mod Attempt
 pub mod Faulting
 pub mod InPlace
 pub mod PatchValue
+pub mod Printed
 pub mod ReadLaws
 pub mod ReadSteps
 pub mod Edits

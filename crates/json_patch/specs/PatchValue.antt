@@ -19,7 +19,7 @@ use Rattle.json_patch.specs.declared.error.ReadFault.TheVariants.{Refused, Memor
 
 -- ---- the members of an operation (RFC 6902, section 4)
 
--- the text of its member `op`
+-- the text of its member `op`, in exactly these letters
 abbrev pub name_of : Operation → List ℕ
 name_of (add P v) = codes "add"
 name_of (remove P) = codes "remove"
@@ -28,7 +28,7 @@ name_of (move F P) = codes "move"
 name_of (copy F P) = codes "copy"
 name_of (test P v) = codes "test"
 
--- its other members, by their names: `from` and `path` are the texts of pointers
+-- its other members, by their names: `from` and `path` are the texts of pointers (RFC 6901, section 3)
 abbrev pub fields : Operation → List (List ℕ × Data)
 fields (add P v) = (codes "path", string (text_of P)) ∷ (codes "value", v) ∷ []
 fields (remove P) = (codes "path", string (text_of P)) ∷ []
@@ -45,14 +45,14 @@ field_names op = map (λ f. f.0) (fields op)
 abbrev pub all_fields : Operation → List (List ℕ × Data)
 all_fields op = (codes "op", string (name_of op)) ∷ fields op
 
--- ---- what reads as an operation, and as a patch (RFC 6902, section 3)
+-- ---- what reads as an operation (RFC 6902, section 4), and as a patch (section 3)
 
--- v is an object with these members, and perhaps others
+-- v has these members, and perhaps others: so where there is one, v is an object
 abbrev pub HasMembers : Data → List (List ℕ × Data) → Type 0
 HasMembers v [] = Unit {0}
 HasMembers v (f ∷ fs) = (get f.0 v ≡ Some f.1) × HasMembers v fs
 
--- v reads as the operation, with no look at `op`; members that the operation doesn't have are ignored
+-- v reads as the operation, with no look at `op`: members that the operation doesn't have are ignored
 abbrev pub ReadsFields : Data → Operation → Type 0
 ReadsFields v op = HasMembers v (fields op) × IsWholeOp op
 
@@ -73,6 +73,7 @@ ReadsPatch v ops = ⊥
 
 -- ---- why a value isn't read
 
+-- v is an object
 abbrev pub IsObject : Data → Type 0
 IsObject v = (ms : Members) × (v ≡ object ms)
 
@@ -88,7 +89,7 @@ HasNoText v k = (d : Data) × (get k v ≡ Some d) × ((t : List ℕ) → d ≡ 
 abbrev pub HasNoPointer : Data → List ℕ → ParseError → Type 0
 HasNoPointer v k e = (t : List ℕ) × (get k v ≡ Some (string t)) × IsFault t e
 
--- the member k of v holds a number that isn't whole
+-- the member k of v isn't a document: for what a program holds, some number in it isn't whole
 abbrev pub HasNoDocument : Data → List ℕ → Type 0
 HasNoDocument v k = (d : Data) × (get k v ≡ Some d) × (IsDocument d → ⊥)
 
@@ -113,7 +114,7 @@ IsFieldFault names v kind = ⊥
 abbrev pub IsUnknown : List ℕ → Type 0
 IsUnknown n = (op : Operation) → name_of op ≡ n → ⊥
 
--- what is at fault with v, where any operation is to be read: which members it has goes by its `op`
+-- what is at fault with v, where any operation is to be read: which members it is to have goes by its `op`
 abbrev pub IsOperationFault : Data → ReadKind → Type 0
 IsOperationFault v NotAnObject = IsObject v → ⊥
 IsOperationFault v MissingOp = Lacks v (codes "op")
@@ -154,13 +155,13 @@ RefusesFields names v kind = IsFirst (IsFieldFault names v) kind
 abbrev pub RefusesOperation : Data → ReadKind → Type 0
 RefusesOperation v kind = IsFirst (IsOperationFault v) kind
 
--- the items before the one at k are read, and it isn't, for this kind
+-- the items before the one at k read as operations, and it isn't read, for this kind
 abbrev pub RefusesItem : Items → ℕ → ReadKind → Type 0
 RefusesItem no_items k kind = ⊥
 RefusesItem (item d ds) zero kind = RefusesOperation d kind
 RefusesItem (item d ds) (suc k) kind = (op : Operation) × ReadsOperation d op × RefusesItem ds k kind
 
--- v isn't read as a patch, for this kind: at an item of the list, or since it is no list
+-- v isn't read as a patch, for this kind: at this item of the list, or since v is no list
 abbrev pub RefusesPatch : Data → Option ℕ → ReadKind → Type 0
 RefusesPatch (array ds) (Some k) kind = RefusesItem ds k kind
 RefusesPatch (array ds) None kind = ⊥

@@ -13,20 +13,21 @@ Names (array ds) t (place i) = place_of t ≡ Some i
 Names d t s = ⊥
 
 -- the pointer resolves in d, to the location L, where e stands
-abbrev pub Resolves : Data → List (List ℕ) → List Step → Data → Type 0
+abbrev pub Resolves : Data → Pointer → List Step → Data → Type 0
 Resolves d [] [] e = d ≡ e
 Resolves d (t ∷ P) (s ∷ L) e = (c : Data) × Names d t s × (child s d ≡ Some c) × Resolves c P L e
 Resolves d P L e = ⊥
 
--- a token names this step as one at which a value may be put: a member's name, a place that is taken, or the one after the last
+-- a token names this step as one at which a value may be put: a member's name, a place that is taken,
+-- or the one after the last
 abbrev pub Aims : Data → List ℕ → Step → Type 0
 Aims (object ms) t (key k) = t ≡ k
 Aims (array ds) t (place i) = ((place_of t ≡ Some i) × (i ≤ items_len ds)) ⊎ ((t ≡ next_token) × (i ≡ items_len ds))
 Aims d t s = ⊥
 
 -- where the pointer would put a value: at the step s from the location L, where its parent p stands
-pub record HasTarget (d : Data) (P : List (List ℕ)) (L : List Step) (s : Step) : Type 0 where
-  pub front : List (List ℕ)
+pub record HasTarget (d : Data) (P : Pointer) (L : List Step) (s : Step) : Type 0 where
+  pub front : Pointer
   pub last : List ℕ
   pub whole : P ≡ front ++ last ∷ []
   pub parent : Data

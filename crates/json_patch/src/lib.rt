@@ -7,6 +7,7 @@ mod error;
 pub mod laws;
 mod merging;
 mod operation;
+mod printing;
 mod reading;
 mod record;
 mod run;
@@ -22,4 +23,5 @@ pub use operation::{
     AddOperation, CopyOperation, MoveOperation, Patch, PatchOperation, RemoveOperation,
     ReplaceOperation, TestOperation,
 };
+pub use printing::pretty;
 pub use run::{apply_patches, patch, patch_unsafe};

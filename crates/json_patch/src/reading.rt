@@ -7,7 +7,7 @@ ghost use Rattle.serde_json.specs.View.{view, items_view};
 ghost use Rattle.jsonptr.specs.Text.{text_of};
 ghost use Rattle.json_patch.specs.Document.{IsDocument};
 ghost use Rattle.json_patch.specs.Operation.{AreWhole, add, copy, move, operation_of, operations, remove, replace, test};
-ghost use Rattle.json_patch.specs.PatchValue.{IfUnreadable, IsObject, ReadsFields, ReadsOperation, ReadsPatch, ReadsItems, RefusesFields, RefusesItem, RefusesOperation, RefusesPatch};
+ghost use Rattle.json_patch.specs.PatchValue.{IfUnreadable, IsObject, ReadsFields, ReadsOperation, ReadsPatch, ReadsItems, RefusesFields, RefusesOperation, RefusesPatch};
 ghost use Rattle.json_patch.specs.ReadSteps.{IsMissed, RefusesFrom, with_number};
 
 use crate::equality::is_whole;

@@ -113,8 +113,10 @@ fn record_move(
     let value = moved.clone()?;
     let was = add(alloc, doc, operation.path.as_pointer(), moved)?;
     let path = operation.from.clone(alloc)?;
-    undo.push(PatchOperation::Add(AddOperation { path, value }))?;
-    undo.push(take_back(alloc, &operation.path, was)?)?;
+    let put_back = PatchOperation::Add(AddOperation { path, value });
+    let take_away = take_back(alloc, &operation.path, was)?;
+    undo.push(put_back)?;
+    undo.push(take_away)?;
     Ok(())
 }
 

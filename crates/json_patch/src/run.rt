@@ -6,7 +6,7 @@ ghost use Rattle.serde_json.specs.View.{view};
 ghost use Rattle.json_patch.specs.Attempt.{Steps};
 ghost use Rattle.json_patch.specs.Document.{IsDocument};
 ghost use Rattle.json_patch.specs.InPlace.{AreInPlace, IsInPlace, NeverShort};
-ghost use Rattle.json_patch.specs.Inverse.{IsInverse};
+ghost use Rattle.json_patch.specs.Inverse.{ArePlain, IsInverse};
 ghost use Rattle.json_patch.specs.Operation.{AreWhole, operation_of, operations, path_of};
 ghost use Rattle.json_patch.specs.Refusal.{IfRefused, NamesFirst, OnMemory};
 ghost use Rattle.json_patch.specs.Run.{Accepts, IsAccepted};
@@ -92,6 +92,7 @@ pub fn apply_patches(
         (λ undo. IsInverse (view doc.old) (operations patches.now) (operations undo.0.items)) }
     ensures leads_back { IfOk result
         (λ undo. IsAccepted (view doc.new) (operations undo.0.items) (view doc.old)) }
+    ensures plain { IfOk result (λ undo. ArePlain (view doc.new) (operations undo.0.items)) }
     ensures short { IfOk result
         (λ undo. length (operations undo.0.items) ≤ 2 * length (operations patches.now)) }
     ensures undo_whole { IfOk result (λ undo. AreWhole (operations undo.0.items)) }

@@ -3,7 +3,7 @@
 ghost use Rattle.std.specs.Prelude.{◌≡◌, ◌↔◌, ◌≤◌, ◌*◌, ◌++◌, List, length};
 ghost use Rattle.serde_json.specs.Data.{Data};
 ghost use Rattle.json_patch.specs.Document.{IsDocument};
-ghost use Rattle.json_patch.specs.Inverse.{IsBlock, IsInverse};
+ghost use Rattle.json_patch.specs.Inverse.{ArePlain, IsBlock, IsInverse};
 ghost use Rattle.json_patch.specs.InverseComputed.{block, inverse};
 ghost use Rattle.json_patch.specs.Operation.{AreWhole, IsWholeOp, Operation};
 ghost use Rattle.json_patch.specs.Run.{Accepts};
@@ -32,6 +32,13 @@ pub fn inverse_leads_back()
     ensures { (d : Data) (ops : List Operation) → IsDocument d → AreWhole ops
         → (e : Data) (I : List Operation) → Accepts d ops e → IsInverse d ops I
         → AreWhole I × (length I ≤ 2 * length ops) × Accepts e I d }
+{}
+
+/// The inverse holds `add`, `remove` and `replace` alone, and no `-` that stands for a place in a
+/// list.
+pub fn inverse_is_plain()
+    ensures { (d : Data) (ops : List Operation) → IsDocument d → AreWhole ops
+        → (e : Data) (I : List Operation) → Accepts d ops e → IsInverse d ops I → ArePlain e I }
 {}
 
 /// The inverse leads back through every state: first over the later operations, then over the

@@ -1,6 +1,7 @@
 use Rattle.std.proofs.Common.{sym, subst}
 use Rattle.serde_json.specs.View.{view}
 use Rattle.json_patch.specs.Document.{IsDocument}
+use Rattle.json_patch.specs.Inverse.{ArePlain}
 use Rattle.json_patch.specs.Operation.{operations}
 use Rattle.json_patch.specs.Run.{IsAccepted}
 use Rattle.json_patch.specs.declared.operation.Patch.{Patch}
@@ -27,6 +28,11 @@ pub returns-clause-leads_back : goal.returns-clause-leads_back
 returns-clause-leads_back c =
     subst (λ v. IsAccepted (view v) (operations c.reverse.new.self.items) (view c.args.doc.now)) (sym c.swap.ensures.x_after)
     (recorded_all (view c.args.doc.now) (view c.loop-number.work) c.args.patches.now c.loop-number.undo.items c.reverse.new.self.items c.loop-number.number c.requires.document c.requires.whole c.loop-number-test.false c.loop-number.invariant.state c.loop-number.invariant.recorded c.reverse.ensures.items).leads_back
+
+pub returns-clause-plain : goal.returns-clause-plain
+returns-clause-plain c =
+    subst (λ v. ArePlain (view v) (operations c.reverse.new.self.items)) (sym c.swap.ensures.x_after)
+    (recorded_all (view c.args.doc.now) (view c.loop-number.work) c.args.patches.now c.loop-number.undo.items c.reverse.new.self.items c.loop-number.number c.requires.document c.requires.whole c.loop-number-test.false c.loop-number.invariant.state c.loop-number.invariant.recorded c.reverse.ensures.items).plain
 
 pub returns-clause-short : goal.returns-clause-short
 returns-clause-short c = (recorded_all (view c.args.doc.now) (view c.loop-number.work) c.args.patches.now c.loop-number.undo.items c.reverse.new.self.items c.loop-number.number c.requires.document c.requires.whole c.loop-number-test.false c.loop-number.invariant.state c.loop-number.invariant.recorded c.reverse.ensures.items).short

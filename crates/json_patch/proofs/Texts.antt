@@ -1,0 +1,123 @@
+-- What is written for characters, values and operations.
+use Rattle.std.proofs.Common.{◌≡◌, ◌≢◌, ℕ, zero, suc, ◌<◌, ◌/◌, ◌%◌, ◌^◌, ◌-◌, ◌&&◌, Bool, true, false, List, [], ◌∷◌, ◌++◌, Option, Some, None, option_map, codes, bytes_eq, chars, flat_map, encode_utf8, IsUtf8, length, append_assoc, append-nil, inl, inr, refl, sym, ap, ◌∙◌, arith, ne_eqb, lt-ltb}
+use Rattle.std.proofs.lemmas.Bool.{and_parts, cases_eq}
+use Rattle.std.proofs.lemmas.Slice.Eq.{bytes_eq-Decides}
+use Rattle.std.proofs.lemmas.Str.{chars-nil, chars_past_char}
+use Rattle.std.specs.Char.{digit_char}
+use Rattle.std.specs.Fmt.{digits, format_spec, padded_integral, char_count}
+use Rattle.serde_json.specs.Data.{Data, string, Items, item, no_items, Members, member, no_members}
+use Rattle.json_patch.specs.Printed.{escaped, quoted, printed, printed_items, printed_members, printed_fields, in_order, field_if, given_fields, leading_text, trailing_text}
+
+-- a test that holds below n, counted down from the top
+abbrev holds_below : (ℕ → Bool) → ℕ → Bool
+holds_below test zero = true
+holds_below test (suc n) = test n && holds_below test n
+
+holds_at : (test : ℕ → Bool) (n : ℕ) → holds_below test n ≡ true → (x : ℕ) → x < n → test x ≡ true
+holds_at test zero h x below = absurd (omega arith)
+holds_at test (suc n) h x below =
+    let p = and_parts (test n) _ h in
+    elim (cases_eq x n) [ inl same ↦ rw same p.0 | inr other ↦ holds_at test n p.1 x (omega arith) ]
+
+-- four digits, of a number below 32
+abbrev pub four_digits : ℕ → List ℕ
+four_digits n = padded_integral (format_spec 32 0 4 4 (2 ^ 64 - 1)) false [] (digits 16 false n)
+
+abbrev has_two_zeros : ℕ → Bool
+has_two_zeros n = bytes_eq (four_digits n) (48 ∷ 48 ∷ digit_char (n / 16) ∷ digit_char (n % 16) ∷ [])
+
+two_zeros : holds_below has_two_zeros 32 ≡ true
+unfolding digits padded_integral char_count
+two_zeros = refl
+
+-- a control character with no letter of its own
+abbrev pub hexadecimal : ℕ → List ℕ
+hexadecimal c = codes "\\u00" ++ digit_char (c / 16) ∷ digit_char (c % 16) ∷ []
+
+pub escaped_control : (c : ℕ) → c < 32 → c ≢ 8 → c ≢ 9 → c ≢ 10 → c ≢ 12 → c ≢ 13 → escaped c ≡ hexadecimal c
+escaped_control c below b t n f r =
+    rw (ne_eqb c 34 (λ e. omega arith), ne_eqb c 92 (λ e. omega arith), ne_eqb c 8 b, ne_eqb c 12 f, ne_eqb c 10 n, ne_eqb c 13 r, ne_eqb c 9 t, lt-ltb c 32 below)
+
+pub hexadecimal-four_digits : (c : ℕ) → c < 32 → 92 ∷ 117 ∷ four_digits c ≡ hexadecimal c
+hexadecimal-four_digits c below =
+    ap (λ l. 92 ∷ 117 ∷ l) ((bytes_eq-Decides _ _).0 (holds_at has_two_zeros 32 two_zeros c below))
+
+-- ---- the characters of a text, one by one
+
+pub escaped_more : (done text rest whole : List ℕ) (c : ℕ) → IsUtf8 text → text ≡ encode_utf8 c ++ rest
+    → done ++ flat_map escaped (chars text) ≡ whole → (done ++ escaped c) ++ flat_map escaped (chars rest) ≡ whole
+escaped_more done text rest whole c utf8 step h =
+    append_assoc done (escaped c) _ ∙ ap (λ cs. done ++ flat_map escaped cs) (sym (chars_past_char text rest c utf8 step)) ∙ h
+
+no_bytes : (rest : List ℕ) → length rest ≡ 0 → rest ≡ []
+no_bytes [] h = refl
+no_bytes (x ∷ rest) h = absurd (omega arith)
+
+pub quoted_end : (done text rest : List ℕ) → length rest ≡ 0 → done ++ flat_map escaped (chars rest) ≡ flat_map escaped (chars text)
+    → (34 ∷ done) ++ 34 ∷ [] ≡ quoted text
+quoted_end done text rest none h =
+    ap (λ l. 34 ∷ (l ++ 34 ∷ [])) (sym (append-nil done) ∙ ap (λ cs. done ++ flat_map escaped cs) (sym (ap chars (no_bytes rest none) ∙ chars-nil)) ∙ h)
+
+-- ---- items and members, one by one
+
+pub printed_items_more : (done before whole : List ℕ) (ds es : Items) (d : Data) → ds ≡ item d es
+    → done ++ printed_items before ds ≡ whole → ((done ++ before) ++ printed d) ++ printed_items (codes ",") es ≡ whole
+printed_items_more done before whole ds es d step h = simp append_assoc (rw step at h)
+
+pub printed_items_end : (done before whole : List ℕ) (ds : Items) → ds ≡ no_items → done ++ printed_items before ds ≡ whole → done ≡ whole
+printed_items_end done before whole ds none h = sym (append-nil done) ∙ (rw none at h)
+
+regroup : (a b q e p r : List ℕ) → (((a ++ b) ++ (q ++ e)) ++ p) ++ r ≡ a ++ (b ++ (q ++ (e ++ (p ++ r))))
+regroup a b q e p r = simp append_assoc
+
+pub printed_members_more : (done before whole k : List ℕ) (ms ns : Members) (d : Data) → ms ≡ member k d ns
+    → done ++ printed_members before ms ≡ whole → (((done ++ before) ++ (quoted k ++ codes ":")) ++ printed d) ++ printed_members (codes ",") ns ≡ whole
+printed_members_more done before whole k ms ns d step h =
+    regroup done before (quoted k) (codes ":") (printed d) (printed_members (codes ",") ns) ∙ (rw step at h)
+
+pub printed_members_end : (done before whole : List ℕ) (ms : Members) → ms ≡ no_members → done ++ printed_members before ms ≡ whole → done ≡ whole
+printed_members_end done before whole ms none h = sym (append-nil done) ∙ (rw none at h)
+
+-- ---- the members of an operation
+
+regroup_leading : (b k e t f r : List ℕ) → b ++ ((k ++ (e ++ (t ++ f))) ++ r) ≡ b ++ (k ++ (e ++ (t ++ (f ++ r))))
+regroup_leading b k e t f r = simp append_assoc
+
+regroup_member : (b k e t r f : List ℕ) → (b ++ (k ++ (e ++ (t ++ r)))) ++ f ≡ b ++ (k ++ (e ++ (t ++ (r ++ f))))
+regroup_member b k e t r f = simp append_assoc
+
+leading_member : (k : List ℕ) (o : Option (List ℕ)) (rest : List ℕ) (fs : List (List ℕ × Data))
+    → ((before : List ℕ) → before ++ rest ≡ printed_members before (in_order fs) ++ codes "}")
+    → (before : List ℕ) → before ++ (leading_text k o ++ rest) ≡ printed_members before (in_order (field_if k (option_map string o) ++ fs)) ++ codes "}"
+leading_member k None rest fs later before = later before
+leading_member k (Some t) rest fs later before =
+    regroup_leading before (quoted k) (codes ":") (quoted t) (codes ",") rest
+    ∙ ap (λ l. before ++ (quoted k ++ (codes ":" ++ (quoted t ++ l)))) (later (codes ","))
+    ∙ sym (regroup_member before (quoted k) (codes ":") (quoted t) (printed_members (codes ",") (in_order fs)) (codes "}"))
+
+trailing_member : (k : List ℕ) (o : Option Data) → trailing_text k o ++ codes "}" ≡ printed_members (codes ",") (in_order (field_if k o)) ++ codes "}"
+trailing_member k None = refl
+trailing_member k (Some d) =
+    ap (λ l. l ++ codes "}") (ap (λ l. codes "," ++ (quoted k ++ (codes ":" ++ l))) (sym (append-nil (printed d))))
+
+path_member : (path : List ℕ) (value : Option Data) (before : List ℕ)
+    → before ++ (quoted (codes "path") ++ (codes ":" ++ (quoted path ++ (trailing_text (codes "value") value ++ codes "}"))))
+    ≡ printed_members before (in_order ((codes "path", string path) ∷ field_if (codes "value") value)) ++ codes "}"
+path_member path value before =
+    let k = quoted (codes "path") in
+    ap (λ l. before ++ (k ++ (codes ":" ++ (quoted path ++ l)))) (trailing_member (codes "value") value)
+    ∙ sym (regroup_member before k (codes ":") (quoted path) (printed_members (codes ",") (in_order (field_if (codes "value") value))) (codes "}"))
+
+regroup_operation : (o l m k e p t c : List ℕ) → (((((o ++ l) ++ m) ++ (k ++ e)) ++ p) ++ t) ++ c ≡ o ++ (l ++ (m ++ (k ++ (e ++ (p ++ (t ++ c))))))
+regroup_operation o l m k e p t c = simp append_assoc
+
+pub printed_operation : (name from : Option (List ℕ)) (path : List ℕ) (value : Option Data)
+    → (((((codes "{" ++ leading_text (codes "op") name) ++ leading_text (codes "from") from) ++ (quoted (codes "path") ++ codes ":")) ++ quoted path) ++ trailing_text (codes "value") value) ++ codes "}"
+    ≡ printed_fields (given_fields name from path value)
+printed_operation name from path value =
+    let op = codes "op" in
+    let source = codes "from" in
+    let fs = (codes "path", string path) ∷ field_if (codes "value") value in
+    let all = leading_member op name _ (field_if source (option_map string from) ++ fs) (leading_member source from _ fs (path_member path value)) [] in
+    regroup_operation (codes "{") (leading_text op name) (leading_text source from) (quoted (codes "path")) (codes ":") (quoted path) (trailing_text (codes "value") value) (codes "}")
+    ∙ ap (λ l. codes "{" ++ l) all

@@ -1,0 +1,20 @@
+use Rattle.std.proofs.Common.{rules}
+use Rattle.std.proofs.Output.{has_written_append, has_written_of_eq}
+use Rattle.json_patch.proofs.Texts.{printed_operation}
+use Rattle.json_patch.proofs.printing.write_operation.Goals as goal
+
+pub returns : goal.returns
+returns g c plain ok =
+    let opened = c.write_str.ensures.writes plain (search rules) in
+    let name = c.write_leading.ensures opened.plain (search rules) in
+    let from = c.write_leading-2.ensures name.plain (search rules) in
+    let key = c.write_name.ensures from.plain (search rules) in
+    let path = c.write_text.ensures key.plain (search rules) in
+    let value = c.write_trailing.ensures path.plain (search rules) in
+    let closed = c.write_str-2.ensures.writes value.plain ok in
+    let one = has_written_append _ _ _ _ _ _ opened name in
+    let two = has_written_append _ _ _ _ _ _ one from in
+    let three = has_written_append _ _ _ _ _ _ two key in
+    let four = has_written_append _ _ _ _ _ _ three path in
+    let five = has_written_append _ _ _ _ _ _ four value in
+    has_written_of_eq _ _ _ _ _ (printed_operation _ _ _ _) (has_written_append _ _ _ _ _ _ five closed)

@@ -1,0 +1,91 @@
+-- The text of values and operations with no space (RFC 8259).
+use Rattle.std.specs.Prelude.{ℕ, ◌/◌, ◌%◌, ◌==◌, nat_lt, if◌then◌else◌, true, false, List, [], ◌∷◌, ◌++◌, map, flat_map, Option, Some, None, option_map, chars, codes, decimal, encode_utf8}
+use Rattle.std.specs.Char.{digit_char}
+use Rattle.std.specs.Fmt.{signed_decimal}
+use Rattle.serde_json.specs.Data.{Num, unsigned, negative, float, Data, null, boolean, number, string, array, object, Items, no_items, item, Members, no_members, member}
+use Rattle.serde_json.specs.View.{items_of}
+use Rattle.json_patch.specs.Operation.{Operation}
+use Rattle.json_patch.specs.PatchValue.{all_fields}
+
+-- what stands for a character between the quotes (RFC 8259, section 7)
+abbrev pub escaped : ℕ → List ℕ
+escaped c =
+    if c == 34 then 92 ∷ 34 ∷ []
+    else if c == 92 then 92 ∷ 92 ∷ []
+    else if c == 8 then codes "\\b"
+    else if c == 12 then codes "\\f"
+    else if c == 10 then codes "\\n"
+    else if c == 13 then codes "\\r"
+    else if c == 9 then codes "\\t"
+    else if nat_lt c 32 then codes "\\u00" ++ digit_char (c / 16) ∷ digit_char (c % 16) ∷ []
+    else encode_utf8 c
+
+abbrev pub quoted : List ℕ → List ℕ
+quoted text = 34 ∷ (flat_map escaped (chars text) ++ 34 ∷ [])
+
+-- the digits of a whole number, and `null` for another
+abbrev pub number_text : Num → List ℕ
+number_text (unsigned n) = decimal n
+number_text (negative z) = signed_decimal z
+number_text (float x) = codes "null"
+
+abbrev mutual
+  pub printed : Data → List ℕ
+  printed null = codes "null"
+  printed (boolean true) = codes "true"
+  printed (boolean false) = codes "false"
+  printed (number n) = number_text n
+  printed (string s) = quoted s
+  printed (array ds) = codes "[" ++ (printed_items [] ds ++ codes "]")
+  printed (object ms) = codes "{" ++ (printed_members [] ms ++ codes "}")
+
+  -- the items, where this stands before the first, and a comma before each other
+  pub printed_items : List ℕ → Items → List ℕ
+  printed_items before no_items = []
+  printed_items before (item d ds) = before ++ (printed d ++ printed_items (codes ",") ds)
+
+  pub printed_members : List ℕ → Members → List ℕ
+  printed_members before no_members = []
+  printed_members before (member k d ms) = before ++ (quoted k ++ (codes ":" ++ (printed d ++ printed_members (codes ",") ms)))
+
+-- these members, in this order
+abbrev pub in_order : List (List ℕ × Data) → Members
+in_order [] = no_members
+in_order (f ∷ fs) = member f.0 f.1 (in_order fs)
+
+-- the object of these members, in this order
+abbrev pub object_of : List (List ℕ × Data) → Data
+object_of fs = object (in_order fs)
+
+-- the text of an operation's members
+abbrev pub printed_fields : List (List ℕ × Data) → List ℕ
+printed_fields fs = printed (object_of fs)
+
+-- the operations, each the object of its members
+abbrev pub listed : List Operation → Items
+listed ops = items_of (map (λ op. object_of (all_fields op)) ops)
+
+-- the text of a patch
+abbrev pub printed_patch : List Operation → List ℕ
+printed_patch ops = printed (array (listed ops))
+
+-- ---- for private clauses
+
+-- the members of an operation, those that there are
+abbrev pub field_if : List ℕ → Option Data → List (List ℕ × Data)
+field_if name None = []
+field_if name (Some d) = (name, d) ∷ []
+
+abbrev pub given_fields : Option (List ℕ) → Option (List ℕ) → List ℕ → Option Data → List (List ℕ × Data)
+given_fields name from path value = field_if (codes "op") (option_map string name)
+    ++ (field_if (codes "from") (option_map string from) ++ (codes "path", string path) ∷ field_if (codes "value") value)
+
+-- a member and the comma after it, or nothing
+abbrev pub leading_text : List ℕ → Option (List ℕ) → List ℕ
+leading_text name None = []
+leading_text name (Some text) = quoted name ++ (codes ":" ++ (quoted text ++ codes ","))
+
+-- a comma and the member after it, or nothing
+abbrev pub trailing_text : List ℕ → Option Data → List ℕ
+trailing_text name None = []
+trailing_text name (Some d) = codes "," ++ (quoted name ++ (codes ":" ++ printed d))

@@ -1,0 +1,199 @@
+use crate::error::{PatchError, PatchErrorKind, PatchFault, ReadError, ReadFault, ReadKind};
+use crate::operation::{
+    AddOperation, CopyOperation, MoveOperation, Patch, PatchOperation, RemoveOperation,
+    ReplaceOperation, TestOperation,
+};
+use crate::pretty;
+use jsonptr::{ParseError, PointerBuf};
+use serde_json::Value;
+use std::alloc::{AllocError, Global};
+use std::fmt;
+use std::process::Abort;
+use std::test::Fail;
+
+#[test]
+fn kinds_of_refusal_are_shown(rt: HostRuntime) -> Result<(), Fail> {
+    let alloc = rt.alloc();
+    for (kind, expected) in [
+        (PatchErrorKind::TestFailed, "value did not match"),
+        (
+            PatchErrorKind::InvalidFromPointer,
+            "\"from\" path is invalid",
+        ),
+        (PatchErrorKind::InvalidPointer, "path is invalid"),
+        (
+            PatchErrorKind::CannotMoveInsideItself,
+            "cannot move the value inside itself",
+        ),
+    ] {
+        assert_eq!(rt; kind.to_string(alloc)?.as_str(), expected);
+    }
+    Ok(())
+}
+
+#[test]
+fn kinds_of_unreadable_values_are_shown(rt: HostRuntime) -> Result<(), Fail> {
+    let alloc = rt.alloc();
+    for (kind, expected) in [
+        (ReadKind::NotAList, "patch is not a list"),
+        (ReadKind::NotAnObject, "operation is not an object"),
+        (ReadKind::MissingOp, "member \"op\" is missing"),
+        (ReadKind::OpNotText, "member \"op\" is not a text"),
+        (ReadKind::UnknownOp, "member \"op\" is unknown"),
+        (ReadKind::MissingFrom, "member \"from\" is missing"),
+        (ReadKind::FromNotText, "member \"from\" is not a text"),
+        (
+            ReadKind::BadFrom(ParseError::NoLeadingSlash),
+            "member \"from\" is not a pointer: pointer does not begin with a slash",
+        ),
+        (ReadKind::MissingPath, "member \"path\" is missing"),
+        (ReadKind::PathNotText, "member \"path\" is not a text"),
+        (
+            ReadKind::BadPath(ParseError::InvalidEncoding { offset: 3 }),
+            "member \"path\" is not a pointer: invalid escape at byte 3",
+        ),
+        (ReadKind::MissingValue, "member \"value\" is missing"),
+        (
+            ReadKind::ValueNotWhole,
+            "member \"value\" holds a number that is not whole",
+        ),
+    ] {
+        assert_eq!(rt; kind.to_string(alloc)?.as_str(), expected);
+    }
+    Ok(())
+}
+
+#[test]
+fn faults_are_shown(rt: HostRuntime) -> Result<(), Fail> {
+    let alloc = rt.alloc();
+    let refused = PatchError {
+        operation: 3,
+        path: PointerBuf::parse(alloc, "/a~1b")?,
+        kind: PatchErrorKind::InvalidFromPointer,
+    };
+    let refused_text = "operation '/3' failed at path '/a~1b': \"from\" path is invalid";
+    let numbered = ReadError {
+        operation: Some(2),
+        kind: ReadKind::MissingOp,
+    };
+    let unnumbered = ReadError {
+        operation: None,
+        kind: ReadKind::NotAList,
+    };
+    for (shown, expected) in [
+        (refused.to_string(alloc)?, refused_text),
+        (PatchFault::Refused(refused).to_string(alloc)?, refused_text),
+        (
+            PatchFault::Memory(AllocError).to_string(alloc)?,
+            "out of memory",
+        ),
+        (
+            numbered.to_string(alloc)?,
+            "operation '/2': member \"op\" is missing",
+        ),
+        (
+            ReadFault::Refused(numbered).to_string(alloc)?,
+            "operation '/2': member \"op\" is missing",
+        ),
+        (unnumbered.to_string(alloc)?, "patch is not a list"),
+        (
+            ReadFault::Refused(unnumbered).to_string(alloc)?,
+            "patch is not a list",
+        ),
+        (
+            ReadFault::Memory(AllocError).to_string(alloc)?,
+            "out of memory",
+        ),
+    ] {
+        assert_eq!(rt; shown.as_str(), expected);
+    }
+    Ok(())
+}
+
+// Both printed forms of the value are this text.
+fn assert_printed<T: fmt::Display + fmt::Debug>(
+    rt: &impl Abort,
+    alloc: Global,
+    value: &T,
+    expected: &str,
+) -> Result<(), Fail> {
+    assert_eq!(rt; value.to_string(alloc)?.as_str(), expected);
+    assert_eq!(rt; format!(in alloc; "{value:?}")?.as_str(), expected);
+    Ok(())
+}
+
+#[test]
+fn structs_are_printed(rt: HostRuntime) -> Result<(), Fail> {
+    let alloc = rt.alloc();
+    let with_value = r#"{"path":"","value":null}"#;
+    let with_from = r#"{"from":"","path":""}"#;
+    assert_printed(&rt, alloc, &AddOperation::default(), with_value)?;
+    assert_printed(&rt, alloc, &RemoveOperation::default(), r#"{"path":""}"#)?;
+    assert_printed(&rt, alloc, &ReplaceOperation::default(), with_value)?;
+    assert_printed(&rt, alloc, &MoveOperation::default(), with_from)?;
+    assert_printed(&rt, alloc, &CopyOperation::default(), with_from)?;
+    assert_printed(&rt, alloc, &TestOperation::default(), with_value)
+}
+
+#[test]
+fn defaults_are_printed(rt: HostRuntime) -> Result<(), Fail> {
+    let alloc = rt.alloc();
+    let test = r#"{"op":"test","path":"","value":null}"#;
+    assert_printed(&rt, alloc, &PatchOperation::default(), test)?;
+    assert_printed(&rt, alloc, &Patch::new(alloc), "[]")
+}
+
+#[test]
+fn patches_are_printed(rt: HostRuntime) -> Result<(), Fail> {
+    let alloc = rt.alloc();
+    for text in [
+        r#"[{"op":"add","path":"/a~1b/m~0n","value":[1,null,true,false,"c",[],{}]}]"#,
+        r#"[{"op":"remove","path":"/\u0001"}]"#,
+        r#"[{"op":"replace","path":"","value":-9223372036854775808}]"#,
+        r#"[{"op":"move","from":"/a","path":"/b"},{"op":"copy","from":"","path":"/-"}]"#,
+        r#"[{"op":"test","path":"/","value":18446744073709551615},{"op":"remove","path":"/0"}]"#,
+    ] {
+        let patch = Patch::from_value(alloc, &Value::from_str(alloc, text)?)?;
+        assert_printed(&rt, alloc, &patch, text)?;
+    }
+    Ok(())
+}
+
+#[test]
+fn values_are_printed(rt: HostRuntime) -> Result<(), Fail> {
+    let alloc = rt.alloc();
+    for (text, expected) in [
+        ("1.5", "null"),
+        ("[-0,1.0,1e3,18446744073709551616]", "[null,null,null,null]"),
+        (
+            r#"{"b":{"d":[{"z":1,"y":2}],"c":0},"":1,"a":1.5,"B":2}"#,
+            r#"{"":1,"B":2,"a":null,"b":{"c":0,"d":[{"y":2,"z":1}]}}"#,
+        ),
+        (
+            r#""\"\\\/\u0008\u000C\u000A\u000D\u0009\u0000\u001F\u0020\u007F\u00E9\uD834\uDD1E""#,
+            "\"\\\"\\\\/\\b\\f\\n\\r\\t\\u0000\\u001f \u{7f}\u{e9}\u{1d11e}\"",
+        ),
+        (r#"{"\n":"\n"}"#, r#"{"\n":"\n"}"#),
+    ] {
+        let value = Value::from_str(alloc, text)?;
+        let path = PointerBuf::parse(alloc, "/a")?;
+        let operation = PatchOperation::Add(AddOperation { path, value });
+        let expected = format!(in alloc; r#"{{"op":"add","path":"/a","value":{expected}}}"#)?;
+        assert_printed(&rt, alloc, &operation, expected.as_str())?;
+    }
+    Ok(())
+}
+
+#[test]
+fn a_value_is_printed_on_several_lines(rt: HostRuntime) -> Result<(), Fail> {
+    let alloc = rt.alloc();
+    for (text, expected) in [
+        (r#"{"a":[1]}"#, "{\n  \"a\": [\n    1\n  ]\n}"),
+        (r#"{"b":[],"a":{}}"#, "{\n  \"a\": {},\n  \"b\": []\n}"),
+    ] {
+        let value = Value::from_str(alloc, text)?;
+        assert!(rt; crate::is_whole(&value));
+        assert_eq!(rt; pretty(alloc, &value)?.as_str(), expected);
+    }
+    Ok(())
+}

@@ -1,0 +1,5 @@
+pub mod Answered
+pub mod Moved
+pub mod Once
+pub mod Pairs
+pub mod Recorded

@@ -1,0 +1,65 @@
+-- The answer to an input.
+use Rattle.std.specs.Prelude.{◌≡◌, ◌≤◌, ◌⊎◌, ℕ, List, length, Result, Ok, Err}
+use Rattle.serde_json.specs.Data.{Data, array, item, no_items, depth}
+use Rattle.serde_json.specs.Read.{max_depth}
+use Rattle.serde_json.specs.Written.{compact_text}
+use Rattle.json_patch.specs.Document.{IsDocument}
+use Rattle.json_patch.specs.Operation.{Operation}
+use Rattle.json_patch.specs.PatchValue.{ReadsPatch, RefusesPatch, written_patch}
+use Rattle.json_patch.specs.Run.{Accepts}
+use Rattle.json_patch.specs.Refusal.{NamesFirst}
+use Rattle.json_patch.specs.Inverse.{IsInverse}
+use Rattle.json_patch.specs.Merged.{IsMerged}
+use Rattle.json_patch_tool.specs.Input.{SaysPair, NoPair, line_of}
+use Rattle.json_patch_tool.specs.declared.input.TheConstants.{MAX_INPUT}
+use Rattle.json_patch_tool.specs.declared.mode.Mode.{Mode}
+use Rattle.json_patch_tool.specs.declared.mode.Mode.TheVariants.{Patch, Record, Merge}
+use Rattle.json_patch_tool.specs.declared.fault.ToolFault.{ToolFault}
+use Rattle.json_patch_tool.specs.declared.fault.ToolFault.TheVariants.{TooLarge, Syntax, NotAPair, NotWhole, Unreadable, Refused}
+
+-- p reads as a patch that is accepted on the document d, and leaves e
+abbrev pub IsPatched : Data → Data → Data → Type 0
+IsPatched d p e = IsDocument d × ((ops : List Operation) × ReadsPatch p ops × Accepts d ops e)
+
+-- the same, and `whole` is the array of what is left and the patch that undoes it
+abbrev pub IsRecorded : Data → Data → Data → Type 0
+IsRecorded d p whole = IsDocument d × ((ops undo : List Operation) × (e : Data) × ReadsPatch p ops × Accepts d ops e
+    × IsInverse d ops undo × (whole ≡ array (item e (item (written_patch undo) no_items))))
+
+-- why p isn't applied to d: d is no document, or else p is no patch, or else the patch is refused
+abbrev pub IsNotPatched : Data → Data → ToolFault → Type 0
+IsNotPatched d p NotWhole = IsDocument d → ⊥
+IsNotPatched d p (Unreadable e) = IsDocument d × RefusesPatch p e.operation e.kind
+IsNotPatched d p (Refused e) = IsDocument d × ((ops : List Operation) × ReadsPatch p ops × NamesFirst d ops e)
+IsNotPatched d p _ = ⊥
+
+-- d and p are documents, and the document e is d with the merge patch p merged into it
+abbrev pub IsMergedWhole : Data → Data → Data → Type 0
+IsMergedWhole d p e = IsDocument d × IsDocument p × IsDocument e × IsMerged d p e
+
+-- why p isn't merged into d
+abbrev pub IsNotMerged : Data → Data → ToolFault → Type 0
+IsNotMerged d p NotWhole = (IsDocument d → ⊥) ⊎ (IsDocument p → ⊥)
+IsNotMerged d p _ = ⊥
+
+-- what a mode answers for two values
+abbrev pub Gives : Mode → Data → Data → Result (List ℕ) ToolFault → Type 0
+Gives Patch d p (Ok line) = (e : Data) × IsPatched d p e × (line ≡ line_of e)
+Gives Patch d p (Err fault) = IsNotPatched d p fault
+Gives Record d p (Ok line) = (whole : Data) × IsRecorded d p whole × (line ≡ line_of whole)
+Gives Record d p (Err fault) = IsNotPatched d p fault
+Gives Merge d p (Ok line) = (e : Data) × IsMergedWhole d p e × (line ≡ line_of e)
+Gives Merge d p (Err fault) = IsNotMerged d p fault
+
+-- what is answered, want of memory aside
+abbrev pub Answer : Mode → List ℕ → Result (List ℕ) ToolFault → Type 0
+Answer mode input (Err TooLarge) = NoPair input TooLarge
+Answer mode input (Err Syntax) = NoPair input Syntax
+Answer mode input (Err NotAPair) = NoPair input NotAPair
+Answer mode input answer = (d : Data) × (p : Data) × SaysPair input d p × Gives mode d p answer
+
+-- the line is that of a recorded value, whose text, where it keeps the limits on size and depth, is an
+-- input for which mode Patch answers the first document
+abbrev pub LeadsBack : List ℕ → List ℕ → Type 0
+LeadsBack input line = (d p whole : Data) × SaysPair input d p × IsRecorded d p whole × (line ≡ line_of whole)
+    × (length (compact_text whole) ≤ MAX_INPUT → depth whole ≤ max_depth → Answer Patch (compact_text whole) (Ok (line_of d)))

@@ -1,0 +1,103 @@
+ghost use Rattle.std.specs.Prelude.{◌≡◌, ◌≢◌, Ok, Err, IfOk, IfErr, string_bytes};
+ghost use Rattle.serde_json.specs.Data.{array, item, no_items};
+ghost use Rattle.serde_json.specs.View.{view};
+ghost use Rattle.json_patch.specs.Document.{IsDocument};
+ghost use Rattle.json_patch.specs.Operation.{AreWhole, operations};
+ghost use Rattle.json_patch.specs.PatchValue.{ReadsPatch};
+ghost use Rattle.json_patch_tool.specs.Answer.{Answer, Gives, IsNotMerged, IsNotPatched, IsRecorded, LeadsBack};
+ghost use Rattle.json_patch_tool.specs.Recording.{IsRecordLine, LeadsTo};
+ghost use Rattle.json_patch_tool.specs.declared.fault.ToolFault.TheVariants.{Memory};
+ghost use Rattle.json_patch_tool.specs.declared.mode.Mode.TheVariants.{Record};
+
+use crate::fault::ToolFault;
+use crate::input::{line_of, read_pair};
+use crate::mode::Mode;
+use json_patch::{Patch, apply_patches, is_whole, merge, patch};
+use serde_json::Value;
+use std::alloc::{AllocError, Global};
+
+/// The line for an input of at most 16777216 bytes: one JSON text, an array of a document and a
+/// patch. The line is one compact JSON text and a line feed: the new document or, in mode `Record`,
+/// the array of it and the patch that leads back. Such a line is again an input, where it keeps the
+/// limits.
+pub fn respond(alloc: Global, mode: Mode, input: &[u8]) -> Result<String, ToolFault>
+    ensures line { IfOk result (λ line. Answer mode input.now (Ok (string_bytes line))) }
+    ensures fault { IfErr result (λ fault. fault ≢ Memory → Answer mode input.now (Err fault)) }
+    ensures leads_back { IfOk result
+        (λ line. mode ≡ Record → LeadsBack input.now (string_bytes line)) }
+{
+    let (document, patch) = read_pair(alloc, input)?;
+    match mode {
+        Mode::Patch => patched(alloc, document, &patch),
+        Mode::Record => recorded(alloc, document, &patch),
+        Mode::Merge => merged(alloc, document, &patch),
+    }
+}
+
+fn patched(alloc: Global, mut document: Value, value: &Value) -> Result<String, ToolFault>
+    ensures line { IfOk result (λ line.
+        Gives Mode.Patch (view document) (view value.now) (Ok (string_bytes line))) }
+    ensures fault { IfErr result (λ fault.
+        fault ≢ Memory → IsNotPatched (view document) (view value.now) fault) }
+{
+    let operations = read_patch(alloc, &document, value)?;
+    patch(alloc, &mut document, operations.as_slice())?;
+    Ok(line_of(alloc, &document)?)
+}
+
+fn recorded(alloc: Global, document: Value, value: &Value) -> Result<String, ToolFault>
+    ensures line { IfOk result (λ line.
+        IsRecordLine (view document) (view value.now) (string_bytes line)) }
+    ensures fault { IfErr result (λ fault.
+        fault ≢ Memory → IsNotPatched (view document) (view value.now) fault) }
+{
+    let whole = record(alloc, document, value)?;
+    Ok(line_of(alloc, &whole)?)
+}
+
+/// The array of the document that the patch leaves and the patch that leads back.
+fn record(alloc: Global, mut document: Value, value: &Value) -> Result<Value, ToolFault>
+    ensures recorded { IfOk result (λ whole.
+        IsRecorded (view document) (view value.now) (view whole)) }
+    ensures leads_back { IfOk result (λ whole. LeadsTo (view document) (view whole)) }
+    ensures document { IfOk result (λ whole. IsDocument (view whole)) }
+    ensures fault { IfErr result (λ fault.
+        fault ≢ Memory → IsNotPatched (view document) (view value.now) fault) }
+{
+    let operations = read_patch(alloc, &document, value)?;
+    let undo = apply_patches(alloc, &mut document, operations.as_slice())?;
+    Ok(pair(alloc, document, undo.to_value(alloc)?)?)
+}
+
+fn merged(alloc: Global, mut document: Value, value: &Value) -> Result<String, ToolFault>
+    ensures line { IfOk result (λ line.
+        Gives Mode.Merge (view document) (view value.now) (Ok (string_bytes line))) }
+    ensures fault { IfErr result (λ fault.
+        fault ≢ Memory → IsNotMerged (view document) (view value.now) fault) }
+{
+    if !is_whole(&document) || !is_whole(value) {
+        return Err(ToolFault::NotWhole);
+    }
+    merge(alloc, &mut document, value)?;
+    Ok(line_of(alloc, &document)?)
+}
+
+/// The patch that the value reads as, for a whole document.
+fn read_patch(alloc: Global, document: &Value, value: &Value) -> Result<Patch, ToolFault>
+    ensures document { IfOk result (λ _. IsDocument (view document.now)) }
+    ensures read { IfOk result (λ patch. ReadsPatch (view value.now) (operations patch.0.items)) }
+    ensures whole { IfOk result (λ patch. AreWhole (operations patch.0.items)) }
+    ensures fault { IfErr result (λ fault.
+        fault ≢ Memory → IsNotPatched (view document.now) (view value.now) fault) }
+{
+    if !is_whole(document) {
+        return Err(ToolFault::NotWhole);
+    }
+    Ok(Patch::from_value(alloc, value)?)
+}
+
+fn pair(alloc: Global, first: Value, second: Value) -> Result<Value, AllocError>
+    ensures { IfOk result (λ v. view v ≡ array (item (view first) (item (view second) no_items))) }
+{
+    Ok(Value::Array(vec![in alloc; first, second]?))
+}

@@ -1,0 +1,35 @@
+//! Applies a JSON Patch to a document: `json_patch_tool patch` reads an array of the two from
+//! standard input, and writes the new document as one line of compact JSON to standard output. With
+//! `record` in place of `patch` it writes an array of the new document and the patch that leads
+//! back, and with `merge` it takes the second value for a merge patch.
+#![tactic(auto)]
+
+mod answer;
+mod edge;
+mod fault;
+mod input;
+pub mod laws;
+mod mode;
+mod program;
+#[cfg(test)]
+mod tests;
+mod watch;
+
+pub use answer::respond;
+pub use edge::run;
+pub use fault::{ToolFault, status};
+pub use mode::{Mode, mode_of, usage};
+use std::env;
+use std::process::ExitCode;
+
+fn main(rt: HostRuntime) -> ExitCode {
+    let asked = program::asked_mode(env::args(&rt));
+    let status = program::run_as_asked(
+        rt.alloc(),
+        asked,
+        &mut rt.stdin(),
+        &mut rt.stdout(),
+        &mut rt.stderr(),
+    );
+    ExitCode::from(status)
+}

@@ -1,0 +1,661 @@
+ghost use Rattle.std.specs.Prelude.{◌<◌, Some, []};
+
+use crate::answer::respond;
+use crate::fault::{ToolFault, status};
+use crate::mode::{Mode, mode_of, usage};
+use crate::program::run_as_asked;
+use crate::run;
+use json_patch::{PatchError, PatchErrorKind, ReadError, ReadKind};
+use jsonptr::PointerBuf;
+use std::alloc::Global;
+use std::io;
+use std::io::{ErrorKind, Read, Write};
+use std::process::Abort;
+use std::test::Fail;
+
+/// Gives its bytes, `piece` at most a call, with an interruption before each where `interrupts`.
+#[derive(Drop)]
+struct Drip<'a> {
+    rest: &'a [u8],
+    piece: usize,
+    interrupts: bool,
+    is_due: bool,
+    ghost gives: { 0 < piece },
+}
+
+impl<'a> Drip<'a> {
+    fn new(text: &'a [u8], piece: usize, interrupts: bool) -> Drip<'a>
+        requires { 0 < piece }
+    {
+        Drip {
+            rest: text,
+            piece,
+            interrupts,
+            is_due: interrupts,
+        }
+    }
+}
+
+impl Read for Drip<'_> {
+    ghost remaining = { λ d. Some d.rest.now };
+
+    fn read(&mut self, buf: &mut [u8]) -> io::Result<usize> {
+        if self.is_due {
+            self.is_due = false;
+            return Err(io::Error::from(ErrorKind::Interrupted));
+        }
+        self.is_due = self.interrupts;
+        let n = self.piece.min(buf.len()).min(self.rest.len());
+        buf[..n].copy_from_slice(&self.rest[..n]);
+        self.rest = &self.rest[n..];
+        Ok(n)
+    }
+}
+
+/// Interrupted `left` times, and then at its end.
+#[derive(Drop)]
+struct Interrupted {
+    left: u32,
+    calls: u32,
+}
+
+impl Read for Interrupted {
+    ghost remaining = { λ _. Some [] };
+
+    fn read(&mut self, _buf: &mut [u8]) -> io::Result<usize> {
+        self.calls = self.calls.saturating_add(1);
+        if self.left == 0 {
+            return Ok(0);
+        }
+        self.left -= 1;
+        Err(io::Error::from(ErrorKind::Interrupted))
+    }
+}
+
+/// Gives its bytes, and then fails.
+#[derive(Drop)]
+struct Broken<'a>(&'a [u8]);
+
+impl Read for Broken<'_> {
+    ghost remaining = { λ b. Some b.0.now };
+
+    fn read(&mut self, buf: &mut [u8]) -> io::Result<usize> {
+        let n = buf.len().min(self.0.len());
+        if n == 0 {
+            return Err(io::Error::from(ErrorKind::ConnectionReset));
+        }
+        buf[..n].copy_from_slice(&self.0[..n]);
+        self.0 = &self.0[n..];
+        Ok(n)
+    }
+}
+
+/// Gives its bytes, and then that many spaces.
+#[derive(Drop)]
+struct Padded<'a> {
+    rest: &'a [u8],
+    spaces: usize,
+}
+
+impl Read for Padded<'_> {
+    fn read(&mut self, buf: &mut [u8]) -> io::Result<usize> {
+        if self.rest.is_empty() {
+            let n = buf.len().min(self.spaces);
+            buf[..n].fill(b' ');
+            self.spaces -= n;
+            return Ok(n);
+        }
+        let n = buf.len().min(self.rest.len());
+        buf[..n].copy_from_slice(&self.rest[..n]);
+        self.rest = &self.rest[n..];
+        Ok(n)
+    }
+}
+
+/// How a writer fails.
+#[derive(Clone, Copy, Drop, PartialEq, Eq)]
+enum Trouble {
+    None,
+    /// At this write, counted from 1.
+    At(u32, ErrorKind),
+    /// A write takes no byte.
+    Full,
+    Flush,
+}
+
+/// Takes one byte a call, until its trouble.
+#[derive(Drop)]
+struct Narrow {
+    taken: Vec<u8>,
+    calls: u32,
+    trouble: Trouble,
+}
+
+impl Write for Narrow {
+    ghost contents = { λ w. Some w.taken.items };
+
+    fn write(&mut self, buf: &[u8]) -> io::Result<usize> {
+        self.calls = self.calls.saturating_add(1);
+        match self.trouble {
+            Trouble::At(call, kind) if call == self.calls => return Err(io::Error::from(kind)),
+            Trouble::Full => return Ok(0),
+            _ => {}
+        }
+        let Some(first) = buf.first() else {
+            return Ok(0);
+        };
+        self.taken.push(*first)?;
+        Ok(1)
+    }
+
+    fn flush(&mut self) -> io::Result<()> {
+        match self.trouble {
+            Trouble::Flush => Err(io::Error::from(ErrorKind::BrokenPipe)),
+            _ => Ok(()),
+        }
+    }
+}
+
+fn writer_with(alloc: Global, trouble: Trouble) -> Narrow {
+    Narrow {
+        taken: Vec::new(alloc),
+        calls: 0,
+        trouble,
+    }
+}
+
+/// A test and an add, on a list of two objects.
+const HAPPY: &[u8] = b"[[{\"name\":\"Andrew\"},{\"name\":\"Maxim\"}],\
+    [{\"op\":\"test\",\"path\":\"/0/name\",\"value\":\"Andrew\"},\
+    {\"op\":\"add\",\"path\":\"/0/happy\",\"value\":true}]]";
+
+const HAPPY_LINE: &[u8] = b"[{\"happy\":true,\"name\":\"Andrew\"},{\"name\":\"Maxim\"}]\n";
+
+/// A move of a member over the object that it stands in.
+const OVER: &[u8] =
+    b"[{\"a\":{\"b\":1,\"c\":2}},[{\"op\":\"move\",\"from\":\"/a/b\",\"path\":\"/a\"}]]";
+
+const OVER_BACK: &[u8] = b"[{\"a\":1},\
+    [{\"op\":\"replace\",\"path\":\"/a\",\"value\":{\"c\":2}},\
+    {\"op\":\"add\",\"path\":\"/a/b\",\"value\":1}]]\n";
+
+/// A move over a member of an item that moves down by one.
+const DOWN: &[u8] =
+    b"[[9,{\"k\":0},{\"b\":1}],[{\"op\":\"move\",\"from\":\"/0\",\"path\":\"/1/b\"}]]";
+
+const DOWN_BACK: &[u8] = b"[[{\"k\":0},{\"b\":9}],\
+    [{\"op\":\"replace\",\"path\":\"/1/b\",\"value\":1},\
+    {\"op\":\"add\",\"path\":\"/0\",\"value\":9}]]\n";
+
+/// A merge patch that replaces, adds and removes members, one of them in an object within.
+const TITLED: &[u8] =
+    b"[{\"title\":\"Goodbye!\",\"author\":{\"givenName\":\"John\",\"familyName\":\"Doe\"},\
+    \"tags\":[\"example\",\"sample\"],\"content\":\"This will be unchanged\"},\
+    {\"title\":\"Hello!\",\"phoneNumber\":\"+01-123-456-7890\",\
+    \"author\":{\"familyName\":null},\"tags\":[\"example\"]}]";
+
+const TITLED_LINE: &[u8] = b"{\"author\":{\"givenName\":\"John\"},\
+    \"content\":\"This will be unchanged\",\"phoneNumber\":\"+01-123-456-7890\",\
+    \"tags\":[\"example\"],\"title\":\"Hello!\"}\n";
+
+const LIMIT: usize = 16_777_216;
+
+#[test]
+fn names_modes_and_usage(rt: HostRuntime) {
+    assert_eq!(rt; mode_of("patch"), Some(Mode::Patch));
+    assert_eq!(rt; mode_of("record"), Some(Mode::Record));
+    assert_eq!(rt; mode_of("merge"), Some(Mode::Merge));
+    for word in [
+        "", "Patch", "PATCH", "patch ", "patc", "patches", "Record", "recorded", "Merge", "edit",
+    ] {
+        assert_eq!(rt; mode_of(word), None, "at {word}");
+    }
+    assert_eq!(rt; usage(), "usage: json_patch_tool patch|record|merge");
+}
+
+fn refused(rt: &HostRuntime) -> Result<ToolFault, Fail> {
+    Ok(ToolFault::Refused(PatchError {
+        operation: 0,
+        path: PointerBuf::parse(rt.alloc(), "/-")?,
+        kind: PatchErrorKind::InvalidPointer,
+    }))
+}
+
+#[test]
+fn tells_faults_and_statuses(rt: HostRuntime) -> Result<(), Fail> {
+    let unnumbered = ReadError {
+        operation: None,
+        kind: ReadKind::NotAList,
+    };
+    let numbered = ReadError {
+        operation: Some(0),
+        kind: ReadKind::MissingValue,
+    };
+    let invalid = "operation '/0' failed at path '/-': path is invalid";
+    let missing = "operation '/0': member \"value\" is missing";
+    let cases = [
+        (ToolFault::TooLarge, 2, "input is too large"),
+        (ToolFault::Syntax, 2, "input is not JSON"),
+        (ToolFault::NotAPair, 2, "input is not a list of two values"),
+        (ToolFault::NotWhole, 2, "a number is not whole"),
+        (ToolFault::Unreadable(unnumbered), 2, "patch is not a list"),
+        (ToolFault::Unreadable(numbered), 2, missing),
+        (refused(&rt)?, 1, invalid),
+        (ToolFault::Memory, 3, "out of memory"),
+        (ToolFault::ReadFailed, 4, "read failed"),
+        (ToolFault::WriteFailed, 4, "write failed"),
+    ];
+    for (fault, number, text) in cases {
+        assert_eq!(rt; status(&fault), number, "at {text}");
+        assert_eq!(rt; format!(in rt.alloc(); "{fault}")?.as_str(), text);
+    }
+    Ok(())
+}
+
+#[test]
+fn answers(rt: HostRuntime) -> Result<(), Fail> {
+    let cases: [(Mode, &[u8], &[u8]); 11] = [
+        (Mode::Patch, HAPPY, HAPPY_LINE),
+        (
+            Mode::Patch,
+            b" [ {\"b\": [1, true], \"a\": \"x\"} , [ ] ]\n",
+            b"{\"a\":\"x\",\"b\":[1,true]}\n",
+        ),
+        (
+            Mode::Patch,
+            b"[18446744073709551615,[]]",
+            b"18446744073709551615\n",
+        ),
+        (
+            Mode::Patch,
+            b"[-9223372036854775808,[]]",
+            b"-9223372036854775808\n",
+        ),
+        (Mode::Record, b"[7,[]]", b"[7,[]]\n"),
+        (Mode::Record, OVER, OVER_BACK),
+        (Mode::Record, DOWN, DOWN_BACK),
+        (Mode::Merge, TITLED, TITLED_LINE),
+        (
+            Mode::Merge,
+            b"[{\"a\":{\"b\":1}},{\"a\":{\"b\":null}}]",
+            b"{\"a\":{}}\n",
+        ),
+        (
+            Mode::Merge,
+            b"[{\"a\":1},{\"a\":{\"b\":{\"c\":null,\"d\":2}}}]",
+            b"{\"a\":{\"b\":{\"d\":2}}}\n",
+        ),
+        (Mode::Merge, b"[{\"a\":1},{\"b\":null}]", b"{\"a\":1}\n"),
+    ];
+    for (mode, text, line) in cases {
+        for (piece, interrupts) in [(1, false), (1, true), (7, true), (100, false)] {
+            let mut reader = Drip::new(text, piece, interrupts);
+            let mut writer = writer_with(rt.alloc(), Trouble::None);
+            assert!(rt; run(rt.alloc(), mode, &mut reader, &mut writer).is_ok());
+            assert!(rt;
+                writer.taken.as_slice() == line,
+                "{piece} bytes a call, {text:?}"
+            );
+        }
+    }
+    Ok(())
+}
+
+#[test]
+fn leads_back(rt: HostRuntime) -> Result<(), Fail> {
+    let cases: [(&[u8], &str); 3] = [
+        (b"[7,[]]", "7\n"),
+        (OVER, "{\"a\":{\"b\":1,\"c\":2}}\n"),
+        (DOWN, "[9,{\"k\":0},{\"b\":1}]\n"),
+    ];
+    for (text, first) in cases {
+        let recorded = respond(rt.alloc(), Mode::Record, text)?;
+        let back = respond(rt.alloc(), Mode::Patch, recorded.as_bytes())?;
+        assert_eq!(rt; back.as_str(), first);
+    }
+    Ok(())
+}
+
+/// Asserts that the input, read byte by byte, is refused with this text and status, and that
+/// nothing is written.
+fn refuse(
+    rt: &(impl Abort + AllocGlobal),
+    mode: Mode,
+    input: &[u8],
+    number: u8,
+    text: &str,
+) -> Result<(), Fail> {
+    for interrupts in [false, true] {
+        let mut writer = writer_with(rt.alloc(), Trouble::None);
+        let mut reader = Drip::new(input, 1, interrupts);
+        match run(rt.alloc(), mode, &mut reader, &mut writer) {
+            Ok(()) => assert!(rt; false, "{text} is wanted at {input:?}"),
+            Err(fault) => {
+                let told = format!(in rt.alloc(); "{fault}")?;
+                assert_eq!(rt; told.as_str(), text, "at {input:?}");
+                assert_eq!(rt; status(&fault), number, "at {input:?}");
+            }
+        }
+        assert_eq!(rt; writer.calls, 0);
+    }
+    Ok(())
+}
+
+#[test]
+fn refuses_what_is_no_pair(rt: HostRuntime) -> Result<(), Fail> {
+    let inputs: [&[u8]; 6] = [
+        b"[{\"a\":1},[",
+        b"[1,[]] x",
+        b"[\"\xff\",[]]",
+        b"[1e400,[]]",
+        b"[\"\\ud800\",[]]",
+        b"]",
+    ];
+    for input in inputs {
+        refuse(&rt, Mode::Patch, input, 2, "input is not JSON")?;
+    }
+    for end in 0..HAPPY.len() {
+        refuse(&rt, Mode::Patch, &HAPPY[..end], 2, "input is not JSON")?;
+    }
+    let inputs: [&[u8]; 3] = [b"[1]", b"[1,[],2]", b"{}"];
+    for input in inputs {
+        for mode in [Mode::Patch, Mode::Record, Mode::Merge] {
+            refuse(&rt, mode, input, 2, "input is not a list of two values")?;
+        }
+    }
+    Ok(())
+}
+
+#[test]
+fn refuses_numbers_that_are_not_whole(rt: HostRuntime) -> Result<(), Fail> {
+    let inputs: [&[u8]; 7] = [
+        b"[1.5,[]]",
+        b"[1.5,{}]",
+        b"[{\"a\":[1.5]},[]]",
+        b"[18446744073709551616,[]]",
+        b"[-9223372036854775809,[]]",
+        b"[-0,[]]",
+        b"[1e2,[]]",
+    ];
+    for input in inputs {
+        for mode in [Mode::Patch, Mode::Record] {
+            refuse(&rt, mode, input, 2, "a number is not whole")?;
+        }
+    }
+    let inputs: [&[u8]; 3] = [b"[{\"a\":1},{\"b\":1.5}]", b"[1.5,{}]", b"[-0,1e2]"];
+    for input in inputs {
+        refuse(&rt, Mode::Merge, input, 2, "a number is not whole")?;
+    }
+    Ok(())
+}
+
+#[test]
+fn refuses_patches(rt: HostRuntime) -> Result<(), Fail> {
+    let cases: [(&[u8], u8, &str); 3] = [
+        (b"[1,{}]", 2, "patch is not a list"),
+        (
+            b"[1,[{\"op\":\"add\",\"path\":\"/a~\",\"value\":1}]]",
+            2,
+            "operation '/0': member \"path\" is not a pointer: invalid escape at byte 2",
+        ),
+        (
+            b"[[1],[{\"op\":\"remove\",\"path\":\"/-\"}]]",
+            1,
+            "operation '/0' failed at path '/-': path is invalid",
+        ),
+    ];
+    for (input, number, text) in cases {
+        for mode in [Mode::Patch, Mode::Record] {
+            refuse(&rt, mode, input, number, text)?;
+        }
+    }
+    Ok(())
+}
+
+/// An object of one member that holds such an object, this deep, and at last 1.
+fn nested_object(rt: &HostRuntime, depth: usize) -> Result<Vec<u8>, Fail> {
+    let mut text = Vec::new(rt.alloc());
+    for _ in 0..depth {
+        text.extend_from_slice(b"{\"a\":")?;
+    }
+    text.push(b'1')?;
+    for _ in 0..depth {
+        text.push(b'}')?;
+    }
+    Ok(text)
+}
+
+#[test]
+fn answers_deeper_than_it_reads(rt: HostRuntime) -> Result<(), Fail> {
+    let mut input = Vec::new(rt.alloc());
+    input.extend_from_slice(b"[{\"a\":1},[")?;
+    for number in 0..200 {
+        if number > 0 {
+            input.push(b',')?;
+        }
+        input.extend_from_slice(b"{\"op\":\"copy\",\"from\":\"\",\"path\":\"/a\"}")?;
+    }
+    input.extend_from_slice(b"]]")?;
+    let deep = nested_object(&rt, 201)?;
+    let mut writer = writer_with(rt.alloc(), Trouble::None);
+    assert!(rt; run(rt.alloc(), Mode::Patch, &mut input.as_slice(), &mut writer).is_ok());
+    assert!(rt; writer.taken.as_slice().strip_suffix(b"\n") == Some(deep.as_slice()));
+
+    let mut again = Vec::new(rt.alloc());
+    again.push(b'[')?;
+    again.extend_from_slice(&deep)?;
+    again.extend_from_slice(b",[]]")?;
+    refuse(&rt, Mode::Patch, &again, 2, "input is not JSON")
+}
+
+/// A list of a list nested this deep and an empty patch.
+fn nested(rt: &HostRuntime, depth: usize) -> Result<Vec<u8>, Fail> {
+    let mut text = Vec::new(rt.alloc());
+    text.push(b'[')?;
+    for bracket in [b'[', b']'] {
+        for _ in 0..depth {
+            text.push(bracket)?;
+        }
+    }
+    text.extend_from_slice(b",[]]")?;
+    Ok(text)
+}
+
+#[test]
+fn reads_127_levels(rt: HostRuntime) -> Result<(), Fail> {
+    let mut writer = writer_with(rt.alloc(), Trouble::None);
+    let text = nested(&rt, 126)?;
+    assert!(rt; run(rt.alloc(), Mode::Patch, &mut text.as_slice(), &mut writer).is_ok());
+    assert_eq!(rt; writer.taken.len(), 253);
+    assert!(rt; writer.taken.iter().filter(|byte| **byte == b'[').count() == 126);
+
+    let mut writer = writer_with(rt.alloc(), Trouble::None);
+    let text = nested(&rt, 127)?;
+    let result = run(rt.alloc(), Mode::Patch, &mut text.as_slice(), &mut writer);
+    assert!(rt; matches!(&result, Err(ToolFault::Syntax)));
+    assert!(rt; writer.calls == 0);
+    Ok(())
+}
+
+#[test]
+fn fails_in_mid_stream(rt: HostRuntime) -> Result<(), Fail> {
+    let cases: [&[u8]; 4] = [HAPPY, b"[1,", b"[1,[]] x", b""];
+    for text in cases {
+        let mut writer = writer_with(rt.alloc(), Trouble::None);
+        let result = run(rt.alloc(), Mode::Patch, &mut Broken(text), &mut writer);
+        assert!(rt;
+            matches!(&result, Err(ToolFault::ReadFailed)),
+            "at {text:?}"
+        );
+        assert!(rt; writer.calls == 0);
+    }
+    Ok(())
+}
+
+#[test]
+fn ends_where_always_interrupted(rt: HostRuntime) {
+    for (left, number, text) in [
+        (19_999_999, 2, "input is not JSON"),
+        (20_000_000, 4, "read failed"),
+    ] {
+        let mut reader = Interrupted { left, calls: 0 };
+        let mut writer = writer_with(rt.alloc(), Trouble::None);
+        let mut errors = writer_with(rt.alloc(), Trouble::None);
+        {
+            // Behind a pointer, the calls are made one by one.
+            let mut behind: &mut dyn Read = &mut reader;
+            let asked = Ok(Some(Mode::Patch));
+            let ended = run_as_asked(rt.alloc(), asked, &mut behind, &mut writer, &mut errors);
+            assert_eq!(rt; ended, number);
+        }
+        assert_eq!(rt; reader.calls, 20_000_000);
+        assert_eq!(rt; writer.calls, 0);
+        assert!(rt;
+            errors.taken.starts_with(text.as_bytes()),
+            "{text} is wanted"
+        );
+    }
+}
+
+#[test]
+fn ends_where_too_much_comes(rt: HostRuntime) {
+    let room = LIMIT - HAPPY.len();
+    let mut writer = writer_with(rt.alloc(), Trouble::None);
+    let mut reader = Padded {
+        rest: HAPPY,
+        spaces: room,
+    };
+    assert!(rt; run(rt.alloc(), Mode::Patch, &mut reader, &mut writer).is_ok());
+    assert!(rt; writer.taken.as_slice() == HAPPY_LINE);
+
+    for spaces in [room + 1, usize::MAX] {
+        let mut writer = writer_with(rt.alloc(), Trouble::None);
+        let mut reader = Padded {
+            rest: HAPPY,
+            spaces,
+        };
+        let result = run(rt.alloc(), Mode::Patch, &mut reader, &mut writer);
+        assert!(rt;
+            matches!(&result, Err(ToolFault::TooLarge)),
+            "at {spaces} spaces"
+        );
+        assert!(rt; writer.calls == 0);
+    }
+}
+
+#[test]
+fn says_how_far_it_wrote(rt: HostRuntime) {
+    let cases = [
+        (Trouble::At(1, ErrorKind::BrokenPipe), 0),
+        (Trouble::At(1, ErrorKind::Interrupted), 0),
+        (Trouble::At(5, ErrorKind::BrokenPipe), 4),
+        (Trouble::At(5, ErrorKind::Interrupted), 4),
+        (Trouble::Full, 0),
+        (Trouble::Flush, HAPPY_LINE.len()),
+    ];
+    for (trouble, sent) in cases {
+        let mut reader = HAPPY;
+        let mut writer = writer_with(rt.alloc(), trouble);
+        let result = run(rt.alloc(), Mode::Patch, &mut reader, &mut writer);
+        assert!(rt; matches!(&result, Err(ToolFault::WriteFailed)));
+        assert!(rt; sent <= HAPPY_LINE.len());
+        assert!(rt;
+            writer.taken.as_slice() == &HAPPY_LINE[..sent],
+            "after {sent} bytes"
+        );
+    }
+}
+
+/// The status, with what was written and what was told.
+fn ended(
+    rt: &HostRuntime,
+    asked: Result<Option<Mode>, ToolFault>,
+    input: &[u8],
+    writing: Trouble,
+    telling: Trouble,
+) -> (u8, Vec<u8>, Vec<u8>) {
+    let mut reader = input;
+    let mut writer = writer_with(rt.alloc(), writing);
+    let mut errors = writer_with(rt.alloc(), telling);
+    let number = run_as_asked(rt.alloc(), asked, &mut reader, &mut writer, &mut errors);
+    (number, writer.taken, errors.taken)
+}
+
+#[test]
+fn ends_with_a_status(rt: HostRuntime) {
+    let cases: [(
+        Result<Option<Mode>, ToolFault>,
+        &[u8],
+        Trouble,
+        u8,
+        &[u8],
+        &[u8],
+    ); 6] = [
+        (
+            Ok(Some(Mode::Patch)),
+            HAPPY,
+            Trouble::None,
+            0,
+            HAPPY_LINE,
+            b"",
+        ),
+        (
+            Ok(Some(Mode::Patch)),
+            b"[1]",
+            Trouble::None,
+            2,
+            b"",
+            b"input is not a list of two values\n",
+        ),
+        (
+            Ok(Some(Mode::Patch)),
+            HAPPY,
+            Trouble::Flush,
+            4,
+            HAPPY_LINE,
+            b"write failed\n",
+        ),
+        (
+            Ok(Some(Mode::Patch)),
+            HAPPY,
+            Trouble::Full,
+            4,
+            b"",
+            b"write failed\n",
+        ),
+        (
+            Ok(None),
+            HAPPY,
+            Trouble::None,
+            64,
+            b"",
+            b"usage: json_patch_tool patch|record|merge\n",
+        ),
+        (
+            Err(ToolFault::Memory),
+            HAPPY,
+            Trouble::None,
+            3,
+            b"",
+            b"out of memory\n",
+        ),
+    ];
+    for (asked, input, writing, number, line, text) in cases {
+        let (status, written, told) = ended(&rt, asked, input, writing, Trouble::None);
+        assert_eq!(rt; status, number);
+        assert!(rt; written.as_slice() == line, "at status {number}");
+        assert!(rt; told.as_slice() == text, "at status {number}");
+    }
+}
+
+#[test]
+fn ends_so_where_nothing_can_be_told(rt: HostRuntime) {
+    let broken = Trouble::At(1, ErrorKind::BrokenPipe);
+    for telling in [broken, Trouble::Full] {
+        let (usage, _, _) = ended(&rt, Ok(None), HAPPY, Trouble::None, telling);
+        assert_eq!(rt; usage, 64);
+        let patch = Ok(Some(Mode::Patch));
+        let (fault, _, _) = ended(&rt, patch, b"", Trouble::None, telling);
+        assert_eq!(rt; fault, 2);
+    }
+}

@@ -1,0 +1,26 @@
+//! Tests of `json_patch`: published vectors and worked examples, as tables of cases. It has no
+//! public item.
+#![tactic(auto)]
+
+#[cfg(test)]
+mod callers;
+#[cfg(test)]
+mod computed;
+#[cfg(test)]
+mod documentation;
+#[cfg(test)]
+mod examples;
+#[cfg(test)]
+mod merges;
+#[cfg(test)]
+mod reading;
+#[cfg(test)]
+mod refusals;
+#[cfg(test)]
+mod rfc6901;
+#[cfg(test)]
+mod rfc6902;
+#[cfg(test)]
+mod runner;
+#[cfg(test)]
+mod worked;

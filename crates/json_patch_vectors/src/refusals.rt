@@ -1,0 +1,243 @@
+//! Patches that are refused, worked by hand from RFC 6902, sections 4 and 5.
+
+use crate::runner::{Case, Expected, run_all};
+use json_patch::{Patch, is_whole, patch};
+use serde_json::Value;
+use std::test::Fail;
+
+const CASES: &[Case] = &[
+    Case {
+        name: "a dash names no item",
+        document: "[1]",
+        patch: r#"[{"op":"remove","path":"/-"}]"#,
+        expected: Expected::Refused {
+            operation: 0,
+            path: "/-",
+            kind: "InvalidPointer",
+            left: None,
+        },
+    },
+    Case {
+        name: "a dash names no item to be replaced",
+        document: r#"{"a":[1]}"#,
+        patch: r#"[{"op":"replace","path":"/a/-","value":2}]"#,
+        expected: Expected::Refused {
+            operation: 0,
+            path: "/a/-",
+            kind: "InvalidPointer",
+            left: None,
+        },
+    },
+    Case {
+        name: "no member is made by a replacement",
+        document: r#"{"a":1}"#,
+        patch: r#"[{"op":"replace","path":"/b","value":2}]"#,
+        expected: Expected::Refused {
+            operation: 0,
+            path: "/b",
+            kind: "InvalidPointer",
+            left: None,
+        },
+    },
+    Case {
+        name: "an object that is the whole document isn't removed",
+        document: r#"{"a":1}"#,
+        patch: r#"[{"op":"remove","path":""}]"#,
+        expected: Expected::Refused {
+            operation: 0,
+            path: "",
+            kind: "InvalidPointer",
+            left: None,
+        },
+    },
+    Case {
+        name: "a leading zero names no item",
+        document: "[1,2]",
+        patch: r#"[{"op":"test","path":"/01","value":2}]"#,
+        expected: Expected::Refused {
+            operation: 0,
+            path: "/01",
+            kind: "InvalidPointer",
+            left: None,
+        },
+    },
+    Case {
+        name: "a number past all places names no item",
+        document: "[1,2]",
+        patch: r#"[{"op":"test","path":"/18446744073709551616","value":2}]"#,
+        expected: Expected::Refused {
+            operation: 0,
+            path: "/18446744073709551616",
+            kind: "InvalidPointer",
+            left: None,
+        },
+    },
+    Case {
+        name: "nothing is copied from a leading zero",
+        document: "[1,2]",
+        patch: r#"[{"op":"copy","from":"/01","path":"/-"}]"#,
+        expected: Expected::Refused {
+            operation: 0,
+            path: "/-",
+            kind: "InvalidFromPointer",
+            left: None,
+        },
+    },
+    Case {
+        name: "the refusal of a copy names the path, also where nothing stands at from",
+        document: r#"{"a":1}"#,
+        patch: r#"[{"op":"copy","from":"/b","path":"/c/d"}]"#,
+        expected: Expected::Refused {
+            operation: 0,
+            path: "/c/d",
+            kind: "InvalidFromPointer",
+            left: None,
+        },
+    },
+    Case {
+        name: "a move counts its target after the value is gone",
+        document: "[1,2]",
+        patch: r#"[{"op":"move","from":"/0","path":"/2"}]"#,
+        expected: Expected::Refused {
+            operation: 0,
+            path: "/2",
+            kind: "InvalidPointer",
+            left: None,
+        },
+    },
+    Case {
+        name: "a move loses nothing where its target's parent has moved away",
+        document: "[5,[6]]",
+        patch: r#"[{"op":"move","from":"/0","path":"/1/-"}]"#,
+        expected: Expected::Refused {
+            operation: 0,
+            path: "/1/-",
+            kind: "InvalidPointer",
+            left: Some("[5,[6]]"),
+        },
+    },
+    Case {
+        name: "a move loses nothing where its target isn't there",
+        document: r#"{"a":1}"#,
+        patch: r#"[{"op":"move","from":"/a","path":"/c/x"}]"#,
+        expected: Expected::Refused {
+            operation: 0,
+            path: "/c/x",
+            kind: "InvalidPointer",
+            left: Some(r#"{"a":1}"#),
+        },
+    },
+    Case {
+        name: "no value is moved inside itself, also where none is there",
+        document: "{}",
+        patch: r#"[{"op":"move","from":"/a","path":"/a/b"}]"#,
+        expected: Expected::Refused {
+            operation: 0,
+            path: "/a/b",
+            kind: "CannotMoveInsideItself",
+            left: None,
+        },
+    },
+    Case {
+        name: "no item is moved inside itself",
+        document: "[5,[6]]",
+        patch: r#"[{"op":"move","from":"/0","path":"/0/-"}]"#,
+        expected: Expected::Refused {
+            operation: 0,
+            path: "/0/-",
+            kind: "CannotMoveInsideItself",
+            left: None,
+        },
+    },
+    Case {
+        name: "the empty document isn't moved inside itself",
+        document: "{}",
+        patch: r#"[{"op":"move","from":"","path":"/a"}]"#,
+        expected: Expected::Refused {
+            operation: 0,
+            path: "/a",
+            kind: "CannotMoveInsideItself",
+            left: None,
+        },
+    },
+    Case {
+        name: "the whole document isn't moved inside itself",
+        document: r#"{"a":1}"#,
+        patch: r#"[{"op":"move","from":"","path":"/b"}]"#,
+        expected: Expected::Refused {
+            operation: 0,
+            path: "/b",
+            kind: "CannotMoveInsideItself",
+            left: None,
+        },
+    },
+    Case {
+        name: "the whole document isn't moved to itself",
+        document: "{}",
+        patch: r#"[{"op":"move","from":"","path":""}]"#,
+        expected: Expected::Refused {
+            operation: 0,
+            path: "",
+            kind: "InvalidFromPointer",
+            left: None,
+        },
+    },
+    Case {
+        name: "a failed test takes back what stands before it",
+        document: r#"{"a":1}"#,
+        patch: r#"[{"op":"add","path":"/b","value":2},{"op":"test","path":"/a","value":9}]"#,
+        expected: Expected::Refused {
+            operation: 1,
+            path: "/a",
+            kind: "TestFailed",
+            left: Some(r#"{"a":1,"b":2}"#),
+        },
+    },
+    Case {
+        name: "the third of three removals finds no item",
+        document: r#"{"a":[1,2]}"#,
+        patch: r#"[
+            {"op":"remove","path":"/a/0"},
+            {"op":"remove","path":"/a/0"},
+            {"op":"remove","path":"/a/0"}
+        ]"#,
+        expected: Expected::Refused {
+            operation: 2,
+            path: "/a/0",
+            kind: "InvalidPointer",
+            left: Some(r#"{"a":[]}"#),
+        },
+    },
+];
+
+#[test]
+fn refused_patches(rt: HostRuntime) -> Result<(), Fail> {
+    run_all(&rt, CASES)
+}
+
+#[test]
+fn a_refusal_tells_where_and_why(rt: HostRuntime) -> Result<(), Fail> {
+    let alloc = rt.alloc();
+    for (document, operations, expected) in [
+        (
+            "[1]",
+            r#"[{"op":"remove","path":"/-"}]"#,
+            "operation '/0' failed at path '/-': path is invalid",
+        ),
+        (
+            r#"{"a":1}"#,
+            r#"[{"op":"move","from":"/a","path":"/c/x"}]"#,
+            "operation '/0' failed at path '/c/x': path is invalid",
+        ),
+    ] {
+        let mut document = Value::from_str(alloc, document)?;
+        let operations = Patch::from_value(alloc, &Value::from_str(alloc, operations)?)?;
+        assert!(rt; is_whole(&document));
+        assert!(rt; operations.is_whole());
+        match patch(alloc, &mut document, operations.as_slice()) {
+            Ok(()) => panic!(rt; "accepted, not refused: {expected}"),
+            Err(fault) => assert_eq!(rt; format!(in alloc; "{fault}")?.as_str(), expected),
+        }
+    }
+    Ok(())
+}
