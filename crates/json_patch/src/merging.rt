@@ -80,6 +80,3 @@ fn merge_members(
     }
     Ok(())
 }
-
-#[cfg(test)]
-mod tests;
