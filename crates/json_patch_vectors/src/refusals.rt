@@ -208,6 +208,20 @@ const CASES: &[Case] = &[
             left: Some(r#"{"a":[]}"#),
         },
     },
+    Case {
+        name: "a member is moved over its parent, and a later test fails",
+        document: r#"{"a":{"b":1}}"#,
+        patch: r#"[
+            {"op":"move","from":"/a/b","path":"/a"},
+            {"op":"test","path":"/a","value":2}
+        ]"#,
+        expected: Expected::Refused {
+            operation: 1,
+            path: "/a",
+            kind: "TestFailed",
+            left: Some(r#"{"a":1}"#),
+        },
+    },
 ];
 
 #[test]
