@@ -13,8 +13,6 @@ mod examples;
 #[cfg(test)]
 mod merges;
 #[cfg(test)]
-mod reading;
-#[cfg(test)]
 mod refusals;
 #[cfg(test)]
 mod rfc6901;
