@@ -6,6 +6,5 @@ pub mod documents;
 pub mod equality;
 pub mod inverse;
 pub mod merging;
-pub mod places;
 pub mod runs;
 pub mod values;
