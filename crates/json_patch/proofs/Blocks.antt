@@ -31,21 +31,24 @@ settled_only t ds i u h is = (place_is_token u i).0 is ∙ sym ((place_is_token 
 
 -- ---- what undoes an add
 
-module _ (d : Data) (front : Pointer) (last : List ℕ) (P : Pointer) where
-  member_back : (k : List ℕ) (o : Option Data) → found d P ≡ o → TakesBack d P front (key k) (undo_at P o)
+module _ (d : Data) (P : Pointer) where
+  member_back : (k : List ℕ) (o : Option Data) → found d P ≡ o → TakesBack d P (key k) (undo_at P o)
   member_back k None is = inl (found_never d P is, refl)
   member_back k (Some w) is = inr (w, found_resolves d P w is, refl)
 
-  takes_back : (p : Data) (s : Step) → Aims p last s → TakesBack d P front s (undo_in d front last P (Some p))
-  takes_back (array ds) (place i) aims = (settled_token (Some (array ds)) last, settled last ds i aims, refl)
-  takes_back (object ms) (key k) aims = member_back k (found d P) refl
+module _ (d : Data) (t : List ℕ) (P : Pointer) where
+  takes_back : (p : Data) (s : Step) → Aims p (last_of t P) s → TakesBack d (t ∷ P) s (undo_in d (front_of t P) (last_of t P) (t ∷ P) (Some p))
+  takes_back (array ds) (place i) aims =
+      (front_of t P, last_of t P, settled_token (Some (array ds)) (last_of t P), split_whole t P, settled (last_of t P) ds i aims, refl)
+  takes_back (object ms) (key k) aims = member_back d (t ∷ P) k (found d (t ∷ P)) refl
   takes_back p s aims = absurd aims
 
-  back_only : (p : Data) (s : Step) (u : Operation) → Aims p last s → TakesBack d P front s u → u ≡ undo_in d front last P (Some p)
+  back_only : (p : Data) (s : Step) (u : Operation) → Aims p (last_of t P) s → TakesBack d (t ∷ P) s u → u ≡ undo_in d (front_of t P) (last_of t P) (t ∷ P) (Some p)
   back_only (array ds) (place i) u aims h =
-      h.2 ∙ ap (λ x. remove (front ++ x ∷ [])) (settled_only last ds i h.0 aims h.1)
+      let w : (h.0 ≡ front_of t P) × (h.1 ≡ last_of t P) = split_is t P h.0 h.1 h.3 in
+      h.5 ∙ ap (λ x. remove (x ++ h.2 ∷ [])) w.0 ∙ ap (λ x. remove (front_of t P ++ x ∷ [])) (settled_only (last_of t P) ds i h.2 aims h.4)
   back_only (object ms) (key k) u aims h =
-      ⊎_elim (λ n. n.1 ∙ ap (undo_at P) (sym (never_found d P n.0))) (λ w. w.2 ∙ ap (undo_at P) (sym (stands_found d P w.0 w.1))) h
+      ⊎_elim (λ n. n.1 ∙ ap (undo_at (t ∷ P)) (sym (never_found d (t ∷ P) n.0))) (λ w. w.2 ∙ ap (undo_at (t ∷ P)) (sym (stands_found d (t ∷ P) w.0 w.1))) h
   back_only p s u aims h = absurd aims
 
 undoes_beyond : (d : Data) (t : List ℕ) (P : Pointer) (v e : Data) → added d (t ∷ P) v ≡ Some e → UndoesAdd d (t ∷ P) (undo_add d (t ∷ P))
@@ -56,8 +59,7 @@ undoes_beyond d t P v e is =
       a.L,
       i.s,
       record { front = front_of t P; last = last_of t P; whole = split_whole t P; parent = a.p; resolves = a.resolves; aims = i.aims },
-      subst (λ o. TakesBack d (t ∷ P) (front_of t P) i.s (undo_in d (front_of t P) (last_of t P) (t ∷ P) o)) (sym at)
-          (takes_back d (front_of t P) (last_of t P) (t ∷ P) a.p i.s i.aims),
+      subst (λ o. TakesBack d (t ∷ P) i.s (undo_in d (front_of t P) (last_of t P) (t ∷ P) o)) (sym at) (takes_back d t P a.p i.s i.aims),
     )
 
 undoes_is : (d : Data) (P : Pointer) (v e : Data) → added d P v ≡ Some e → UndoesAdd d P (undo_add d P)
@@ -70,8 +72,7 @@ undoes_only d (t ∷ P) u h =
     let g : HasTarget d (t ∷ P) h.0 h.1 = h.2 in
     let w : (g.front ≡ front_of t P) × (g.last ≡ last_of t P) = split_is t P g.front g.last g.whole in
     let at : found d (front_of t P) ≡ Some g.parent = ap (found d) (sym w.0) ∙ resolves_found d g.front h.0 g.parent g.resolves in
-    back_only d g.front g.last (t ∷ P) g.parent h.1 u g.aims h.3
-    ∙ ap (λ x. undo_in d x g.last (t ∷ P) (Some g.parent)) w.0 ∙ ap (λ x. undo_in d (front_of t P) x (t ∷ P) (Some g.parent)) w.1
+    back_only d t P g.parent h.1 u (subst (λ x. Aims g.parent x h.1) w.1 g.aims) h.3
     ∙ ap (undo_in d (front_of t P) (last_of t P) (t ∷ P)) (sym at)
 
 -- ---- blocks

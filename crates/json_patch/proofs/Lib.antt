@@ -21,6 +21,7 @@ pub mod Floats
 pub mod Walked
 pub mod Examples
 pub mod Samed
+pub mod SameMembers
 pub mod Wholeness
 pub mod Stepped
 pub mod Runs

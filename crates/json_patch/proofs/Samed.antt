@@ -83,6 +83,10 @@ same-document r d e is w = Decides-like r (AreSame-is d e w) (is-AreSame d e) (s
 pub pointer_says : (r : Bool) (P Q : Pointer) → (IsTrue r ↔ (P ≡ Q)) → r ≡ same_pointer P Q
 pointer_says r P Q h = same_from_decides r (same_pointer P Q) h (pointer-Decides P Q)
 
+-- what `==` answers by the relation is what the trait's test says
+pub operation_tells : (r : Bool) (op other : Operation) → (IsTrue r ↔ AreSameOperations op other) → r ≡ same_operation op other
+operation_tells r op other h = same_from_decides r (same_operation op other) h (operation-Decides op other)
+
 tests-Decide : (xs ys : List PatchOperation) → Decides (pointwise (on operation_of same_operation) xs ys) (AreSameLists (operations xs) (operations ys))
 tests-Decide [] [] = (λ h. tt, λ h. refl)
 tests-Decide (x ∷ xs) (y ∷ ys) =
@@ -93,3 +97,7 @@ tests-Decide _ _ = (λ h. cc, λ h. absurd h)
 pub operations_say : (r : Bool) (xs ys : List PatchOperation) → r ≡ pointwise (on operation_of same_operation) xs ys
     → IsTrue r ↔ AreSameLists (operations xs) (operations ys)
 operations_say r xs ys is = Decides-at r (pointwise (on operation_of same_operation) xs ys) is (tests-Decide xs ys)
+
+pub operations_tell : (r : Bool) (xs ys : List PatchOperation) → (IsTrue r ↔ AreSameLists (operations xs) (operations ys))
+    → r ≡ pointwise (on operation_of same_operation) xs ys
+operations_tell r xs ys h = same_from_decides r (pointwise (on operation_of same_operation) xs ys) h (tests-Decide xs ys)

@@ -2,6 +2,7 @@ pub mod Document
 pub mod Resolve
 pub mod Change
 pub mod Same
+pub mod Propositions
 pub mod Operation
 pub mod Step
 pub mod Run

@@ -1,6 +1,7 @@
 -- Equality of JSON values (RFC 6902, section 4.6), and of operations.
-use Rattle.std.specs.Prelude.{◌≡◌, List, [], ◌∷◌}
+use Rattle.std.specs.Prelude.{◌≡◌, List, [], ◌∷◌, Option, Some, None}
 use Rattle.serde_json.specs.Data.{Num, unsigned, negative, float, Data, null, boolean, number, string, array, object, Items, no_items, item, Members, no_members, member}
+use Rattle.json_patch.specs.Document.{IsBelowMembers}
 use Rattle.json_patch.specs.Operation.{Operation, add, remove, replace, move, copy, test}
 
 -- numbers that aren't whole count as one value
@@ -10,8 +11,8 @@ AreSameNumbers (negative y) (negative z) = y ≡ z
 AreSameNumbers (float x) (float y) = Unit {0}
 AreSameNumbers m n = ⊥
 
--- atoms of one kind and value, lists item by item, objects member by member: a `Value` holds its members in the order of
--- their names, so these are the members of each name
+-- atoms of one kind and value, lists item by item, objects member by member. A `Value` holds its members in the order of
+-- their names, and so these are the members of each name (law `same_by_name`)
 abbrev mutual
   pub AreSame : Data → Data → Type 0
   AreSame null null = Unit {0}
@@ -31,6 +32,17 @@ abbrev mutual
   AreSameMembers no_members no_members = Unit {0}
   AreSameMembers (member k d ms) (member l e ns) = (k ≡ l) × AreSame d e × AreSameMembers ms ns
   AreSameMembers ms ns = ⊥
+
+-- what stands at a name of two objects: the same value, or nothing in both
+abbrev pub AreSameAt : Option Data → Option Data → Type 0
+AreSameAt None None = Unit {0}
+AreSameAt (Some d) (Some e) = AreSame d e
+AreSameAt o p = ⊥
+
+-- each name once, in byte order, as in each `Value`
+abbrev pub AreInOrder : Members → Type 0
+AreInOrder no_members = Unit {0}
+AreInOrder (member k d ms) = IsBelowMembers k ms × AreInOrder ms
 
 -- operations of one kind, with equal pointers and the same value
 abbrev pub AreSameOperations : Operation → Operation → Type 0

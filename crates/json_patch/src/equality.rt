@@ -10,8 +10,6 @@ ghost use Rattle.json_patch.specs.Same.{AreSame};
 ghost use Rattle.json_patch.specs.SameComputed.{same_num, same, same_items, same_members};
 
 mod operations;
-#[cfg(test)]
-mod tests;
 
 use crate::operation::{Patch, PatchOperation};
 use serde_json::{Map, Number, Value};

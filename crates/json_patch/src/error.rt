@@ -7,8 +7,6 @@ ghost use Rattle.json_patch.specs.declared.error.PatchFault.TheVariants.{Memory}
 use jsonptr::index::{OutOfBoundsError, ParseIndexError};
 use jsonptr::{ParseError, PointerBuf};
 use std::alloc::AllocError;
-use std::error::Error;
-use std::fmt;
 use thiserror::Error;
 
 /// Why an operation is refused (RFC 6902, section 4).
@@ -114,13 +112,15 @@ pub enum ReadKind {
     /// There is no member `value`.
     #[error("member \"value\" is missing")]
     MissingValue,
-    /// The member `value` holds a number with a fraction, an exponent or more than 64 bits.
+    /// The member `value` holds a number that is no whole one of 64 bits: one with a fraction or an
+    /// exponent, minus zero, or one of more bits.
     #[error("member \"value\" holds a number that is not whole")]
     ValueNotWhole,
 }
 
 /// The first thing at fault in a JSON value that isn't read as a patch or an operation.
-#[derive(Debug, Drop)]
+#[derive(Debug, Drop, Error)]
+#[error("{place}{kind}", place = self.place())]
 pub struct ReadError {
     /// Which operation of the list is at fault, counted from 0. There is none where a single
     /// operation is read, or where the patch isn't a list.
@@ -129,17 +129,23 @@ pub struct ReadError {
     pub kind: ReadKind,
 }
 
-impl fmt::Display for ReadError {
-    fn fmt<W: fmt::Write>(&self, f: &mut fmt::Formatter<W>) -> fmt::Result {
-        let kind = &self.kind;
+/// How the text of a fault begins.
+#[derive(Debug, Drop, Error)]
+enum Place {
+    #[error("operation '/{0}': ")]
+    At(usize),
+    #[error("")]
+    Nowhere,
+}
+
+impl ReadError {
+    fn place(&self) -> Place {
         match self.operation {
-            Some(operation) => write!(f, "operation '/{operation}': {kind}"),
-            None => write!(f, "{kind}"),
+            Some(operation) => Place::At(operation),
+            None => Place::Nowhere,
         }
     }
 }
-
-impl Error for ReadError {}
 
 /// Why a patch or an operation wasn't read.
 #[derive(Debug, Drop, Error)]

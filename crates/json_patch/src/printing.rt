@@ -361,6 +361,3 @@ fn write_character<W: fmt::Write>(character: char, f: &mut fmt::Formatter<W>) ->
         _ => f.write_char(character),
     }
 }
-
-#[cfg(test)]
-mod tests;

@@ -323,6 +323,3 @@ fn numbered(fault: ReadFault, number: usize) -> ReadFault
         ReadFault::Memory(error) => ReadFault::Memory(error),
     }
 }
-
-#[cfg(test)]
-mod tests;

@@ -115,6 +115,3 @@ impl Patch {
         Ok(Value::Array(items))
     }
 }
-
-#[cfg(test)]
-mod tests;

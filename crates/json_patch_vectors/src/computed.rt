@@ -87,7 +87,7 @@ const CASES: &[Case] = &[
             operation: 0,
             path: "",
             kind: "InvalidPointer",
-            left: None,
+            left: "1",
         },
     },
     Case {
@@ -98,7 +98,7 @@ const CASES: &[Case] = &[
             operation: 0,
             path: "/a",
             kind: "InvalidPointer",
-            left: None,
+            left: "1",
         },
     },
     Case {
@@ -109,7 +109,7 @@ const CASES: &[Case] = &[
             operation: 0,
             path: "/b",
             kind: "InvalidFromPointer",
-            left: None,
+            left: "1",
         },
     },
 ];

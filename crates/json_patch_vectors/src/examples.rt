@@ -50,8 +50,18 @@ fn a_refusal(rt: HostRuntime) -> Result<(), Fail> {
     }
     assert_eq!(rt; document.to_string(alloc)?.as_str(), r#"{"a":1}"#);
 
-    // `patch_unsafe` leaves what the operations before the refused one made of it
-    assert!(rt; patch_unsafe(alloc, &mut document, changes.as_slice()).is_err());
+    // `patch_unsafe` answers the same error, and leaves what the operations before the refused one
+    // made of it
+    match patch_unsafe(alloc, &mut document, changes.as_slice()) {
+        Err(PatchFault::Refused(error)) => {
+            let text = format!(in alloc; "{error}")?;
+            assert_eq!(rt;
+                text.as_str(),
+                "operation '/1' failed at path '/c/d': path is invalid"
+            );
+        }
+        _ => panic!(rt; "the second operation is refused"),
+    }
     assert_eq!(rt; document.to_string(alloc)?.as_str(), r#"{"a":1,"b":2}"#);
     Ok(())
 }

@@ -3,15 +3,23 @@
 #![tactic(auto)]
 
 #[cfg(test)]
+mod always_out_of_memory;
+#[cfg(test)]
 mod callers;
 #[cfg(test)]
 mod computed;
 #[cfg(test)]
 mod documentation;
 #[cfg(test)]
+mod equality;
+#[cfg(test)]
 mod examples;
 #[cfg(test)]
 mod merges;
+#[cfg(test)]
+mod printing;
+#[cfg(test)]
+mod reading;
 #[cfg(test)]
 mod refusals;
 #[cfg(test)]
@@ -22,3 +30,5 @@ mod rfc6902;
 mod runner;
 #[cfg(test)]
 mod worked;
+#[cfg(test)]
+mod writing;

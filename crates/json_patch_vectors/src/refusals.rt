@@ -14,7 +14,7 @@ const CASES: &[Case] = &[
             operation: 0,
             path: "/-",
             kind: "InvalidPointer",
-            left: None,
+            left: "[1]",
         },
     },
     Case {
@@ -25,7 +25,7 @@ const CASES: &[Case] = &[
             operation: 0,
             path: "/a/-",
             kind: "InvalidPointer",
-            left: None,
+            left: r#"{"a":[1]}"#,
         },
     },
     Case {
@@ -36,7 +36,7 @@ const CASES: &[Case] = &[
             operation: 0,
             path: "/b",
             kind: "InvalidPointer",
-            left: None,
+            left: r#"{"a":1}"#,
         },
     },
     Case {
@@ -47,7 +47,7 @@ const CASES: &[Case] = &[
             operation: 0,
             path: "",
             kind: "InvalidPointer",
-            left: None,
+            left: r#"{"a":1}"#,
         },
     },
     Case {
@@ -58,7 +58,7 @@ const CASES: &[Case] = &[
             operation: 0,
             path: "/01",
             kind: "InvalidPointer",
-            left: None,
+            left: "[1,2]",
         },
     },
     Case {
@@ -69,7 +69,7 @@ const CASES: &[Case] = &[
             operation: 0,
             path: "/18446744073709551616",
             kind: "InvalidPointer",
-            left: None,
+            left: "[1,2]",
         },
     },
     Case {
@@ -80,7 +80,7 @@ const CASES: &[Case] = &[
             operation: 0,
             path: "/-",
             kind: "InvalidFromPointer",
-            left: None,
+            left: "[1,2]",
         },
     },
     Case {
@@ -91,7 +91,7 @@ const CASES: &[Case] = &[
             operation: 0,
             path: "/c/d",
             kind: "InvalidFromPointer",
-            left: None,
+            left: r#"{"a":1}"#,
         },
     },
     Case {
@@ -102,7 +102,7 @@ const CASES: &[Case] = &[
             operation: 0,
             path: "/2",
             kind: "InvalidPointer",
-            left: None,
+            left: "[1,2]",
         },
     },
     Case {
@@ -113,7 +113,7 @@ const CASES: &[Case] = &[
             operation: 0,
             path: "/1/-",
             kind: "InvalidPointer",
-            left: Some("[5,[6]]"),
+            left: "[5,[6]]",
         },
     },
     Case {
@@ -124,7 +124,7 @@ const CASES: &[Case] = &[
             operation: 0,
             path: "/c/x",
             kind: "InvalidPointer",
-            left: Some(r#"{"a":1}"#),
+            left: r#"{"a":1}"#,
         },
     },
     Case {
@@ -135,7 +135,7 @@ const CASES: &[Case] = &[
             operation: 0,
             path: "/a/b",
             kind: "CannotMoveInsideItself",
-            left: None,
+            left: "{}",
         },
     },
     Case {
@@ -146,7 +146,7 @@ const CASES: &[Case] = &[
             operation: 0,
             path: "/0/-",
             kind: "CannotMoveInsideItself",
-            left: None,
+            left: "[5,[6]]",
         },
     },
     Case {
@@ -157,7 +157,7 @@ const CASES: &[Case] = &[
             operation: 0,
             path: "/a",
             kind: "CannotMoveInsideItself",
-            left: None,
+            left: "{}",
         },
     },
     Case {
@@ -168,7 +168,7 @@ const CASES: &[Case] = &[
             operation: 0,
             path: "/b",
             kind: "CannotMoveInsideItself",
-            left: None,
+            left: r#"{"a":1}"#,
         },
     },
     Case {
@@ -179,7 +179,7 @@ const CASES: &[Case] = &[
             operation: 0,
             path: "",
             kind: "InvalidFromPointer",
-            left: None,
+            left: "{}",
         },
     },
     Case {
@@ -190,7 +190,7 @@ const CASES: &[Case] = &[
             operation: 1,
             path: "/a",
             kind: "TestFailed",
-            left: Some(r#"{"a":1,"b":2}"#),
+            left: r#"{"a":1,"b":2}"#,
         },
     },
     Case {
@@ -205,7 +205,7 @@ const CASES: &[Case] = &[
             operation: 2,
             path: "/a/0",
             kind: "InvalidPointer",
-            left: Some(r#"{"a":[]}"#),
+            left: r#"{"a":[]}"#,
         },
     },
     Case {
@@ -219,7 +219,7 @@ const CASES: &[Case] = &[
             operation: 1,
             path: "/a",
             kind: "TestFailed",
-            left: Some(r#"{"a":1}"#),
+            left: r#"{"a":1}"#,
         },
     },
 ];

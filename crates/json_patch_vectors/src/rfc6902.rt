@@ -102,7 +102,7 @@ const CASES: &[Case] = &[
             operation: 0,
             path: "/baz",
             kind: "TestFailed",
-            left: None,
+            left: r#"{"baz":"qux"}"#,
         },
     },
     Case {
@@ -122,7 +122,7 @@ const CASES: &[Case] = &[
             operation: 0,
             path: "/baz/bat",
             kind: "InvalidPointer",
-            left: None,
+            left: r#"{"foo":"bar"}"#,
         },
     },
     Case {
@@ -142,7 +142,7 @@ const CASES: &[Case] = &[
             operation: 0,
             path: "/~01",
             kind: "TestFailed",
-            left: None,
+            left: r#"{"/":9,"~1":10}"#,
         },
     },
     Case {

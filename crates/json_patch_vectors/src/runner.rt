@@ -40,8 +40,9 @@ pub(crate) enum Expected {
         path: &'static str,
         /// The kind's name.
         kind: &'static str,
-        /// What `patch_unsafe` leaves of the document, where the case tells it.
-        left: Option<&'static str>,
+        /// What `patch_unsafe` leaves: what the operations before the refused one make of the
+        /// document.
+        left: &'static str,
     },
 }
 
@@ -136,7 +137,7 @@ fn assert_refused(
     document: &Value,
     changes: &Patch,
     refusal: &str,
-    left: Option<&str>,
+    left: &str,
 ) -> Result<(), Fail>
     requires document { IsDocument (view document.now) }
     requires whole { AreWhole (operations changes.now.0.items) }
@@ -152,10 +153,7 @@ fn assert_refused(
     assert_text(rt, name, "apply_patches", &work, first.as_str())?;
     let answer = patch_unsafe(alloc, &mut work, changes.as_slice());
     assert_answer(rt, name, "patch_unsafe", answer, refusal)?;
-    if let Some(left) = left {
-        assert_text(rt, name, "patch_unsafe", &work, left)?;
-    }
-    Ok(())
+    assert_text(rt, name, "patch_unsafe", &work, left)
 }
 
 /// Asserts what a call answers: `accepted`, or which operation is refused, its path and the kind.

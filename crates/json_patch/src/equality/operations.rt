@@ -55,8 +55,6 @@ impl PartialEq for AddOperation {
     ghost laws = { on_per (λ o. operation_of (Add o)) operation_partial_equivalence };
 
     fn eq(&self, other: &AddOperation) -> bool
-        ensures eq_value { result
-            ≡ same_operation (operation_of (Add self.now)) (operation_of (Add other.now)) }
         ensures same { IsTrue result
             ↔ AreSameOperations (operation_of (Add self.now)) (operation_of (Add other.now)) }
     {
@@ -75,8 +73,6 @@ impl PartialEq for RemoveOperation {
     ghost laws = { on_per (λ o. operation_of (Remove o)) operation_partial_equivalence };
 
     fn eq(&self, other: &RemoveOperation) -> bool
-        ensures eq_value { result
-            ≡ same_operation (operation_of (Remove self.now)) (operation_of (Remove other.now)) }
         ensures same { IsTrue result
             ↔ AreSameOperations (operation_of (Remove self.now)) (operation_of (Remove other.now)) }
     {
@@ -95,8 +91,6 @@ impl PartialEq for ReplaceOperation {
     ghost laws = { on_per (λ o. operation_of (Replace o)) operation_partial_equivalence };
 
     fn eq(&self, other: &ReplaceOperation) -> bool
-        ensures eq_value { result
-            ≡ same_operation (operation_of (Replace self.now)) (operation_of (Replace other.now)) }
         ensures same { IsTrue result
             ↔ AreSameOperations (operation_of (Replace self.now))
             (operation_of (Replace other.now)) }
@@ -116,8 +110,6 @@ impl PartialEq for MoveOperation {
     ghost laws = { on_per (λ o. operation_of (Move o)) operation_partial_equivalence };
 
     fn eq(&self, other: &MoveOperation) -> bool
-        ensures eq_value { result
-            ≡ same_operation (operation_of (Move self.now)) (operation_of (Move other.now)) }
         ensures same { IsTrue result
             ↔ AreSameOperations (operation_of (Move self.now)) (operation_of (Move other.now)) }
     {
@@ -136,8 +128,6 @@ impl PartialEq for CopyOperation {
     ghost laws = { on_per (λ o. operation_of (Copy o)) operation_partial_equivalence };
 
     fn eq(&self, other: &CopyOperation) -> bool
-        ensures eq_value { result
-            ≡ same_operation (operation_of (Copy self.now)) (operation_of (Copy other.now)) }
         ensures same { IsTrue result
             ↔ AreSameOperations (operation_of (Copy self.now)) (operation_of (Copy other.now)) }
     {
@@ -156,8 +146,6 @@ impl PartialEq for TestOperation {
     ghost laws = { on_per (λ o. operation_of (Test o)) operation_partial_equivalence };
 
     fn eq(&self, other: &TestOperation) -> bool
-        ensures eq_value { result
-            ≡ same_operation (operation_of (Test self.now)) (operation_of (Test other.now)) }
         ensures same { IsTrue result
             ↔ AreSameOperations (operation_of (Test self.now)) (operation_of (Test other.now)) }
     {
@@ -176,8 +164,6 @@ impl PartialEq for PatchOperation {
     ghost laws = { on_per operation_of operation_partial_equivalence };
 
     fn eq(&self, other: &PatchOperation) -> bool
-        ensures eq_value { result
-            ≡ same_operation (operation_of self.now) (operation_of other.now) }
         ensures same { IsTrue result
             ↔ AreSameOperations (operation_of self.now) (operation_of other.now) }
     {
@@ -205,8 +191,6 @@ impl PartialEq for Patch {
         (lists_per (on_per operation_of operation_partial_equivalence)) };
 
     fn eq(&self, other: &Patch) -> bool
-        ensures eq_value { result
-            ≡ pointwise (on operation_of same_operation) self.now.0.items other.now.0.items }
         ensures same { IsTrue result
             ↔ AreSameLists (operations self.now.0.items) (operations other.now.0.items) }
     {

@@ -1,11 +1,23 @@
 //! Documents: what is seen of them, and where pointers lead in them.
 
-ghost use Rattle.std.specs.Prelude.{◌≡◌, ◌↔◌, List, Some};
+ghost use Rattle.std.specs.Prelude.{◌≡◌, ◌↔◌, ◌⊎◌, List, Some, false};
 ghost use Rattle.serde_json.specs.Data.{Data};
+ghost use Rattle.serde_json.specs.Written.{has_float};
 ghost use Rattle.jsonptr.specs.Text.{Pointer};
 ghost use Rattle.json_patch.specs.ChangeComputed.{found};
 ghost use Rattle.json_patch.specs.Document.{IsDocument, Step, look, standing};
 ghost use Rattle.json_patch.specs.Resolve.{Resolves, StandsAt};
+
+/// A value is a document, or it is none.
+pub fn document_or_not()
+    ensures { (d : Data) → IsDocument d ⊎ (IsDocument d → ⊥) }
+{}
+
+/// A document has no float. A value that a program holds and that has none is a document: `is_whole`
+/// says so.
+pub fn no_float()
+    ensures { (d : Data) → IsDocument d → has_float d ≡ false }
+{}
 
 /// Documents that look alike at every location are equal.
 pub fn alike_is_equal()

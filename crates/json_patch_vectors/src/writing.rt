@@ -1,8 +1,10 @@
-use crate::operation::{
+//! Operations, their structs and patches as JSON values, whose members stand in byte order.
+
+use json_patch::jsonptr::PointerBuf;
+use json_patch::{
     AddOperation, CopyOperation, MoveOperation, Patch, PatchOperation, RemoveOperation,
     ReplaceOperation, TestOperation,
 };
-use jsonptr::PointerBuf;
 use serde_json::Value;
 use std::test::Fail;
 

@@ -1,9 +1,11 @@
-use crate::operation::{
+//! Equality of values, of operations and of patches (RFC 6902, section 4.6), and which values are
+//! whole.
+
+use json_patch::jsonptr::PointerBuf;
+use json_patch::{
     AddOperation, CopyOperation, MoveOperation, Patch, PatchOperation, RemoveOperation,
-    ReplaceOperation, TestOperation,
+    ReplaceOperation, TestOperation, is_whole, same,
 };
-use crate::{is_whole, same};
-use jsonptr::PointerBuf;
 use serde_json::Value;
 use std::alloc::Global;
 use std::test::Fail;

@@ -1,10 +1,11 @@
-use crate::error::{PatchError, PatchErrorKind, PatchFault, ReadError, ReadFault, ReadKind};
-use crate::operation::{
-    AddOperation, CopyOperation, MoveOperation, Patch, PatchOperation, RemoveOperation,
-    ReplaceOperation, TestOperation,
+//! The texts of errors, and operations and patches as text.
+
+use json_patch::jsonptr::{ParseError, PointerBuf};
+use json_patch::{
+    AddOperation, CopyOperation, MoveOperation, Patch, PatchError, PatchErrorKind, PatchFault,
+    PatchOperation, ReadError, ReadFault, ReadKind, RemoveOperation, ReplaceOperation,
+    TestOperation, is_whole, pretty,
 };
-use crate::pretty;
-use jsonptr::{ParseError, PointerBuf};
 use serde_json::Value;
 use std::alloc::{AllocError, Global};
 use std::fmt;
@@ -64,49 +65,40 @@ fn kinds_of_unreadable_values_are_shown(rt: HostRuntime) -> Result<(), Fail> {
 }
 
 #[test]
-fn faults_are_shown(rt: HostRuntime) -> Result<(), Fail> {
+fn refusals_are_shown(rt: HostRuntime) -> Result<(), Fail> {
     let alloc = rt.alloc();
     let refused = PatchError {
         operation: 3,
         path: PointerBuf::parse(alloc, "/a~1b")?,
         kind: PatchErrorKind::InvalidFromPointer,
     };
-    let refused_text = "operation '/3' failed at path '/a~1b': \"from\" path is invalid";
-    let numbered = ReadError {
-        operation: Some(2),
-        kind: ReadKind::MissingOp,
-    };
-    let unnumbered = ReadError {
-        operation: None,
-        kind: ReadKind::NotAList,
-    };
-    for (shown, expected) in [
-        (refused.to_string(alloc)?, refused_text),
-        (PatchFault::Refused(refused).to_string(alloc)?, refused_text),
+    let expected = "operation '/3' failed at path '/a~1b': \"from\" path is invalid";
+    assert_eq!(rt; refused.to_string(alloc)?.as_str(), expected);
+    let fault = PatchFault::Refused(refused);
+    assert_eq!(rt; fault.to_string(alloc)?.as_str(), expected);
+    let fault = PatchFault::Memory(AllocError);
+    assert_eq!(rt; fault.to_string(alloc)?.as_str(), "out of memory");
+    Ok(())
+}
+
+#[test]
+fn faults_of_reading_are_shown(rt: HostRuntime) -> Result<(), Fail> {
+    let alloc = rt.alloc();
+    for (operation, kind, expected) in [
         (
-            PatchFault::Memory(AllocError).to_string(alloc)?,
-            "out of memory",
-        ),
-        (
-            numbered.to_string(alloc)?,
+            Some(2),
+            ReadKind::MissingOp,
             "operation '/2': member \"op\" is missing",
         ),
-        (
-            ReadFault::Refused(numbered).to_string(alloc)?,
-            "operation '/2': member \"op\" is missing",
-        ),
-        (unnumbered.to_string(alloc)?, "patch is not a list"),
-        (
-            ReadFault::Refused(unnumbered).to_string(alloc)?,
-            "patch is not a list",
-        ),
-        (
-            ReadFault::Memory(AllocError).to_string(alloc)?,
-            "out of memory",
-        ),
+        (None, ReadKind::NotAList, "patch is not a list"),
     ] {
-        assert_eq!(rt; shown.as_str(), expected);
+        let error = ReadError { operation, kind };
+        assert_eq!(rt; error.to_string(alloc)?.as_str(), expected);
+        let fault = ReadFault::Refused(error);
+        assert_eq!(rt; fault.to_string(alloc)?.as_str(), expected);
     }
+    let fault = ReadFault::Memory(AllocError);
+    assert_eq!(rt; fault.to_string(alloc)?.as_str(), "out of memory");
     Ok(())
 }
 
@@ -143,12 +135,42 @@ fn defaults_are_printed(rt: HostRuntime) -> Result<(), Fail> {
     assert_printed(&rt, alloc, &Patch::new(alloc), "[]")
 }
 
+// The structs that hold two pointers, with pointers that differ.
+#[test]
+fn structs_with_two_pointers_are_printed(rt: HostRuntime) -> Result<(), Fail> {
+    let alloc = rt.alloc();
+    let moved = MoveOperation {
+        from: PointerBuf::parse(alloc, "/a")?,
+        path: PointerBuf::parse(alloc, "/b")?,
+    };
+    assert_printed(&rt, alloc, &moved, r#"{"from":"/a","path":"/b"}"#)?;
+    let copy = CopyOperation {
+        from: PointerBuf::parse(alloc, "/l/0")?,
+        path: PointerBuf::parse(alloc, "/l/-")?,
+    };
+    assert_printed(&rt, alloc, &copy, r#"{"from":"/l/0","path":"/l/-"}"#)
+}
+
+#[test]
+fn operations_are_printed(rt: HostRuntime) -> Result<(), Fail> {
+    let alloc = rt.alloc();
+    let moved = PatchOperation::Move(MoveOperation {
+        from: PointerBuf::parse(alloc, "/a")?,
+        path: PointerBuf::parse(alloc, "/b")?,
+    });
+    let expected = r#"{"op":"move","from":"/a","path":"/b"}"#;
+    assert_printed(&rt, alloc, &moved, expected)?;
+    let remove = PatchOperation::Remove(RemoveOperation {
+        path: PointerBuf::parse(alloc, "/\u{1}")?,
+    });
+    assert_printed(&rt, alloc, &remove, r#"{"op":"remove","path":"/\u0001"}"#)
+}
+
 #[test]
 fn patches_are_printed(rt: HostRuntime) -> Result<(), Fail> {
     let alloc = rt.alloc();
     for text in [
         r#"[{"op":"add","path":"/a~1b/m~0n","value":[1,null,true,false,"c",[],{}]}]"#,
-        r#"[{"op":"remove","path":"/\u0001"}]"#,
         r#"[{"op":"replace","path":"","value":-9223372036854775808}]"#,
         r#"[{"op":"move","from":"/a","path":"/b"},{"op":"copy","from":"","path":"/-"}]"#,
         r#"[{"op":"test","path":"/","value":18446744073709551615},{"op":"remove","path":"/0"}]"#,
@@ -192,7 +214,7 @@ fn a_value_is_printed_on_several_lines(rt: HostRuntime) -> Result<(), Fail> {
         (r#"{"b":[],"a":{}}"#, "{\n  \"a\": {},\n  \"b\": []\n}"),
     ] {
         let value = Value::from_str(alloc, text)?;
-        assert!(rt; crate::is_whole(&value));
+        assert!(rt; is_whole(&value));
         assert_eq!(rt; pretty(alloc, &value)?.as_str(), expected);
     }
     Ok(())
