@@ -4,6 +4,7 @@ pub mod Change
 pub mod Same
 pub mod Operation
 pub mod Step
+pub mod Undoing
 pub mod Run
 pub mod Refusal
 pub mod Inverse
