@@ -14,7 +14,7 @@ use Rattle.json_patch.specs.InverseComputed.{block, inverse}
 use Rattle.json_patch.specs.Operation.{Operation, AreWhole, operation_of, operations, path_of}
 use Rattle.json_patch.specs.Refusal.{NamesFirst, IfRefused, OnMemory}
 use Rattle.json_patch.specs.Run.{Accepts, RefusesAt, IsAccepted}
-use Rattle.json_patch.specs.RunComputed.{stepped}
+use Rattle.json_patch.specs.RunComputed.{ran, stepped}
 use Rattle.json_patch.specs.Step.{Leaves, Refuses}
 use Rattle.json_patch.specs.declared.error.PatchErrorKind.{PatchErrorKind}
 use Rattle.json_patch.specs.declared.error.PatchFault.{PatchFault}
@@ -25,7 +25,7 @@ use Rattle.json_patch.specs.declared.walk.StepFault.TheVariants.{Refused as step
 use Rattle.json_patch.proofs.Blocks.{inverse_is}
 use Rattle.json_patch.proofs.Inverted.{inverse_back, inverse_joined, inverse_length, inverse_whole}
 use Rattle.json_patch.proofs.Plain.{inverse_plain}
-use Rattle.json_patch.proofs.Runs.{accepted, accepts_ran}
+use Rattle.json_patch.proofs.Runs.{accepted, accepts_document, accepts_ran}
 use Rattle.json_patch.proofs.Stepped.{leaves_document, stepped_leaves, stepped_refuses}
 
 -- the state of the run before the operation at k
@@ -113,7 +113,7 @@ pub recorded_none : (d : Data) (os undo : List PatchOperation) → undo ≡ [] �
 recorded_none d os undo is = ap (λ u. reverse (operations u)) is
 
 -- a list up to the item at k, and that item
-take_at : (os : List PatchOperation) (k : ℕ) (o : PatchOperation) → k < length os → IsAt os k o → take (suc k) (operations os) ≡ take k (operations os) ++ operation_of o ∷ []
+pub take_at : (os : List PatchOperation) (k : ℕ) (o : PatchOperation) → k < length os → IsAt os k o → take (suc k) (operations os) ≡ take k (operations os) ++ operation_of o ∷ []
 take_at [] k o less is = absurd (omega arith)
 take_at (x ∷ os) zero o less is = ap (λ y. operation_of y ∷ []) (sym is)
 take_at (x ∷ os) (suc k) o less is = ap (λ ops. operation_of x ∷ ops) (take_at os k o (omega arith) is)
@@ -134,7 +134,7 @@ recorded_more d m e os k o undo more hd hv less is h s wrote so_far =
     ∙ sym (inverse_joined d (take k (operations os)) (operation_of o ∷ []) m hd (take_whole os k hv) h)
     ∙ sym (ap (inverse d) (ap (λ n. take n (operations os)) (add-one k) ∙ take_at os k o less is))
 
-take_past : (os : List PatchOperation) (k : ℕ) → length os ≤ k → take k (operations os) ≡ operations os
+pub take_past : (os : List PatchOperation) (k : ℕ) → length os ≤ k → take k (operations os) ≡ operations os
 take_past [] zero le = refl
 take_past [] (suc k) le = refl
 take_past (x ∷ os) zero le = absurd (omega arith)
@@ -153,12 +153,11 @@ pub record Records (d e : Data) (ops undo : List Operation) : Type 0 where
   pub short : length undo ≤ 2 * length ops
   pub whole : AreWhole undo
 
-pub recorded_all : (d e : Data) (os undo left : List PatchOperation) (k : ℕ) → IsDocument d → AreWhole (operations os) → length os ≤ k → IsState d os k e → IsRecorded d os k undo → left ≡ reverse undo
+pub recorded_all : (d e : Data) (os undo left : List PatchOperation) → IsDocument d → AreWhole (operations os) → Accepts d (operations os) e → reverse (operations undo) ≡ inverse d (operations os) → left ≡ reverse undo
     → Records d e (operations os) (operations left)
-recorded_all d e os undo left k hd hv le h so_far is =
-    let same : operations left ≡ inverse d (operations os) = ap operations is ∙ operations-reverse undo ∙ so_far ∙ ap (inverse d) (take_past os k le) in
-    let end : Accepts d (operations os) e = state_all d e os k le h in
-    let he : IsDocument e = state_document d e os k hd hv h in
+recorded_all d e os undo left hd hv end so_far is =
+    let same : operations left ≡ inverse d (operations os) = ap operations is ∙ operations-reverse undo ∙ so_far in
+    let he : IsDocument e = accepts_document d (operations os) e hd hv end in
     let iw : AreWhole (inverse d (operations os)) = inverse_whole d (operations os) e hd hv end in
     subst (Records d e (operations os)) (sym same) (record {
       inverse = inverse_is d (operations os) e hd hv end;
@@ -167,6 +166,13 @@ recorded_all d e os undo left k hd hv le h so_far is =
       short = inverse_length (operations os) d;
       whole = iw;
     })
+
+-- what is recorded leads back
+pub recorded_back : (d m : Data) (os : List PatchOperation) (k : ℕ) (undo : List PatchOperation) → IsDocument d → AreWhole (operations os) → IsState d os k m → IsRecorded d os k undo → ran m (reverse (operations undo)) ≡ Ok d
+recorded_back d m os k undo hd hv h so_far =
+    let before = take k (operations os) in
+    let hw : AreWhole before = take_whole os k hv in
+    ap (ran m) so_far ∙ accepts_ran m (inverse d before) d (state_document d m os k hd hv h) (inverse_whole d before m hd hw h) (inverse_back d before m hd hw h)
 
 -- ---- a run that takes no memory
 

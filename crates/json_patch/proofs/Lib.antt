@@ -32,6 +32,7 @@ pub mod Blocks
 pub mod Parents
 pub mod Plain
 pub mod Applied
+pub mod Logged
 pub mod PatchFaults
 pub mod PatchValues
 pub mod ReadStages

@@ -32,7 +32,7 @@ use Rattle.json_patch.proofs.Undone.{found_append}
 
 -- ---- what is computed of the container
 
-no_last : (F : Pointer) (t : List ℕ) → [] ≡ F ++ t ∷ [] → ⊥
+pub no_last : (F : Pointer) (t : List ℕ) → [] ≡ F ++ t ∷ [] → ⊥
 no_last [] t is = cc
 no_last (s ∷ F) t is = cc
 

@@ -3,7 +3,7 @@ use Rattle.std.specs.Prelude.{◌≡◌, ℕ, List, [], ◌∷◌, Result, Ok, E
 use Rattle.jsonptr.specs.Text.{Pointer, encoded}
 use Rattle.json_patch.specs.Operation.{Operation, add, remove, replace, move, copy, test}
 use Rattle.json_patch.specs.declared.walk.Edit.{Edit}
-use Rattle.json_patch.specs.declared.walk.Edit.TheVariants.{Insert, Take, Swap}
+use Rattle.json_patch.specs.declared.walk.Edit.TheVariants.{Insert, Take, TakeItem, Swap}
 use Rattle.json_patch.specs.declared.walk.StepFault.{StepFault}
 use Rattle.json_patch.specs.declared.walk.StepFault.TheVariants.{Refused, Memory}
 
@@ -29,12 +29,29 @@ abbrev pub AreInPlace : List Operation → Type 0
 AreInPlace [] = Unit {0}
 AreInPlace (op ∷ ops) = IsInPlace op × AreInPlace ops
 
+-- a `test` at such a pointer
+abbrev pub IsLookup : Operation → Type 0
+IsLookup (add P v) = ⊥
+IsLookup (remove P) = ⊥
+IsLookup (replace P v) = ⊥
+IsLookup (move F P) = ⊥
+IsLookup (copy F P) = ⊥
+IsLookup (test P v) = AreUnescaped P
+
+-- `test`s and then at most one `remove`, at such pointers
+abbrev pub AreChecked : List Operation → Type 0
+AreChecked [] = Unit {0}
+AreChecked (op ∷ []) = IsInPlace op
+AreChecked (op ∷ next ∷ ops) = IsLookup op × AreChecked (next ∷ ops)
+
 -- ---- for private clauses
 
-abbrev pub IsTake : Edit → Type 0
-IsTake (Insert v) = ⊥
-IsTake Take = Unit {0}
-IsTake (Swap v) = ⊥
+-- the edit takes no memory but for a name with a ~
+abbrev pub IsLight : Edit → Type 0
+IsLight (Insert v) = ⊥
+IsLight Take = Unit {0}
+IsLight (TakeItem i) = Unit {0}
+IsLight (Swap v) = Unit {0}
 
 -- memory wasn't short
 abbrev pub NeverShort : {T : Type 0} → Result T StepFault → Type 0

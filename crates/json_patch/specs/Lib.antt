@@ -5,6 +5,7 @@ pub mod Same
 pub mod Propositions
 pub mod Operation
 pub mod Step
+pub mod Undoing
 pub mod Run
 pub mod Refusal
 pub mod Inverse

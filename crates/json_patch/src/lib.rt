@@ -12,6 +12,7 @@ mod reading;
 mod record;
 mod run;
 mod step;
+mod undoing;
 mod walk;
 mod writing;
 

@@ -1,44 +1,99 @@
 //! A list of operations on a document (RFC 6902, section 5).
 
-ghost use Rattle.std.specs.Prelude.{◌≡◌, ◌≤◌, ◌*◌, [], ℕ, IfOk, IsOk, OnOk, OnErr, length, take};
+ghost use Rattle.std.specs.Prelude.{◌≡◌, ◌≤◌, ◌+◌, ◌*◌, [], ℕ, IfOk, IsOk, OnOk, OnErr, length, take};
 ghost use Rattle.serde_json.specs.Data.{Data};
 ghost use Rattle.serde_json.specs.View.{view};
 ghost use Rattle.json_patch.specs.Attempt.{Steps};
 ghost use Rattle.json_patch.specs.Document.{IsDocument};
-ghost use Rattle.json_patch.specs.InPlace.{AreInPlace, IsInPlace, NeverShort};
+ghost use Rattle.json_patch.specs.InPlace.{AreChecked, AreInPlace, IsInPlace, NeverShort};
+ghost use mathlib.Core.List.{reverse};
+ghost use Rattle.json_patch.specs.InverseComputed.{inverse};
 ghost use Rattle.json_patch.specs.Inverse.{ArePlain, IsInverse};
 ghost use Rattle.json_patch.specs.Operation.{AreWhole, operation_of, operations, path_of};
 ghost use Rattle.json_patch.specs.Refusal.{IfRefused, NamesFirst, OnMemory};
 ghost use Rattle.json_patch.specs.Run.{Accepts, IsAccepted};
 ghost use Rattle.json_patch.specs.RunComputed.{stepped};
 ghost use Rattle.json_patch.specs.Faulting.{Reports};
+ghost use Rattle.json_patch.specs.Undoing.{From};
 
 use crate::error::{PatchError, PatchFault};
 use crate::operation::{Patch, PatchOperation};
-use crate::record::record_step;
+use crate::record::{record_step, run_back};
 use crate::step::step;
+use crate::undoing::{is_undoable, logged_step, take_back};
 use crate::walk::StepFault;
 use serde_json::Value;
 use std::alloc::Global;
 use std::mem;
 
-/// Applies the operations one after another, or none of them: they are made on a copy of the
-/// document, which takes its place at the end. A refused patch leaves the document as it was, and
-/// so does one for which memory was short. The empty list takes no memory.
+/// Applies the operations one after another, or none of them. A refused patch leaves the document
+/// as it was, and so does one for which memory was short.
+///
+/// The first operations are made in place, as far as they can be taken back with no memory: each
+/// `test`, and each `add`, `replace` and `copy` at a path with no `~`. If one more is left, it is made
+/// in place too, but for a `move`. If more are left, they are made on a copy of the document, which
+/// takes its place at the end. The empty list takes no memory, and neither does an accepted list of
+/// `test`s and then at most one `remove`, where no pointer holds a `~`.
 pub fn patch(alloc: Global, doc: &mut Value, patch: &[PatchOperation]) -> Result<(), PatchFault>
     requires document { IsDocument (view doc.old) }
     requires whole { AreWhole (operations patch.now) }
     ensures accepted { OnOk result (Accepts (view doc.old) (operations patch.now) (view doc.new)) }
     ensures refused { IfRefused result (NamesFirst (view doc.old) (operations patch.now)) }
-    ensures unchanged { OnErr result (doc.new ≡ doc.old) }
+    ensures unchanged { OnErr result (view doc.new ≡ view doc.old) }
     ensures document { IsDocument (view doc.new) }
     ensures empty { patch.now ≡ [] → IsOk result }
+    ensures in_place { AreChecked (operations patch.now)
+        → (e : Data) → Accepts (view doc.old) (operations patch.now) e → IsOk result }
 {
-    if patch.is_empty() {
+    let mut log = Vec::new(alloc);
+    let mut number = 0;
+    while patch.len() - number > 1 && is_undoable(&patch[number]) {
+        let operation = &patch[number];
+        if let Err(fault) = logged_step(alloc, doc, operation, &mut log) {
+            take_back(alloc, doc, patch, number, log);
+            return Err(reported(alloc, number, operation, fault));
+        }
+        number += 1;
+    }
+    if let Err(fault) = finish(alloc, doc, patch, number) {
+        take_back(alloc, doc, patch, number, log);
+        return Err(fault);
+    }
+    Ok(())
+}
+
+/// Makes the operations from this number on, or none of them: one in place, several on a copy.
+fn finish(
+    alloc: Global,
+    doc: &mut Value,
+    patch: &[PatchOperation],
+    start: usize,
+) -> Result<(), PatchFault>
+    requires whole { AreWhole (operations patch.now) }
+    requires within { start ≤ length patch.now }
+    ensures accepted { OnOk result (From (view doc.old) (operations patch.now) start
+        (λ d. Accepts d (operations patch.now) (view doc.new))) }
+    ensures refused { From (view doc.old) (operations patch.now) start
+        (λ d. IfRefused result (NamesFirst d (operations patch.now))) }
+    ensures unchanged { OnErr result (view doc.new ≡ view doc.old) }
+    ensures empty { start ≡ length patch.now → IsOk result }
+    ensures in_place { length patch.now ≤ start + 1 → AreInPlace (operations patch.now)
+        → From (view doc.old) (operations patch.now) start
+        (λ d. (e : Data) → Accepts d (operations patch.now) e → IsOk result) }
+{
+    if start == patch.len() {
         return Ok(());
     }
+    if patch.len() - start == 1 {
+        let operation = &patch[start];
+        return match step_in_place(alloc, doc, operation) {
+            Ok(()) => Ok(()),
+            Err(fault) => Err(reported(alloc, start, operation, fault)),
+        };
+    }
     let mut work = doc.clone()?;
-    for (number, operation) in patch.iter().enumerate() {
+    for number in start..patch.len() {
+        let operation = &patch[number];
         if let Err(fault) = step(alloc, &mut work, operation) {
             return Err(reported(alloc, number, operation, fault));
         }
@@ -97,19 +152,62 @@ pub fn apply_patches(
         (λ undo. length (operations undo.0.items) ≤ 2 * length (operations patches.now)) }
     ensures undo_whole { IfOk result (λ undo. AreWhole (operations undo.0.items)) }
     ensures refused { IfRefused result (NamesFirst (view doc.old) (operations patches.now)) }
-    ensures unchanged { OnErr result (doc.new ≡ doc.old) }
+    ensures unchanged { OnErr result (view doc.new ≡ view doc.old) }
     ensures document { IsDocument (view doc.new) }
 {
-    let mut work = doc.clone()?;
     let mut undo = Vec::new(alloc);
-    for (number, operation) in patches.iter().enumerate() {
-        if let Err(fault) = record_step(alloc, &mut work, operation, &mut undo) {
+    let mut number = 0;
+    while number < patches.len() && is_undoable(&patches[number]) {
+        let operation = &patches[number];
+        if let Err(fault) = record_step(alloc, doc, operation, &mut undo) {
+            run_back(alloc, doc, undo);
+            return Err(reported(alloc, number, operation, fault));
+        }
+        number += 1;
+    }
+    if let Err(fault) = record_rest(alloc, doc, patches, number, &mut undo) {
+        run_back(alloc, doc, undo);
+        return Err(fault);
+    }
+    undo.reverse();
+    Ok(Patch(undo))
+}
+
+/// Makes the operations from this number on and records what undoes them, or none of them: they
+/// are made on a copy of the document.
+fn record_rest(
+    alloc: Global,
+    doc: &mut Value,
+    patches: &[PatchOperation],
+    start: usize,
+    undo: &mut Vec<PatchOperation>,
+) -> Result<(), PatchFault>
+    requires whole { AreWhole (operations patches.now) }
+    requires within { start ≤ length patches.now }
+    ensures accepted { OnOk result (From (view doc.old) (operations patches.now) start
+        (λ d. Accepts d (operations patches.now) (view doc.new))) }
+    ensures recorded { OnOk result (From (view doc.old) (operations patches.now) start
+        (λ d. reverse (operations undo.old.items) ≡ inverse d (take start (operations patches.now))
+        → reverse (operations undo.new.items) ≡ inverse d (operations patches.now))) }
+    ensures refused { From (view doc.old) (operations patches.now) start
+        (λ d. IfRefused result (NamesFirst d (operations patches.now))) }
+    ensures unchanged { OnErr result (view doc.new ≡ view doc.old) }
+    ensures kept { OnErr result (operations undo.new.items ≡ operations undo.old.items) }
+{
+    if start == patches.len() {
+        return Ok(());
+    }
+    let kept = undo.len();
+    let mut work = doc.clone()?;
+    for number in start..patches.len() {
+        let operation = &patches[number];
+        if let Err(fault) = record_step(alloc, &mut work, operation, undo) {
+            undo.truncate(kept);
             return Err(reported(alloc, number, operation, fault));
         }
     }
-    undo.reverse();
     mem::swap(doc, &mut work);
-    Ok(Patch(undo))
+    Ok(())
 }
 
 /// Makes the operation, or leaves the document as it was.

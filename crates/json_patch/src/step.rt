@@ -7,7 +7,8 @@ ghost use Rattle.jsonptr.specs.Pointers.{tokens_of};
 ghost use Rattle.jsonptr.specs.Text.{IsProperPrefix};
 ghost use Rattle.json_patch.specs.Attempt.{Attempts, Refuses, Steps, TakesOut};
 ghost use Rattle.json_patch.specs.ChangeComputed.{added, removed, replaced, found};
-ghost use Rattle.json_patch.specs.Edits.{undo_from};
+ghost use Rattle.json_patch.specs.Document.{IsDocument};
+ghost use Rattle.json_patch.specs.Edits.{undo_from, undone};
 ghost use Rattle.json_patch.specs.InPlace.{AreUnescaped, IsInPlace, NeverShort};
 ghost use Rattle.json_patch.specs.InverseComputed.{undo_add};
 ghost use Rattle.json_patch.specs.Operation.{IsMove, operation_of, copy as copy_at, move as move_at, test as test_at};
@@ -72,6 +73,8 @@ pub(crate) fn add(
         (view doc.old) (view doc.new) }
     ensures undo { IfOk result (λ was. undo_from (tokens_of path.entry) was
         ≡ undo_add (view doc.old) (tokens_of path.entry)) }
+    ensures back { IsDocument (view doc.old) → IsDocument (view value) → IfOk result
+        (λ was. undone was (tokens_of path.entry) (view doc.new) ≡ Some (view doc.old)) }
 {
     match path.split_back() {
         Some((parent, last)) => edit_at(alloc, doc, parent.tokens(), last, Edit::Insert(value)),
@@ -105,6 +108,7 @@ pub(crate) fn replace(
     ensures leaves { Attempts result (replaced (view doc.old) (tokens_of path.entry) (view value))
         (view doc.old) (view doc.new) }
     ensures former { IfOk result (λ v. found (view doc.old) (tokens_of path.entry) ≡ Some (view v)) }
+    ensures in_place { AreUnescaped (tokens_of path.entry) → NeverShort result }
 {
     let Some((parent, last)) = path.split_back() else {
         return Ok(mem::replace(doc, value));
@@ -178,6 +182,8 @@ pub(crate) fn copy_value(
     ensures unchanged { OnErr result (view doc.new ≡ view doc.old) }
     ensures undo { IfOk result (λ was. undo_from (tokens_of path.entry) was
         ≡ undo_add (view doc.old) (tokens_of path.entry)) }
+    ensures back { IsDocument (view doc.old) → IfOk result
+        (λ was. undone was (tokens_of path.entry) (view doc.new) ≡ Some (view doc.old)) }
 {
     let Some(value) = find(alloc, doc, from.tokens())? else {
         return Err(StepFault::Refused(PatchErrorKind::InvalidFromPointer));

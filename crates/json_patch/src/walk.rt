@@ -8,7 +8,7 @@ ghost use Rattle.jsonptr.specs.Places.{place_of};
 ghost use Rattle.jsonptr.specs.Pointers.{token_of, tokens_left};
 ghost use Rattle.json_patch.specs.Attempt.{Attempts};
 ghost use Rattle.json_patch.specs.ChangeComputed.{altered, found, slot_in};
-ghost use Rattle.json_patch.specs.InPlace.{AreUnescaped, IsTake, IsUnescaped, NeverShort};
+ghost use Rattle.json_patch.specs.InPlace.{AreUnescaped, IsLight, IsUnescaped, NeverShort};
 ghost use Rattle.json_patch.specs.Edits.{made_by, Displaces, DisplacesAt};
 ghost use Rattle.json_patch.specs.declared.error.PatchErrorKind.TheVariants.{InvalidPointer};
 ghost use Rattle.json_patch.specs.declared.walk.StepFault.TheVariants.{Refused, Memory};
@@ -25,6 +25,8 @@ use std::mem;
 pub(crate) enum Edit {
     Insert(Value),
     Take,
+    /// Of a list alone, with its place in the place of the token.
+    TakeItem(usize),
     Swap(Value),
 }
 
@@ -83,7 +85,7 @@ pub(crate) fn edit_at(
         (view target.old) (view target.new) }
     ensures displaces { IfOk result
         (DisplacesAt edit (view target.old) (tokens_left parent.entry) (token_of last.entry)) }
-    ensures in_place { IsTake edit → AreUnescaped (tokens_left parent.entry)
+    ensures in_place { IsLight edit → AreUnescaped (tokens_left parent.entry)
         → IsUnescaped (token_of last.entry) → NeverShort result }
 {
     let Some(token) = parent.next() else {
@@ -115,7 +117,7 @@ fn edit_in(
     ensures leaves { Attempts result (made_by edit (token_of token.entry) (view container.old))
         (view container.old) (view container.new) }
     ensures displaces { IfOk result (Displaces edit (token_of token.entry) (view container.old)) }
-    ensures in_place { IsTake edit → IsUnescaped (token_of token.entry) → NeverShort result }
+    ensures in_place { IsLight edit → IsUnescaped (token_of token.entry) → NeverShort result }
 {
     match container {
         Value::Object(members) => edit_members(alloc, members, token, edit),
@@ -135,7 +137,7 @@ fn edit_members(
         (object (members_view members.old.entries)) (object (members_view members.new.entries)) }
     ensures displaces { IfOk result
         (Displaces edit (token_of token.entry) (object (members_view members.old.entries))) }
-    ensures in_place { IsTake edit → IsUnescaped (token_of token.entry) → NeverShort result }
+    ensures in_place { IsLight edit → IsUnescaped (token_of token.entry) → NeverShort result }
 {
     match edit {
         Edit::Insert(value) => {
@@ -152,6 +154,7 @@ fn edit_members(
                 None => Err(StepFault::Refused(PatchErrorKind::InvalidPointer)),
             }
         }
+        Edit::TakeItem(_) => Err(StepFault::Refused(PatchErrorKind::InvalidPointer)),
         Edit::Swap(value) => {
             let name = name_of(alloc, token)?;
             match members.get_mut(name.as_str()) {
@@ -168,7 +171,7 @@ fn edit_items(items: &mut Vec<Value>, token: Token<'_>, edit: Edit) -> Result<Di
         (array (items_view items.old.items)) (array (items_view items.new.items)) }
     ensures displaces { IfOk result
         (Displaces edit (token_of token.entry) (array (items_view items.old.items))) }
-    ensures in_place { IsTake edit → NeverShort result }
+    ensures in_place { IsLight edit → NeverShort result }
 {
     match edit {
         Edit::Insert(value) => {
@@ -179,6 +182,13 @@ fn edit_items(items: &mut Vec<Value>, token: Token<'_>, edit: Edit) -> Result<Di
         Edit::Take => {
             let index = item_index(token, items.len())?;
             Ok(Displaced::Former(items.remove(index)))
+        }
+        Edit::TakeItem(index) => {
+            if index >= items.len() {
+                return Err(StepFault::Refused(PatchErrorKind::InvalidPointer));
+            }
+            let former = items.remove(index);
+            Ok(Displaced::Former(former))
         }
         Edit::Swap(value) => {
             let index = item_index(token, items.len())?;

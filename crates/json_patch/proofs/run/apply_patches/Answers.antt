@@ -1,46 +1,73 @@
-use Rattle.std.proofs.Common.{sym, subst}
+use Rattle.std.proofs.Common.{◌≡◌, ◌<◌, refl, sym, ap, ◌∙◌, subst, arith, length}
+use mathlib.Core.List.{reverse}
 use Rattle.serde_json.specs.View.{view}
 use Rattle.json_patch.specs.Document.{IsDocument}
-use Rattle.json_patch.specs.Inverse.{ArePlain}
-use Rattle.json_patch.specs.Operation.{operations}
-use Rattle.json_patch.specs.Run.{IsAccepted}
+use Rattle.json_patch.specs.InverseComputed.{block}
+use Rattle.json_patch.specs.Operation.{operation_of, operations}
+use Rattle.json_patch.specs.RunComputed.{ran}
+use Rattle.json_patch.specs.Undoing.{AreUndos}
 use Rattle.json_patch.specs.declared.operation.Patch.{Patch}
-use Rattle.json_patch.proofs.Applied.{recorded_all, recorded_more, recorded_none, reported_names, state_document, state_more}
+use Rattle.json_patch.proofs.Applied.{recorded_all, recorded_back, recorded_more, reported_names, state_document, state_more}
+use Rattle.json_patch.proofs.Logged.{block_light, light_more, undoable_at, whole_at}
+use Rattle.json_patch.proofs.Runs.{accepts_document}
 use Rattle.json_patch.proofs.run.apply_patches.Goals as goal
-
-pub loop-number-init : goal.loop-number-init
-loop-number-init c = record { state = sym c.in_ok-work.ensures.cases; recorded = recorded_none (view c.args.doc.now) c.args.patches.now c.new-undo.result.items c.new-undo.ensures.items }
 
 pub returns-in-Err-clause-refused : goal.returns-in-Err-clause-refused
 returns-in-Err-clause-refused c =
-    reported_names Patch c.reported.result c.in-Err.fault (view c.args.doc.now) (view c.loop-number.work) (view c.record_step.new.doc) c.args.patches.now c.loop-number.number c.index-patches-number.result c.requires.document c.requires.whole c.loop-number-test.true c.index-patches-number.is c.loop-number.invariant.state c.in-Err.ensures.leaves c.reported.ensures
+    reported_names Patch c.reported.result c.in-Err.fault (view c.args.doc.now) (view c.loop-number.doc) (view c.record_step.new.doc) c.args.patches.now c.loop-number.number c.index-patches-number-in-loop-number.result c.requires.document c.requires.whole c.loop-number-test.true c.index-patches-number-in-loop-number.is c.loop-number.invariant.state c.in-Err.ensures.leaves c.reported.ensures
+
+pub returns-in-Err-clause-unchanged : goal.returns-in-Err-clause-unchanged
+returns-in-Err-clause-unchanged c =
+    let o = c.index-patches-number-in-loop-number.result in
+    let at = c.index-patches-number-in-loop-number.is in
+    let same : view c.record_step.new.doc ≡ view c.loop-number.doc = c.in-Err.ensures.unchanged (state_document (view c.args.doc.now) (view c.loop-number.doc) c.args.patches.now c.loop-number.number c.requires.document c.requires.whole c.loop-number.invariant.state)
+    (whole_at c.args.patches.now c.loop-number.number o c.loop-number-test.true at c.requires.whole)
+    (undoable_at c.args.patches.now c.loop-number.number c.index-patches-number.result o c.loop-number-test.true c.index-patches-number.is at (c.if-is_undoable.ensures.0 refl)) in
+    c.run_back.ensures (view c.args.doc.now) (subst AreUndos (sym c.in-Err.ensures.kept) c.loop-number.invariant.light)
+    (ap (λ x. ran x (reverse (operations c.record_step.new.undo.items))) same ∙ ap (λ us. ran (view c.loop-number.doc) (reverse us)) c.in-Err.ensures.kept
+    ∙ recorded_back (view c.args.doc.now) (view c.loop-number.doc) c.args.patches.now c.loop-number.number c.loop-number.undo.items c.requires.document c.requires.whole c.loop-number.invariant.state c.loop-number.invariant.recorded)
+
+pub returns-in-Err-clause-document : goal.returns-in-Err-clause-document
+returns-in-Err-clause-document c = subst IsDocument (sym (returns-in-Err-clause-unchanged c)) c.requires.document
 
 pub loop-number-preserved : goal.loop-number-preserved
-loop-number-preserved c = record {
-  state = state_more (view c.args.doc.now) (view c.loop-number.work) _ c.args.patches.now c.loop-number.number c.index-patches-number.result c.requires.document c.requires.whole c.loop-number-test.true c.index-patches-number.is c.loop-number.invariant.state c.in_default.ensures.leaves;
-  recorded = recorded_more (view c.args.doc.now) (view c.loop-number.work) _ c.args.patches.now c.loop-number.number c.index-patches-number.result c.loop-number.undo.items c.record_step.new.undo.items c.requires.document c.requires.whole c.loop-number-test.true c.index-patches-number.is c.loop-number.invariant.state c.in_default.ensures.leaves c.in_default.ensures.records c.loop-number.invariant.recorded;
-}
+loop-number-preserved c =
+    let o = c.index-patches-number-in-loop-number.result in
+    let at = c.index-patches-number-in-loop-number.is in
+    let less : c.loop-number.number < length c.args.patches.now = c.loop-number-test.true in
+    record {
+      within = omega arith;
+      state = state_more (view c.args.doc.now) (view c.loop-number.doc) _ c.args.patches.now c.loop-number.number o c.requires.document c.requires.whole less at c.loop-number.invariant.state c.in_default.ensures.leaves;
+      recorded = recorded_more (view c.args.doc.now) (view c.loop-number.doc) _ c.args.patches.now c.loop-number.number o c.loop-number.undo.items c.record_step.new.undo.items c.requires.document c.requires.whole less at c.loop-number.invariant.state c.in_default.ensures.leaves c.in_default.ensures.records c.loop-number.invariant.recorded;
+      light = light_more (operations c.loop-number.undo.items) (operations c.record_step.new.undo.items) (block (view c.loop-number.doc) (operation_of o)) c.in_default.ensures.records
+          (block_light (view c.loop-number.doc) (operation_of o) (undoable_at c.args.patches.now c.loop-number.number c.index-patches-number.result o less c.index-patches-number.is at (c.if-is_undoable.ensures.0 refl))) c.loop-number.invariant.light;
+    }
+
+pub returns-in-Err-record_rest-clause-unchanged : goal.returns-in-Err-record_rest-clause-unchanged
+returns-in-Err-record_rest-clause-unchanged c =
+    let told = c.in-Err-record_rest.ensures in
+    c.run_back-in-Err-record_rest.ensures (view c.args.doc.now) (subst AreUndos (sym told.kept) c.loop-number.invariant.light)
+    (ap (λ x. ran x (reverse (operations c.record_rest.new.undo.items))) told.unchanged ∙ ap (λ us. ran (view c.loop-number.doc) (reverse us)) told.kept
+    ∙ recorded_back (view c.args.doc.now) (view c.loop-number.doc) c.args.patches.now c.loop-number.number c.loop-number.undo.items c.requires.document c.requires.whole c.loop-number.invariant.state c.loop-number.invariant.recorded)
+
+pub returns-in-Err-record_rest-clause-document : goal.returns-in-Err-record_rest-clause-document
+returns-in-Err-record_rest-clause-document c = subst IsDocument (sym (returns-in-Err-record_rest-clause-unchanged c)) c.requires.document
 
 pub returns-clause-inverse : goal.returns-clause-inverse
-returns-clause-inverse c = (recorded_all (view c.args.doc.now) (view c.loop-number.work) c.args.patches.now c.loop-number.undo.items c.reverse.new.self.items c.loop-number.number c.requires.document c.requires.whole c.loop-number-test.false c.loop-number.invariant.state c.loop-number.invariant.recorded c.reverse.ensures.items).inverse
+returns-clause-inverse c = (recorded_all (view c.args.doc.now) (view c.record_rest.new.doc) c.args.patches.now c.record_rest.new.undo.items c.reverse.new.self.items c.requires.document c.requires.whole (c.in_default-record_rest.ensures.accepted (view c.args.doc.now) c.requires.document c.loop-number.invariant.state) (c.in_default-record_rest.ensures.recorded (view c.args.doc.now) c.requires.document c.loop-number.invariant.state c.loop-number.invariant.recorded) c.reverse.ensures.items).inverse
 
 pub returns-clause-leads_back : goal.returns-clause-leads_back
-returns-clause-leads_back c =
-    subst (λ v. IsAccepted (view v) (operations c.reverse.new.self.items) (view c.args.doc.now)) (sym c.swap.ensures.x_after)
-    (recorded_all (view c.args.doc.now) (view c.loop-number.work) c.args.patches.now c.loop-number.undo.items c.reverse.new.self.items c.loop-number.number c.requires.document c.requires.whole c.loop-number-test.false c.loop-number.invariant.state c.loop-number.invariant.recorded c.reverse.ensures.items).leads_back
+returns-clause-leads_back c = (recorded_all (view c.args.doc.now) (view c.record_rest.new.doc) c.args.patches.now c.record_rest.new.undo.items c.reverse.new.self.items c.requires.document c.requires.whole (c.in_default-record_rest.ensures.accepted (view c.args.doc.now) c.requires.document c.loop-number.invariant.state) (c.in_default-record_rest.ensures.recorded (view c.args.doc.now) c.requires.document c.loop-number.invariant.state c.loop-number.invariant.recorded) c.reverse.ensures.items).leads_back
 
 pub returns-clause-plain : goal.returns-clause-plain
-returns-clause-plain c =
-    subst (λ v. ArePlain (view v) (operations c.reverse.new.self.items)) (sym c.swap.ensures.x_after)
-    (recorded_all (view c.args.doc.now) (view c.loop-number.work) c.args.patches.now c.loop-number.undo.items c.reverse.new.self.items c.loop-number.number c.requires.document c.requires.whole c.loop-number-test.false c.loop-number.invariant.state c.loop-number.invariant.recorded c.reverse.ensures.items).plain
+returns-clause-plain c = (recorded_all (view c.args.doc.now) (view c.record_rest.new.doc) c.args.patches.now c.record_rest.new.undo.items c.reverse.new.self.items c.requires.document c.requires.whole (c.in_default-record_rest.ensures.accepted (view c.args.doc.now) c.requires.document c.loop-number.invariant.state) (c.in_default-record_rest.ensures.recorded (view c.args.doc.now) c.requires.document c.loop-number.invariant.state c.loop-number.invariant.recorded) c.reverse.ensures.items).plain
 
 pub returns-clause-short : goal.returns-clause-short
-returns-clause-short c = (recorded_all (view c.args.doc.now) (view c.loop-number.work) c.args.patches.now c.loop-number.undo.items c.reverse.new.self.items c.loop-number.number c.requires.document c.requires.whole c.loop-number-test.false c.loop-number.invariant.state c.loop-number.invariant.recorded c.reverse.ensures.items).short
+returns-clause-short c = (recorded_all (view c.args.doc.now) (view c.record_rest.new.doc) c.args.patches.now c.record_rest.new.undo.items c.reverse.new.self.items c.requires.document c.requires.whole (c.in_default-record_rest.ensures.accepted (view c.args.doc.now) c.requires.document c.loop-number.invariant.state) (c.in_default-record_rest.ensures.recorded (view c.args.doc.now) c.requires.document c.loop-number.invariant.state c.loop-number.invariant.recorded) c.reverse.ensures.items).short
 
 pub returns-clause-undo_whole : goal.returns-clause-undo_whole
-returns-clause-undo_whole c = (recorded_all (view c.args.doc.now) (view c.loop-number.work) c.args.patches.now c.loop-number.undo.items c.reverse.new.self.items c.loop-number.number c.requires.document c.requires.whole c.loop-number-test.false c.loop-number.invariant.state c.loop-number.invariant.recorded c.reverse.ensures.items).whole
+returns-clause-undo_whole c = (recorded_all (view c.args.doc.now) (view c.record_rest.new.doc) c.args.patches.now c.record_rest.new.undo.items c.reverse.new.self.items c.requires.document c.requires.whole (c.in_default-record_rest.ensures.accepted (view c.args.doc.now) c.requires.document c.loop-number.invariant.state) (c.in_default-record_rest.ensures.recorded (view c.args.doc.now) c.requires.document c.loop-number.invariant.state c.loop-number.invariant.recorded) c.reverse.ensures.items).whole
 
 pub returns-clause-document : goal.returns-clause-document
 returns-clause-document c =
-    subst (λ v. IsDocument (view v)) (sym c.swap.ensures.x_after)
-    (state_document (view c.args.doc.now) (view c.loop-number.work) c.args.patches.now c.loop-number.number c.requires.document c.requires.whole c.loop-number.invariant.state)
+    accepts_document (view c.args.doc.now) (operations c.args.patches.now) (view c.record_rest.new.doc) c.requires.document c.requires.whole (c.in_default-record_rest.ensures.accepted (view c.args.doc.now) c.requires.document c.loop-number.invariant.state)

@@ -1,0 +1,15 @@
+use Rattle.std.proofs.Common.{◌≡◌, Ok}
+use mathlib.Core.List.{reverse}
+use Rattle.serde_json.specs.Data.{Data}
+use Rattle.serde_json.specs.View.{view}
+use Rattle.json_patch.specs.Operation.{operations}
+use Rattle.json_patch.specs.RunComputed.{ran}
+use Rattle.json_patch.specs.Undoing.{AreUndos}
+use Rattle.json_patch.proofs.record.run_back.Given as goal
+
+abbrev pub invariant-loop-operation : goal.invariant-loop-operation
+invariant-loop-operation l = (d : Data) → AreUndos (operations l.fn.undo.items) → ran (view l.fn.doc) (reverse (operations l.fn.undo.items)) ≡ Ok d
+    → AreUndos (operations l.undo.items) × (ran (view l.doc) (reverse (operations l.undo.items)) ≡ Ok d)
+
+abbrev pub decreases-loop-operation : goal.decreases-loop-operation
+decreases-loop-operation l = goal.left-loop-operation l
