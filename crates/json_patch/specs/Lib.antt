@@ -8,6 +8,7 @@ pub mod Run
 pub mod Refusal
 pub mod Inverse
 pub mod Merged
+pub mod Shared
 pub mod Attempt
 pub mod Faulting
 pub mod InPlace
@@ -22,3 +23,4 @@ pub mod SameLaws
 pub mod RunComputed
 pub mod InverseComputed
 pub mod MergedComputed
+pub mod SharedComputed
