@@ -40,3 +40,6 @@ pub mod ReadItems
 pub mod Back
 pub mod Merges
 pub mod MergeSteps
+pub mod Below
+pub mod Locality
+pub mod Shared

@@ -10,6 +10,7 @@ pub mod Run
 pub mod Refusal
 pub mod Inverse
 pub mod Merged
+pub mod Shared
 pub mod Attempt
 pub mod Faulting
 pub mod InPlace
@@ -24,3 +25,4 @@ pub mod SameLaws
 pub mod RunComputed
 pub mod InverseComputed
 pub mod MergedComputed
+pub mod SharedComputed

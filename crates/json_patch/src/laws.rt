@@ -5,6 +5,7 @@ pub mod changes;
 pub mod documents;
 pub mod equality;
 pub mod inverse;
+pub mod locality;
 pub mod merging;
 pub mod runs;
 pub mod values;

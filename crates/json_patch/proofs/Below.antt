@@ -1,0 +1,248 @@
+-- A run that is about one part of the document changes that part alone, as the run without the shared beginning changes it.
+use Rattle.std.proofs.Common.{◌≡◌, ⊎_elim, ℕ, List, [], ◌∷◌, ◌++◌, append_assoc, length, drop, Bool, true, false, if◌then◌else◌, Option, Some, None, option_map, option_and_then, Result, Ok, Err, refl, sym, ap, ◌∙◌, subst}
+use Rattle.std.proofs.lemmas.Option.{option_and_then_some}
+use Rattle.std.proofs.lemmas.Slice.Eq.{bytes_eq-Decides}
+use Rattle.serde_json.specs.Data.{Data}
+use Rattle.jsonptr.specs.Text.{Pointer, IsProperPrefix}
+use Rattle.json_patch.specs.Document.{IsDocument, Step, child}
+use Rattle.json_patch.specs.Resolve.{Resolves}
+use Rattle.json_patch.specs.Operation.{Operation, add, remove, replace, move, copy, test, IsWholeOp, AreWhole}
+use Rattle.json_patch.specs.declared.error.PatchErrorKind.{PatchErrorKind}
+use Rattle.json_patch.specs.declared.error.PatchErrorKind.TheVariants.{TestFailed, InvalidPointer, CannotMoveInsideItself}
+use Rattle.json_patch.specs.Shared.{IsWithin, AreWithin}
+use Rattle.json_patch.specs.ChangeComputed.{step_of, set_child, found, altered, added, removed, replaced, front_of, last_of, put_in, take_from}
+use Rattle.json_patch.specs.SameComputed.{same}
+use Rattle.json_patch.specs.RunComputed.{begins, or_refused, moved, copied, tested, stepped, Outcome, fault, counted, ran_on, ran}
+use Rattle.json_patch.specs.SharedComputed.{stripped, stripped_all}
+use Rattle.json_patch.proofs.Children.{child_document, child_set, child_set_other, sight_set, set_document, step_cases}
+use Rattle.json_patch.proofs.Resolved.{option_map_some, split_whole}
+use Rattle.json_patch.proofs.Altered.{altered_some}
+use Rattle.json_patch.proofs.Found.{found_resolves}
+use Rattle.json_patch.proofs.Added.{added_is, IsAdded_document}
+use Rattle.json_patch.proofs.Removed.{removed_is}
+use Rattle.json_patch.proofs.Replaced.{replaced_is}
+use Rattle.json_patch.proofs.Walked.{altered_walks}
+use Rattle.json_patch.proofs.Level.{one_level, step_of_set}
+use Rattle.json_patch.proofs.Stepped.{leaves_document, stepped_leaves}
+use Rattle.json_patch.proofs.Undone.{altered_append, found_append, added_at, removed_at, found_document}
+
+-- ---- one part replaced, and again
+
+set_set : (s : Step) (d c b a : Data) → IsDocument d → IsDocument b → IsDocument a → child s d ≡ Some c → set_child s a (set_child s b d) ≡ set_child s a d
+set_set s d c b a hd hb ha is =
+    let h : IsDocument (set_child s b d) = set_document s d b hd hb in
+    one_level (set_child s a (set_child s b d)) (set_child s a d) (set_document s (set_child s b d) a h ha) (set_document s d a hd ha)
+    (sight_set s (set_child s b d) a ∙ sight_set s d b ∙ sym (sight_set s d a))
+    (λ r. ⊎_elim (λ (same : r ≡ s). rw same (child_set s (set_child s b d) b a (child_set s d c b is) ∙ sym (child_set s d c a is)))
+    (λ (other : r ≡ s → ⊥). child_set_other r s (set_child s b d) a other ∙ child_set_other r s d b other ∙ sym (child_set_other r s d a other)) (step_cases r s))
+
+set_same : (s : Step) (d c : Data) → IsDocument d → child s d ≡ Some c → set_child s c d ≡ d
+set_same s d c hd is =
+    one_level (set_child s c d) d (set_document s d c hd (child_document s d c hd is)) hd (sight_set s d c)
+    (λ r. ⊎_elim (λ (same : r ≡ s). rw same (child_set s d c c is ∙ sym is)) (λ (other : r ≡ s → ⊥). child_set_other r s d c other) (step_cases r s))
+
+pub replaced_itself : (d : Data) (S : Pointer) (b : Data) → IsDocument d → found d S ≡ Some b → replaced d S b ≡ Some d
+replaced_itself d [] b hd is = sym is
+replaced_itself d (t ∷ S) b hd is =
+    option_and_then_some _ (step_of d t) b is (λ s named more.
+    option_and_then_some _ (child s d) b more (λ c stands rest.
+    rw (named, stands, replaced_itself c S b (child_document s d c hd stands) rest) (ap Some (set_same s d c hd stands))))
+
+pub replaced_document : (d : Data) (S : Pointer) (e x : Data) → IsDocument d → IsDocument e → replaced d S e ≡ Some x → IsDocument x
+replaced_document d S e x hd he is = (replaced_is d S e x hd he is).3
+
+over_map : (s : Step) (d c b : Data) (o : Option Data) → IsDocument d → IsDocument b → child s d ≡ Some c → ((a : Data) → o ≡ Some a → IsDocument a)
+    → option_map (λ e. set_child s e (set_child s b d)) o ≡ option_map (λ e. set_child s e d) o
+over_map s d c b None hd hb is h = refl
+over_map s d c b (Some a) hd hb is h = ap Some (set_set s d c b a hd hb (h a refl) is)
+
+pub record Replaces (d : Data) (S : Pointer) (e x : Data) : Type 0 where
+  found_there : found x S ≡ Some e
+  document : IsDocument x
+  again : (f : Data) → IsDocument f → replaced x S f ≡ replaced d S f
+
+pub replaces : (d : Data) (S : Pointer) (e x : Data) → IsDocument d → IsDocument e → replaced d S e ≡ Some x → Replaces d S e x
+replaces d [] e x hd he is =
+    let same : e ≡ x = cc in record { found_there = ap Some (sym same); document = subst IsDocument same he; again = λ f hf. refl }
+replaces d (t ∷ S) e x hd he is =
+    option_and_then_some _ (step_of d t) x is (λ s named more.
+    option_and_then_some _ (child s d) x more (λ c stands rest.
+    option_map_some _ (replaced c S e) x rest (λ b inner whole.
+    subst (Replaces d (t ∷ S) e) whole (step s c b named stands (replaces c S e b (child_document s d c hd stands) he inner)))))
+  where
+    step : (s : Step) (c b : Data) → step_of d t ≡ Some s → child s d ≡ Some c → Replaces c S e b → Replaces d (t ∷ S) e (set_child s b d)
+    step s c b named stands r =
+        let n : step_of (set_child s b d) t ≡ Some s = step_of_set s d b t ∙ named in
+        let w : child s (set_child s b d) ≡ Some b = child_set s d c b stands in
+        record {
+          found_there = rw (n, w) r.found_there;
+          document = set_document s d b hd r.document;
+          again = λ f hf. rw (n, w, named, stands, r.again f hf)
+              (over_map s d c b (replaced c S f) hd r.document stands (λ a at. replaced_document c S f a (child_document s d c hd stands) hf at));
+        }
+
+-- ---- changes below a pointer
+
+begins_under : (S F P : Pointer) → begins (S ++ F) (S ++ P) ≡ begins F P
+begins_under [] F P = refl
+begins_under (t ∷ S) F P = rw ((bytes_eq-Decides t t).1 refl) (begins_under S F P)
+
+-- what f, changing b, does to d, where b stands at S
+over : Data → Pointer → Option Data → Option Data
+over d S o = option_and_then (λ e. replaced d S e) o
+
+altered_under : (f : Data → Option Data) (d : Data) (S P : Pointer) (b : Data) → found d S ≡ Some b → altered f d (S ++ P) ≡ over d S (altered f b P)
+unfolding over
+altered_under f d S P b at =
+    altered_append f d S P ∙ altered_walks (λ c. altered f c P) d S ∙ ap (option_and_then (λ p. option_and_then (λ q. replaced d S q) (altered f p P))) at
+
+added_under : (d : Data) (S : Pointer) (t : List ℕ) (P : Pointer) (v b : Data) → found d S ≡ Some b → added d (S ++ t ∷ P) v ≡ over d S (added b (t ∷ P) v)
+added_under d S t P v b at =
+    ap (λ Q. added d Q v) (ap (λ Q. S ++ Q) (split_whole t P) ∙ sym (append_assoc S (front_of t P) (last_of t P ∷ []))) ∙ added_at d (S ++ front_of t P) (last_of t P) v
+    ∙ altered_under (put_in v (last_of t P)) d S (front_of t P) b at
+
+removed_under : (d : Data) (S : Pointer) (t : List ℕ) (P : Pointer) (b : Data) → found d S ≡ Some b → removed d (S ++ t ∷ P) ≡ over d S (removed b (t ∷ P))
+removed_under d S t P b at =
+    ap (removed d) (ap (λ Q. S ++ Q) (split_whole t P) ∙ sym (append_assoc S (front_of t P) (last_of t P ∷ []))) ∙ removed_at d (S ++ front_of t P) (last_of t P)
+    ∙ altered_under (take_from (last_of t P)) d S (front_of t P) b at
+
+found_under : (d : Data) (S P : Pointer) (b : Data) → found d S ≡ Some b → found d (S ++ P) ≡ found b P
+found_under d S P b at = found_append d S P ∙ ap (option_and_then (λ p. found p P)) at
+
+-- ---- one step
+
+-- the outcome for d of an outcome for the document at S
+unfoldable pub lifted : Data → Pointer → Result Data PatchErrorKind → Result Data PatchErrorKind
+lifted d S (Ok e) = or_refused InvalidPointer (replaced d S e)
+lifted d S (Err kind) = Err kind
+
+lifted_or : (d : Data) (S : Pointer) (o : Option Data) → or_refused InvalidPointer (over d S o) ≡ lifted d S (or_refused InvalidPointer o)
+unfolding over lifted
+lifted_or d S None = refl
+lifted_or d S (Some e) = refl
+
+module _ (d : Data) (S : Pointer) (b : Data) (hd : IsDocument d) (at : found d S ≡ Some b) where
+  there : IsDocument b
+  there = found_document d S b hd at
+
+  pub some_replaced : (e : Data) → (x : Data) × (replaced d S e ≡ Some x)
+  some_replaced e = let h : (L : List Step) × Resolves d S L b = found_resolves d S b at in altered_some (λ c. Some e) d S h.0 b e h.1 refl
+
+  test_under : (t : Bool) → (if t then Ok d else Err TestFailed) ≡ lifted d S (if t then Ok b else Err TestFailed)
+  unfolding lifted
+  test_under true = ap (or_refused InvalidPointer) (sym (replaced_itself d S b hd at))
+  test_under false = refl
+
+  tested_under : (v : Data) (o : Option Data) → tested d v o ≡ lifted d S (tested b v o)
+  unfolding lifted
+  tested_under v None = refl
+  tested_under v (Some w) = test_under (same w v)
+
+  copied_under : (t : List ℕ) (P : Pointer) (o : Option Data) → copied d (S ++ t ∷ P) o ≡ lifted d S (copied b (t ∷ P) o)
+  unfolding lifted
+  copied_under t P None = refl
+  copied_under t P (Some v) = ap (or_refused InvalidPointer) (added_under d S t P v b at) ∙ lifted_or d S (added b (t ∷ P) v)
+
+  -- what the part becomes when the value is put into what was left of it
+  again_under : (m x : Data) (o : Option Data) → IsDocument m → replaced d S m ≡ Some x → ((e : Data) → o ≡ Some e → IsDocument e) → over x S o ≡ over d S o
+  unfolding over
+  again_under m x None hm is h = refl
+  again_under m x (Some e) hm is h = (replaces d S m x hd hm is).again e (h e refl)
+
+  moved_under : (t : List ℕ) (P : Pointer) (o p : Option Data) → ((v : Data) → o ≡ Some v → IsDocument v) → ((m : Data) → p ≡ Some m → IsDocument m)
+      → moved (S ++ t ∷ P) o (over d S p) ≡ lifted d S (moved (t ∷ P) o p)
+  unfolding over lifted
+  moved_under t P None p ho hp = refl
+  moved_under t P (Some v) None ho hp = refl
+  moved_under t P (Some v) (Some m) ho hp =
+      let x : (x : Data) × (replaced d S m ≡ Some x) = some_replaced m in
+      let r : Replaces d S m x.0 = replaces d S m x.0 hd (hp m refl) x.1 in
+      rw x.1 (ap (or_refused InvalidPointer) (added_under x.0 S t P v m r.found_there
+      ∙ again_under m x.0 (added m (t ∷ P) v) (hp m refl) x.1 (λ e is. IsAdded_document m (t ∷ P) v e (ho v refl) (added_is m (t ∷ P) v e (hp m refl) (ho v refl) is)))
+      ∙ lifted_or d S (added m (t ∷ P) v))
+
+  on_test : (c : Bool) (X Y : Result Data PatchErrorKind) → X ≡ lifted d S Y → (if c then Err CannotMoveInsideItself else X) ≡ lifted d S (if c then Err CannotMoveInsideItself else Y)
+  unfolding lifted
+  on_test true X Y h = refl
+  on_test false X Y h = h
+
+  move_under : (t : List ℕ) (F : Pointer) (u : List ℕ) (P : Pointer) → stepped d (move (S ++ t ∷ F) (S ++ u ∷ P)) ≡ lifted d S (stepped b (move (t ∷ F) (u ∷ P)))
+  move_under t F u P =
+      rw (begins_under S (t ∷ F) (u ∷ P), found_under d S (t ∷ F) b at, removed_under d S t F b at)
+      (on_test (begins (t ∷ F) (u ∷ P)) (moved (S ++ u ∷ P) (found b (t ∷ F)) (over d S (removed b (t ∷ F)))) (moved (u ∷ P) (found b (t ∷ F)) (removed b (t ∷ F)))
+      (moved_under u P (found b (t ∷ F)) (removed b (t ∷ F)) (λ v is. found_document b (t ∷ F) v there is) (λ m is. (removed_is b (t ∷ F) m there is).4)))
+
+  strip : (T Q : Pointer) → drop (length T) (T ++ Q) ≡ Q
+  strip [] Q = refl
+  strip (t ∷ T) Q = strip T Q
+
+  with_one : (f : Pointer → Operation) → ((t : List ℕ) (P : Pointer) → stepped d (f (S ++ t ∷ P)) ≡ lifted d S (stepped b (f (t ∷ P))))
+      → (P : Pointer) → IsProperPrefix S P → stepped d (f P) ≡ lifted d S (stepped b (f (drop (length S) P)))
+  with_one f core P h =
+      subst (λ Q. stepped d (f Q) ≡ lifted d S (stepped b (f (drop (length S) Q)))) (sym h.2)
+      (core h.0 h.1 ∙ ap (λ Q. lifted d S (stepped b (f Q))) (sym (strip S (h.0 ∷ h.1))))
+
+  with_two : (f : Pointer → Pointer → Operation)
+      → ((t : List ℕ) (F : Pointer) (u : List ℕ) (P : Pointer) → stepped d (f (S ++ t ∷ F) (S ++ u ∷ P)) ≡ lifted d S (stepped b (f (t ∷ F) (u ∷ P))))
+      → (F P : Pointer) → IsProperPrefix S F → IsProperPrefix S P → stepped d (f F P) ≡ lifted d S (stepped b (f (drop (length S) F) (drop (length S) P)))
+  with_two f core F P g h =
+      subst (λ Q. stepped d (f F Q) ≡ lifted d S (stepped b (f (drop (length S) F) (drop (length S) Q)))) (sym h.2)
+      (subst (λ G. stepped d (f G (S ++ h.0 ∷ h.1)) ≡ lifted d S (stepped b (f (drop (length S) G) (drop (length S) (S ++ h.0 ∷ h.1))))) (sym g.2)
+      (core g.0 g.1 h.0 h.1 ∙ ap (λ Q. lifted d S (stepped b (f Q (h.0 ∷ h.1)))) (sym (strip S (g.0 ∷ g.1)))
+      ∙ ap (λ Q. lifted d S (stepped b (f (drop (length S) (S ++ g.0 ∷ g.1)) Q))) (sym (strip S (h.0 ∷ h.1)))))
+
+  pub stepped_under : (op : Operation) → IsWithin S op → stepped d op ≡ lifted d S (stepped b (stripped S op))
+  stepped_under (add P v) h = with_one (λ Q. add Q v) (λ t Q. ap (or_refused InvalidPointer) (added_under d S t Q v b at) ∙ lifted_or d S (added b (t ∷ Q) v)) P h
+  stepped_under (remove P) h = with_one (λ Q. remove Q) (λ t Q. ap (or_refused InvalidPointer) (removed_under d S t Q b at) ∙ lifted_or d S (removed b (t ∷ Q))) P h
+  stepped_under (replace P v) h =
+      with_one (λ Q. replace Q v) (λ t Q. ap (or_refused InvalidPointer) (altered_under (λ c. Some v) d S (t ∷ Q) b at) ∙ lifted_or d S (replaced b (t ∷ Q) v)) P h
+  stepped_under (move F P) h = with_two (λ G Q. move G Q) (λ t G u Q. move_under t G u Q) F P h.0 h.1
+  stepped_under (copy F P) h =
+      with_two (λ G Q. copy G Q) (λ t G u Q. ap (copied d (S ++ u ∷ Q)) (found_under d S (t ∷ G) b at) ∙ copied_under u Q (found b (t ∷ G))) F P h.0 h.1
+  stepped_under (test P v) h = with_one (λ Q. test Q v) (λ t Q. ap (tested d v) (found_under d S (t ∷ Q) b at) ∙ tested_under v (found b (t ∷ Q))) P h
+
+-- ---- runs
+
+pub whole_stripped : (S : Pointer) (op : Operation) → IsWholeOp op → IsWholeOp (stripped S op)
+whole_stripped S (add P v) h = h
+whole_stripped S (remove P) h = h
+whole_stripped S (replace P v) h = h
+whole_stripped S (move F P) h = h
+whole_stripped S (copy F P) h = h
+whole_stripped S (test P v) h = h
+
+pub all_whole_stripped : (S : Pointer) (ops : List Operation) → AreWhole ops → AreWhole (stripped_all S ops)
+all_whole_stripped S [] h = tt
+all_whole_stripped S (op ∷ ops) h = (whole_stripped S op h.0, all_whole_stripped S ops h.1)
+
+-- the run on d, by that on the document at S
+unfoldable pub RunsUnder : Data → Pointer → List Operation → Outcome → Type 0
+RunsUnder d S ops (Ok e) = IsDocument e × ((x : Data) × (replaced d S e ≡ Some x) × (ran d ops ≡ Ok x))
+RunsUnder d S ops (Err f) = ran d ops ≡ Err f
+
+counted_under : (d : Data) (S : Pointer) (b : Data) (op : Operation) (ops : List Operation) (m x : Data) (o : Outcome) → IsDocument d → IsDocument m → replaced d S m ≡ Some x → stepped d op ≡ Ok x
+    → RunsUnder x S ops o → RunsUnder d S (op ∷ ops) (counted o)
+unfolding RunsUnder
+counted_under d S b op ops m x (Ok e) hd hm is step h =
+    (h.0, (h.1.0, sym ((replaces d S m x hd hm is).again e h.0) ∙ h.1.1, rw (step, h.1.2) refl))
+counted_under d S b op ops m x (Err (fault k kind)) hd hm is step h = rw (step, h) refl
+
+on_step : (d : Data) (S : Pointer) (b : Data) (op : Operation) (ops : List Operation) (r : Result Data PatchErrorKind) → IsDocument d → IsWholeOp op → found d S ≡ Some b → IsWithin S op → stepped b (stripped S op) ≡ r
+    → ((x m : Data) → IsDocument x → found x S ≡ Some m → RunsUnder x S ops (ran m (stripped_all S ops))) → RunsUnder d S (op ∷ ops) (ran_on r (λ m. ran m (stripped_all S ops)))
+unfolding RunsUnder lifted
+on_step d S b op ops (Ok m) hd hv at within is more =
+    let hb : IsDocument b = found_document d S b hd at in
+    let hs : IsWholeOp (stripped S op) = whole_stripped S op hv in
+    let hm : IsDocument m = leaves_document b (stripped S op) m hb hs (stepped_leaves b (stripped S op) m hb hs is) in
+    let x : (x : Data) × (replaced d S m ≡ Some x) = some_replaced d S b hd at m in
+    let r : Replaces d S m x.0 = replaces d S m x.0 hd hm x.1 in
+    let step : stepped d op ≡ Ok x.0 = stepped_under d S b hd at op within ∙ ap (lifted d S) is ∙ ap (or_refused InvalidPointer) x.1 in
+    counted_under d S b op ops m x.0 (ran m (stripped_all S ops)) hd hm x.1 step (more x.0 m r.document r.found_there)
+on_step d S b op ops (Err kind) hd hv at within is more =
+    let step : stepped d op ≡ Err kind = stepped_under d S b hd at op within ∙ ap (lifted d S) is in rw step refl
+
+pub ran_under : (d : Data) (S : Pointer) (b : Data) (ops : List Operation) → IsDocument d → AreWhole ops → found d S ≡ Some b → AreWithin S ops → RunsUnder d S ops (ran b (stripped_all S ops))
+unfolding RunsUnder
+ran_under d S b [] hd hv at within = (found_document d S b hd at, (d, replaced_itself d S b hd at, refl))
+ran_under d S b (op ∷ ops) hd hv at within =
+    on_step d S b op ops (stepped b (stripped S op)) hd hv.0 at within.0 refl (λ x m hx here. ran_under x S m ops hx hv.1 here within.1)

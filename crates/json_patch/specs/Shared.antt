@@ -1,0 +1,29 @@
+-- The part of a document that a list of operations is about: the tokens that begin the parent of each of their
+-- pointers (RFC 6901, section 3; RFC 6902, section 4).
+use Rattle.std.specs.Prelude.{List, [], ◌∷◌}
+use Rattle.jsonptr.specs.Text.{Pointer, IsPrefix, IsProperPrefix}
+use Rattle.json_patch.specs.Operation.{Operation, add, remove, replace, move, copy, test}
+
+-- S begins the parent of each pointer of op: each is S and at least one token more
+abbrev pub IsWithin : Pointer → Operation → Type 0
+IsWithin S (add P v) = IsProperPrefix S P
+IsWithin S (remove P) = IsProperPrefix S P
+IsWithin S (replace P v) = IsProperPrefix S P
+IsWithin S (move F P) = IsProperPrefix S F × IsProperPrefix S P
+IsWithin S (copy F P) = IsProperPrefix S F × IsProperPrefix S P
+IsWithin S (test P v) = IsProperPrefix S P
+
+abbrev pub AreWithin : Pointer → List Operation → Type 0
+AreWithin S [] = Unit {0}
+AreWithin S (op ∷ ops) = IsWithin S op × AreWithin S ops
+
+abbrev pub IsNotEmpty : List Operation → Type 0
+IsNotEmpty [] = ⊥
+IsNotEmpty (op ∷ ops) = Unit {0}
+
+-- S is the longest list of tokens that begins the parent of every pointer: there is none where the list is empty or
+-- a pointer is the root
+pub record IsShared (ops : List Operation) (S : Pointer) : Type 0 where
+  pub some : IsNotEmpty ops
+  pub within : AreWithin S ops
+  pub longest : (T : Pointer) → AreWithin T ops → IsPrefix T S

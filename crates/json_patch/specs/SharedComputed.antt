@@ -1,0 +1,52 @@
+-- Operations without the tokens that all their pointers begin with, and those tokens, computed.
+use Rattle.std.specs.Prelude.{List, [], ◌∷◌, ◌++◌, length, drop, map, bytes_eq, Option, Some, None, if◌then◌else◌}
+use Rattle.jsonptr.specs.Text.{Pointer}
+use Rattle.json_patch.specs.Operation.{Operation, add, remove, replace, move, copy, test}
+use Rattle.json_patch.specs.ChangeComputed.{front_of}
+
+-- op without as many tokens at the front of each pointer as S has
+abbrev pub stripped : Pointer → Operation → Operation
+stripped S (add P v) = add (drop (length S) P) v
+stripped S (remove P) = remove (drop (length S) P)
+stripped S (replace P v) = replace (drop (length S) P) v
+stripped S (move F P) = move (drop (length S) F) (drop (length S) P)
+stripped S (copy F P) = copy (drop (length S) F) (drop (length S) P)
+stripped S (test P v) = test (drop (length S) P) v
+
+abbrev pub stripped_all : Pointer → List Operation → List Operation
+stripped_all S [] = []
+stripped_all S (op ∷ ops) = stripped S op ∷ stripped_all S ops
+
+-- the longest list of tokens that begins both
+abbrev pub common : Pointer → Pointer → Pointer
+common [] Q = []
+common (t ∷ P) [] = []
+common (t ∷ P) (u ∷ Q) = if bytes_eq t u then t ∷ common P Q else []
+
+-- the pointers of an operation
+abbrev pub pointers : Operation → List Pointer
+pointers (add P v) = P ∷ []
+pointers (remove P) = P ∷ []
+pointers (replace P v) = P ∷ []
+pointers (move F P) = F ∷ P ∷ []
+pointers (copy F P) = F ∷ P ∷ []
+pointers (test P v) = P ∷ []
+
+abbrev pub all_pointers : List Operation → List Pointer
+all_pointers [] = []
+all_pointers (op ∷ ops) = pointers op ++ all_pointers ops
+
+-- the longest list of tokens that begins S and the parents of all these pointers
+abbrev pub parents_of : Pointer → List Pointer → Option Pointer
+parents_of S [] = Some S
+parents_of S ([] ∷ Ps) = None
+parents_of S ((t ∷ P) ∷ Ps) = parents_of (common S (front_of t P)) Ps
+
+abbrev pub shared_of : List Pointer → Option Pointer
+shared_of [] = None
+shared_of ([] ∷ Ps) = None
+shared_of ((t ∷ P) ∷ Ps) = parents_of (front_of t P) Ps
+
+-- the longest list of tokens that begins the parent of every pointer of the list
+abbrev pub shared : List Operation → Option Pointer
+shared ops = shared_of (all_pointers ops)
