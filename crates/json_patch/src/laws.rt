@@ -9,3 +9,4 @@ pub mod locality;
 pub mod merging;
 pub mod runs;
 pub mod values;
+pub mod whole_values;
