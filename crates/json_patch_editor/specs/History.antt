@@ -1,0 +1,63 @@
+-- Patches that lead from one document to the next.
+use Rattle.std.specs.Prelude.{◌≡◌, ℕ, List, [], ◌∷◌, take, Result, Ok, Err, Bool, true, false}
+use Rattle.serde_json.specs.Data.{Data}
+use Rattle.json_patch.specs.Operation.{Operation, operations, AreWhole}
+use Rattle.json_patch.specs.Run.{IsAccepted}
+use Rattle.json_patch.specs.RunComputed.{Outcome, ran}
+use Rattle.json_patch.specs.declared.operation.Patch.{Patch}
+use Rattle.std.specs.declared.alloc.AllocError.{AllocError}
+
+abbrev pub operations_of : Patch → List Operation
+operations_of p = operations p.0.items
+
+abbrev pub documents_from : Outcome → (Data → List Data) → List Data
+documents_from (Ok e) rest = e ∷ rest e
+documents_from (Err f) rest = []
+
+-- the documents to which the patches lead from d, one after another
+abbrev pub documents_along : Data → List Patch → List Data
+documents_along d [] = []
+documents_along d (p ∷ ps) = documents_from (ran d (operations_of p)) (λ e. documents_along e ps)
+
+abbrev pub IfEnds : Outcome → (Data → Type 0) → Type 0
+IfEnds (Ok e) P = P e
+IfEnds (Err f) P = ⊥
+
+-- each patch is whole, and accepted where the ones before it lead
+abbrev pub AreStored : Data → List Patch → Type 0
+AreStored d [] = Unit {0}
+AreStored d (p ∷ ps) = AreWhole (operations_of p) × IfEnds (ran d (operations_of p)) (λ e. AreStored e ps)
+
+-- the patches are accepted one after another, and leave these documents
+abbrev pub Lead : Data → List Patch → List Data → Type 0
+Lead d [] [] = Unit {0}
+Lead d (p ∷ ps) (e ∷ es) = IsAccepted d (operations_of p) e × Lead e ps es
+Lead d ps es = ⊥
+
+-- for a private clause: nothing has changed
+abbrev pub AreKept : Data → List Patch → List Patch → Data → List Patch → List Patch → Type 0
+AreKept d from to e left grown = (e ≡ d) × (left ≡ from) × (grown ≡ to)
+
+-- for a private clause: p was taken and run, and q leads back
+pub record IsTaken (d : Data) (from to : List Patch) (e : Data) (left grown : List Patch) : Type 0 where
+  pub p : Patch
+  pub q : Patch
+  pub from_is : from ≡ p ∷ left
+  pub grown_is : grown ≡ q ∷ to
+  pub whole : AreWhole (operations_of q)
+  pub leads : ran d (operations_of p) ≡ Ok e
+  pub leads_back : ran e (operations_of q) ≡ Ok d
+
+-- for a private clause: a step back or on
+abbrev pub Shifts : Result Bool AllocError → Data → List Patch → List Patch → Data → List Patch → List Patch → Type 0
+Shifts (Ok true) d from to e left grown = IsTaken d from to e left grown
+Shifts (Ok false) d from to e left grown = (from ≡ []) × AreKept d from to e left grown
+Shifts (Err f) d from to e left grown = AreKept d from to e left grown
+
+-- for a private clause: q leads back from e to d, and is stored before the undos, of which `depth` are kept
+pub record Records (depth : ℕ) (d : Data) (undos : List Patch) (e : Data) (grown redos : List Patch) : Type 0 where
+  pub q : Patch
+  pub grown_is : grown ≡ take depth (q ∷ undos)
+  pub redos_is : redos ≡ []
+  pub whole : AreWhole (operations_of q)
+  pub leads_back : ran e (operations_of q) ≡ Ok d

@@ -1,0 +1,5 @@
+pub mod Versions
+pub mod Commands
+pub mod History
+pub mod Stored
+pub mod Shown

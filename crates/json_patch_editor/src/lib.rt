@@ -1,0 +1,10 @@
+//! An editor of JSON documents, with undo and redo.
+#![tactic(auto)]
+
+mod editor;
+pub mod laws;
+mod shifting;
+#[cfg(test)]
+mod tests;
+
+pub use editor::Editor;
