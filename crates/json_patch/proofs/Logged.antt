@@ -9,9 +9,9 @@ use Rattle.serde_json.specs.Data.{Data, array, object, Items}
 use Rattle.serde_json.specs.Events.{items_len}
 use Rattle.serde_json.specs.View.{view}
 use Rattle.serde_json.specs.declared.value.Value.{Value}
-use Rattle.jsonptr.specs.Text.{Pointer, encoded}
+use Rattle.jsonptr.specs.Text.{Pointer, encoded, encoded_byte}
 use Rattle.jsonptr.specs.Places.{next_token, token_of}
-use Rattle.jsonptr.proofs.Texts.{encoded-digit}
+use Rattle.std.proofs.lemmas.Bool.{ne_eqb}
 use Rattle.json_patch.specs.Attempt.{Attempts}
 use Rattle.json_patch.specs.ChangeComputed.{added, removed, replaced, put_in, slot_of, insert_item, found, altered, front_of, last_of}
 use Rattle.json_patch.specs.Document.{IsDocument}
@@ -151,11 +151,15 @@ with_last_in (s ∷ P) F t u is = let h = split_is s P F t is in rw h.0 refl
 pub place_numbered : (was : Displaced) (i : ℕ) (P F place : Pointer) (t n : List ℕ) → was ≡ LaterItems i → P ≡ F ++ t ∷ [] → n ≡ token_of i → place ≡ F ++ n ∷ [] → place ≡ undo_place P was
 place_numbered was i P F place t n later is named at = at ∙ ap (λ x. F ++ x ∷ []) named ∙ sym (with_last_in P F t (token_of i) is) ∙ ap (undo_place P) (sym later)
 
+-- a digit stands as it is
+encoded_digit : (x : ℕ) → 48 ≤ x → x ≤ 57 → encoded_byte x ≡ x ∷ []
+encoded_digit x l h = let n = ne_eqb x 47 (λ e. omega arith) in let m = ne_eqb x 126 (λ e. omega arith) in rw (n, m, encoded_byte) refl
+
 encoded_digits : (ds : List ℕ) → AllBelowBase 10 ds → encoded (map (λ x. 48 + x) ds) ≡ map (λ x. 48 + x) ds
 encoded_digits [] h = refl
 encoded_digits (x ∷ ds) h =
     let less : x < 10 = h.0 in
-    ap (λ b. b ++ encoded (map (λ y. 48 + y) ds)) (encoded-digit (48 + x) (omega arith) (omega arith)) ∙ ap (λ r. (48 + x) ∷ r) (encoded_digits ds h.1)
+    ap (λ b. b ++ encoded (map (λ y. 48 + y) ds)) (encoded_digit (48 + x) (omega arith) (omega arith)) ∙ ap (λ r. (48 + x) ∷ r) (encoded_digits ds h.1)
 
 place_unescaped : (i : ℕ) → IsUnescaped (token_of i)
 place_unescaped zero = refl
