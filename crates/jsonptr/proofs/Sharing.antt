@@ -21,13 +21,16 @@ go_further P Q A B A' B' (S, p, q) (t, a, b) = (
 pub goes_on_less : (A B A' B' : List (List ℕ)) → BeginSame A B A' B' → length A' < length A
 goes_on_less A B A' B' (t, a, b) = omega (arith, ap length a)
 
+joined : (s r : List ℕ) (S T : List (List ℕ)) → s ≡ r → S ≡ T → s ∷ S ≡ r ∷ T
+joined s r S T e f = cc
+
 -- nothing longer begins both
 longest : (S A B R : List (List ℕ)) → AreApart A B → IsPrefix R (S ++ A) → IsPrefix R (S ++ B) → IsPrefix R S
 longest S A B [] apart a b = (S, refl)
 longest [] A B (r ∷ R) apart (x, a) (y, b) = absurd (apart (R ++ x) (R ++ y) (r, a, b))
 longest (s ∷ S) A B (r ∷ R) apart (x, a) (y, b) =
     let first : s ≡ r = cc in
-    let k = longest S A B R apart (x, cc) (y, cc) in (k.0, ap (λ c. c ∷ S) first ∙ ap (λ cs. r ∷ cs) k.1)
+    let k : IsPrefix R S = longest S A B R apart (x, cc) (y, cc) in (k.0, joined s r S (R ++ k.0) first k.1)
 
 pub is_longest : (P Q A B S : List (List ℕ)) → P ≡ S ++ A → Q ≡ S ++ B → AreApart A B → IsLongestShared P Q S
 is_longest P Q A B S p q apart = (
