@@ -1,7 +1,6 @@
 -- The texts of pointers and their tokens.
-use Rattle.std.proofs.Common.{take_all, length-append, take-append-drop, ◌≡◌, ℕ, ◌+◌, ◌<◌, ◌≤◌, Bool, true, false, cond, eqb, List, [], ◌∷◌, ◌++◌, length, get_or, take, drop, refl, sym, ap, ◌∙◌, subst, inl, inr, ⊎_elim, append_assoc, append-nil, add-one, suc, zero, arith}
-use Rattle.std.specs.Prelude.{◌⊎◌}
-use Rattle.std.proofs.lemmas.Bool.{cases_eq, ne_eqb, eqb-false}
+use Rattle.std.proofs.Common.{take_all, length-append, take-append-drop, ◌≡◌, ℕ, ◌+◌, ◌<◌, ◌≤◌, Bool, true, false, cond, eqb, List, [], ◌∷◌, ◌++◌, length, get_or, take, drop, refl, sym, ap, ◌∙◌, subst, ⊎_elim, append_assoc, append-nil, suc, zero, arith}
+use Rattle.std.proofs.lemmas.Bool.{cases_eq, ne_eqb}
 use Rattle.std.specs.Prelude.{MatchOption, Option, Some, None, IfNone, Result, Ok, Err, OnErr}
 use Rattle.std.specs.List.{count_by}
 use Rattle.std.proofs.lemmas.Slice.Eq.{bytes_eq-Decides}
@@ -13,12 +12,11 @@ use Rattle.std.proofs.lemmas.List.Recursion.{is_count_by}
 use Rattle.std.specs.Str.{bytes_eq, NoCharPasses, IsCharBoundary}
 use Rattle.std.specs.Str.Pattern.{FindsChar, RFindsChar, SplitsAroundMatch, StripsPrefix, FindsTextPrefix}
 use Rattle.std.proofs.lemmas.Str.Pattern.{find_char, NoCharPasses-char, drop_at_char}
-use Rattle.jsonptr.specs.Faults.{IsBareTilde, BeginsWell, IsFault}
+use Rattle.jsonptr.specs.Faults.{IsFault}
 use Rattle.jsonptr.specs.declared.error.ParseError.{ParseError}
-use Rattle.jsonptr.specs.declared.error.ParseError.TheVariants.{NoLeadingSlash, InvalidEncoding}
 use Rattle.jsonptr.specs.Text.{encoded_byte, encoded, text_of, IsPrefix, IsNoPointerText}
-use Rattle.jsonptr.specs.TextLaws.{by_byte, scanned-append, tokens_of_text-append, scanned-NoSlash, tokens_of_text-one, Starts-text_of, NoSlash-encoded, decoded-encoded, unscanned-scanned, text_of-tokens_of_text, Escaped-append, Escaped-encoded, Escaped-text_of, one_pointer, pointer_has_no_fault}
-use Rattle.jsonptr.specs.Scanning.{after_tilde, put, decoded, scan, scanned, tokens_of_text, ReadsBack, IsEncoded, Starts, NoSlash, StartsEscape, Escaped}
+use Rattle.jsonptr.specs.TextLaws.{by_byte, tokens_of_text-append, scanned-NoSlash, tokens_of_text-one, Starts-text_of, NoSlash-encoded, decoded-encoded, unscanned-scanned, text_of-tokens_of_text, Escaped-append, Escaped-encoded, Escaped-text_of, one_pointer, pointer_has_no_fault}
+use Rattle.jsonptr.specs.Scanning.{after_tilde, put, decoded, tokens_of_text, ReadsBack, IsEncoded, Starts, NoSlash, StartsEscape, Escaped}
 
 pub if_none : {A : Type 0} {P : Type 0} (o : Option A) → P → IfNone o P
 if_none None p = p

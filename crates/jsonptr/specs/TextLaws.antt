@@ -1,10 +1,10 @@
 -- Laws of pointers and their texts, for the proofs above this crate to cite: the last section, which
 -- the module `laws` has as contracts. Before it stands what its proofs and this crate's others need.
-use Rattle.std.proofs.Common.{◌≡◌, ◌<◌, ◌≤◌, ◌+◌, ℕ, zero, suc, List, [], ◌∷◌, ◌++◌, length, get_or, slice_index, eqb, false, refl, sym, ap, ◌∙◌, inl, inr, subst, append_assoc, append-nil, add-one, ⊎_elim, arith}
+use Rattle.std.proofs.Common.{◌≡◌, ◌<◌, ◌+◌, ℕ, zero, suc, List, [], ◌∷◌, ◌++◌, length, get_or, slice_index, eqb, false, refl, sym, ap, ◌∙◌, inl, inr, subst, add-one, ⊎_elim, arith}
 use Rattle.std.specs.Prelude.{◌⊎◌}
 use Rattle.std.proofs.lemmas.Bool.{cases_eq, cases_lt, ne_eqb, eqb-false}
 use Rattle.jsonptr.specs.Faults.{IsFault, IsBareTilde, BeginsWell}
-use Rattle.jsonptr.specs.Scanning.{decoded, put, scan, scanned, tokens_of_text, Starts, NoSlash, StartsEscape, Escaped}
+use Rattle.jsonptr.specs.Scanning.{decoded, scan, scanned, tokens_of_text, Starts, NoSlash, StartsEscape, Escaped}
 use Rattle.jsonptr.specs.Text.{Pointer, IsPointerText, encoded_byte, encoded, text_of}
 use Rattle.jsonptr.specs.declared.error.ParseError.{ParseError}
 use Rattle.jsonptr.specs.declared.error.ParseError.TheVariants.{NoLeadingSlash, InvalidEncoding}
