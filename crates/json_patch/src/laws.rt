@@ -9,3 +9,4 @@ pub mod merging;
 pub mod places;
 pub mod runs;
 pub mod values;
+pub mod whole_values;

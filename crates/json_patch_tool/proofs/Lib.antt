@@ -1,4 +1,6 @@
 pub mod Answered
+pub mod Below
+pub mod Each
 pub mod Moved
 pub mod Once
 pub mod Pairs

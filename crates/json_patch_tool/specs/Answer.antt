@@ -15,7 +15,7 @@ use Rattle.json_patch_tool.specs.declared.input.TheConstants.{MAX_INPUT}
 use Rattle.json_patch_tool.specs.declared.mode.Mode.{Mode}
 use Rattle.json_patch_tool.specs.declared.mode.Mode.TheVariants.{Patch, Record, Merge}
 use Rattle.json_patch_tool.specs.declared.fault.ToolFault.{ToolFault}
-use Rattle.json_patch_tool.specs.declared.fault.ToolFault.TheVariants.{TooLarge, Syntax, NotAPair, NotWhole, Unreadable, Refused}
+use Rattle.json_patch_tool.specs.declared.fault.ToolFault.TheVariants.{NotWhole, Unreadable, Refused}
 
 -- p reads as a patch that is accepted on the document d, and leaves e
 abbrev pub IsPatched : Data → Data → Data → Type 0
@@ -26,7 +26,7 @@ abbrev pub IsRecorded : Data → Data → Data → Type 0
 IsRecorded d p whole = IsDocument d × ((ops undo : List Operation) × (e : Data) × ReadsPatch p ops × Accepts d ops e
     × IsInverse d ops undo × (whole ≡ array (item e (item (written_patch undo) no_items))))
 
--- why p isn't applied to d: d is no document, or else p is no patch, or else the patch is refused
+-- why p isn't applied to d: d is no document, or else p is no patch, or else the patch is refused; and for no other fault
 abbrev pub IsNotPatched : Data → Data → ToolFault → Type 0
 IsNotPatched d p NotWhole = IsDocument d → ⊥
 IsNotPatched d p (Unreadable e) = IsDocument d × RefusesPatch p e.operation e.kind
@@ -37,26 +37,28 @@ IsNotPatched d p _ = ⊥
 abbrev pub IsMergedWhole : Data → Data → Data → Type 0
 IsMergedWhole d p e = IsDocument d × IsDocument p × IsDocument e × IsMerged d p e
 
--- why p isn't merged into d
+-- why p isn't merged into d: one of the two is no document; and for no other fault
 abbrev pub IsNotMerged : Data → Data → ToolFault → Type 0
 IsNotMerged d p NotWhole = (IsDocument d → ⊥) ⊎ (IsDocument p → ⊥)
 IsNotMerged d p _ = ⊥
 
--- what a mode answers for two values
-abbrev pub Gives : Mode → Data → Data → Result (List ℕ) ToolFault → Type 0
-Gives Patch d p (Ok line) = (e : Data) × IsPatched d p e × (line ≡ line_of e)
-Gives Patch d p (Err fault) = IsNotPatched d p fault
-Gives Record d p (Ok line) = (whole : Data) × IsRecorded d p whole × (line ≡ line_of whole)
-Gives Record d p (Err fault) = IsNotPatched d p fault
-Gives Merge d p (Ok line) = (e : Data) × IsMergedWhole d p e × (line ≡ line_of e)
-Gives Merge d p (Err fault) = IsNotMerged d p fault
+-- the value that a mode gives for two values
+abbrev pub GivesValue : Mode → Data → Data → Data → Type 0
+GivesValue Patch d p e = IsPatched d p e
+GivesValue Record d p e = IsRecorded d p e
+GivesValue Merge d p e = IsMergedWhole d p e
 
--- what is answered, want of memory aside
+-- why it gives none
+abbrev pub GivesFault : Mode → Data → Data → ToolFault → Type 0
+GivesFault Patch d p fault = IsNotPatched d p fault
+GivesFault Record d p fault = IsNotPatched d p fault
+GivesFault Merge d p fault = IsNotMerged d p fault
+
+-- what a mode answers to the bytes of an input, want of memory aside: the line of the value that it gives for the two
+-- values that they say, or why they say no two, or why it gives none for these
 abbrev pub Answer : Mode → List ℕ → Result (List ℕ) ToolFault → Type 0
-Answer mode input (Err TooLarge) = NoPair input TooLarge
-Answer mode input (Err Syntax) = NoPair input Syntax
-Answer mode input (Err NotAPair) = NoPair input NotAPair
-Answer mode input answer = (d : Data) × (p : Data) × SaysPair input d p × Gives mode d p answer
+Answer mode input (Ok line) = (d p e : Data) × SaysPair input d p × GivesValue mode d p e × (line ≡ line_of e)
+Answer mode input (Err fault) = NoPair input fault ⊎ ((d p : Data) × SaysPair input d p × GivesFault mode d p fault)
 
 -- the line is that of a recorded value, whose text, where it keeps the limits on size and depth, is an
 -- input for which mode Patch answers the first document

@@ -11,12 +11,6 @@ use Rattle.json_patch_tool.specs.declared.fault.ToolFault.TheVariants.{TooLarge,
 abbrev pub Says : List ℕ → Data → Type 0
 Says input d = (length input ≤ MAX_INPUT) × IsUtf8 input × (read input ≡ Some d)
 
--- why the bytes say no value
-abbrev pub NoValue : List ℕ → ToolFault → Type 0
-NoValue input TooLarge = MAX_INPUT < length input
-NoValue input Syntax = (length input ≤ MAX_INPUT) × (IsUtf8 input → read input ≡ None)
-NoValue input _ = ⊥
-
 -- the values of an array of two
 abbrev pub pair_of : Data → Option (Data × Data)
 pair_of (array (item d (item e no_items))) = Some (d, e)
@@ -26,10 +20,12 @@ pair_of _ = None
 abbrev pub SaysPair : List ℕ → Data → Data → Type 0
 SaysPair input d e = (whole : Data) × Says input whole × (pair_of whole ≡ Some (d, e))
 
--- why the bytes say no two values
+-- why the bytes say no two values: they are too many, or no JSON text, or one of another value; and for no other fault
 abbrev pub NoPair : List ℕ → ToolFault → Type 0
+NoPair input TooLarge = MAX_INPUT < length input
+NoPair input Syntax = (length input ≤ MAX_INPUT) × (IsUtf8 input → read input ≡ None)
 NoPair input NotAPair = (whole : Data) × Says input whole × (pair_of whole ≡ None)
-NoPair input fault = NoValue input fault
+NoPair input _ = ⊥
 
 -- a value on a line of its own
 abbrev pub line_of : Data → List ℕ

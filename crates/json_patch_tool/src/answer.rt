@@ -1,10 +1,11 @@
 ghost use Rattle.std.specs.Prelude.{◌≡◌, ◌≢◌, Ok, Err, IfOk, IfErr, string_bytes};
-ghost use Rattle.serde_json.specs.Data.{array, item, no_items};
+ghost use Rattle.serde_json.specs.Data.{Data, array, item, no_items};
 ghost use Rattle.serde_json.specs.View.{view};
 ghost use Rattle.json_patch.specs.Document.{IsDocument};
 ghost use Rattle.json_patch.specs.Operation.{AreWhole, operations};
 ghost use Rattle.json_patch.specs.PatchValue.{ReadsPatch};
-ghost use Rattle.json_patch_tool.specs.Answer.{Answer, Gives, IsNotMerged, IsNotPatched, IsRecorded, LeadsBack};
+ghost use Rattle.json_patch_tool.specs.Answer.{Answer, IsMergedWhole, IsNotMerged, IsNotPatched, IsPatched, IsRecorded, LeadsBack};
+ghost use Rattle.json_patch_tool.specs.Input as spec;
 ghost use Rattle.json_patch_tool.specs.Recording.{IsRecordLine, LeadsTo};
 ghost use Rattle.json_patch_tool.specs.declared.fault.ToolFault.TheVariants.{Memory};
 ghost use Rattle.json_patch_tool.specs.declared.mode.Mode.TheVariants.{Record};
@@ -12,7 +13,7 @@ ghost use Rattle.json_patch_tool.specs.declared.mode.Mode.TheVariants.{Record};
 use crate::fault::ToolFault;
 use crate::input::{line_of, read_pair};
 use crate::mode::Mode;
-use json_patch::{Patch, apply_patches, is_whole, merge, patch};
+use json_patch::{Patch, apply_patches, is_whole, laws, merge, patch};
 use serde_json::Value;
 use std::alloc::{AllocError, Global};
 
@@ -35,8 +36,8 @@ pub fn respond(alloc: Global, mode: Mode, input: &[u8]) -> Result<String, ToolFa
 }
 
 fn patched(alloc: Global, mut document: Value, value: &Value) -> Result<String, ToolFault>
-    ensures line { IfOk result (λ line.
-        Gives Mode.Patch (view document) (view value.now) (Ok (string_bytes line))) }
+    ensures line { IfOk result (λ line. (e : Data)
+        × IsPatched (view document) (view value.now) e × (string_bytes line ≡ spec.line_of e)) }
     ensures fault { IfErr result (λ fault.
         fault ≢ Memory → IsNotPatched (view document) (view value.now) fault) }
 {
@@ -64,14 +65,16 @@ fn record(alloc: Global, mut document: Value, value: &Value) -> Result<Value, To
     ensures fault { IfErr result (λ fault.
         fault ≢ Memory → IsNotPatched (view document) (view value.now) fault) }
 {
+    laws::values::written_reads_back();
+    laws::values::written_is_document();
     let operations = read_patch(alloc, &document, value)?;
     let undo = apply_patches(alloc, &mut document, operations.as_slice())?;
     Ok(pair(alloc, document, undo.to_value(alloc)?)?)
 }
 
 fn merged(alloc: Global, mut document: Value, value: &Value) -> Result<String, ToolFault>
-    ensures line { IfOk result (λ line.
-        Gives Mode.Merge (view document) (view value.now) (Ok (string_bytes line))) }
+    ensures line { IfOk result (λ line. (e : Data)
+        × IsMergedWhole (view document) (view value.now) e × (string_bytes line ≡ spec.line_of e)) }
     ensures fault { IfErr result (λ fault.
         fault ≢ Memory → IsNotMerged (view document) (view value.now) fault) }
 {

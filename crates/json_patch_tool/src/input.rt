@@ -4,11 +4,12 @@ ghost use Rattle.std.specs.Prelude.{◌≡◌, ◌≢◌, option_map, IfOk, IfEr
 ghost use Rattle.serde_json.specs.View.{view};
 ghost use Rattle.json_patch.specs.Document.{IsDocument};
 ghost use Rattle.json_patch_tool.specs.Input as spec;
-ghost use Rattle.json_patch_tool.specs.Input.{Says, NoValue, SaysPair, NoPair};
+ghost use Rattle.json_patch_tool.specs.Input.{Says, SaysPair, NoPair};
 ghost use Rattle.json_patch_tool.specs.Recording.{ReadsBack};
 ghost use Rattle.json_patch_tool.specs.declared.fault.ToolFault.TheVariants.{Memory};
 
 use crate::fault::ToolFault;
+use json_patch::laws;
 use serde_json::Value;
 use std::alloc::{AllocError, Global};
 
@@ -26,7 +27,7 @@ pub(crate) fn read_pair(alloc: Global, input: &[u8]) -> Result<(Value, Value), T
 
 fn read_value(alloc: Global, input: &[u8]) -> Result<Value, ToolFault>
     ensures value { IfOk result (λ value. Says input.now (view value)) }
-    ensures fault { IfErr result (λ fault. fault ≢ Memory → NoValue input.now fault) }
+    ensures fault { IfErr result (λ fault. fault ≢ Memory → NoPair input.now fault) }
 {
     if input.len() > MAX_INPUT {
         return Err(ToolFault::TooLarge);
@@ -58,6 +59,7 @@ pub(crate) fn line_of(alloc: Global, value: &Value) -> Result<String, AllocError
     ensures line { IfOk result (λ line. string_bytes line ≡ spec.line_of (view value.now)) }
     ensures reads_back { OnOk result (ReadsBack (view value.now)) }
 {
+    laws::whole_values::document_has_no_float();
     let mut line = value.to_string(alloc)?;
     line.push('\n')?;
     Ok(line)

@@ -1,14 +1,11 @@
 //! What the program does, over any reader and any writers.
 
-ghost use Rattle.std.specs.Prelude.{◌≡◌, ◌≢◌, ◌⊎◌, ◌↔◌, ℕ, List, Some, None, Ok, Err, IfOk, IfErr, IfSome, map, string_bytes};
+ghost use Rattle.std.specs.Prelude.{◌≡◌, ◌≢◌, ◌↔◌, Some, None, Ok, Err, IfOk, IfErr, OnOk, IsOkAnd, map, string_bytes};
 ghost use Rattle.std.specs.Vec.Iter.{into_iter_items};
 ghost use Rattle.std.specs.IoError.{error_kind};
-ghost use Rattle.std.specs.Io.KnownBytes.{Keeps, Appends};
-ghost use Rattle.json_patch_tool.specs.Answer.{Answer};
 ghost use Rattle.json_patch_tool.specs.Modes.{AsksFor};
 ghost use Rattle.json_patch_tool.specs.Statuses.{status_of};
-ghost use Rattle.json_patch_tool.specs.Written.{WritesAnswer};
-ghost use Rattle.json_patch_tool.specs.declared.fault.ToolFault.{ToolFault};
+ghost use Rattle.json_patch_tool.specs.Written.{EndsWith};
 ghost use Rattle.json_patch_tool.specs.declared.fault.ToolFault.TheVariants.{Memory};
 ghost use Rattle.json_patch_tool.specs.declared.mode.Mode.{Mode};
 
@@ -26,8 +23,8 @@ const WRONG_ARGUMENTS: u8 = 64;
 /// The mode that the arguments name, or None where they are wrong. An argument that is no text is
 /// wrong; where there is another error, the arguments can't be had for want of memory.
 pub(crate) fn asked_mode(args: io::Result<Args>) -> Result<Option<Mode>, ToolFault>
-    ensures words { IfOk args (λ words. (mode : Mode)
-        → (result ≡ Ok (Some mode)) ↔ AsksFor (map string_bytes (into_iter_items words)) mode) }
+    ensures words { IfOk args (λ words. IsOkAnd result (λ asked. (mode : Mode)
+        → (asked ≡ Some mode) ↔ AsksFor (map string_bytes (into_iter_items words)) mode)) }
     ensures no_text { IfErr args (λ e. error_kind e ≡ ErrorKind.InvalidData → result ≡ Ok None) }
     ensures no_words { IfErr args
         (λ e. error_kind e ≢ ErrorKind.InvalidData → result ≡ Err Memory) }
@@ -59,29 +56,29 @@ pub(crate) fn run_as_asked<R: Read, W: Write, E: Write>(
     writer: &mut W,
     errors: &mut E,
 ) -> u8
-    ensures done { (mode : Mode) → asked ≡ Ok (Some mode) → result ≡ 0
-        → IfSome (R.remaining reader.old) (λ input.
-        WritesAnswer mode input (W.contents writer.old) (W.contents writer.new)) }
-    ensures faulty { (mode : Mode) → asked ≡ Ok (Some mode) → (result ≡ 1) ⊎ (result ≡ 2)
-        → IfSome (R.remaining reader.old) (λ input. (fault : ToolFault)
-        × Answer mode input (Err fault) × (status_of fault ≡ result)) }
-    ensures silent { result ≢ 0 → result ≢ 4
-        → Keeps (W.contents writer.old) (W.contents writer.new) }
-
+    ensures ended { (mode : Mode) → asked ≡ Ok (Some mode) → EndsWith mode
+        (R.remaining reader.old) (W.contents writer.old) (W.contents writer.new) result }
     ensures wrong_arguments { asked ≡ Ok None → result ≡ 64 }
     ensures no_arguments { IfErr asked (λ fault. result ≡ status_of fault) }
-    ensures untouched { IfOk asked (λ mode. mode ≡ None)
+    ensures untouched { ((mode : Mode) → asked ≢ Ok (Some mode))
         → (reader.new ≡ reader.old) × (writer.new ≡ writer.old) }
 {
-    let result = match asked {
-        Ok(Some(mode)) => run(alloc, mode, reader, writer),
+    match asked {
+        Ok(Some(mode)) => status_told(run(alloc, mode, reader, writer), errors),
         Ok(None) => {
             let _ = writeln!(errors, "{}", usage());
-            return WRONG_ARGUMENTS;
+            WRONG_ARGUMENTS
         }
-        Err(fault) => Err(fault),
-    };
-    match result {
+        Err(fault) => status_told(Err(fault), errors),
+    }
+}
+
+/// The status of what a run ended in, once its fault is told.
+fn status_told<E: Write>(ended: Result<(), ToolFault>, errors: &mut E) -> u8
+    ensures done { OnOk ended (result ≡ 0) }
+    ensures fault { IfErr ended (λ fault. result ≡ status_of fault) }
+{
+    match ended {
         Ok(()) => 0,
         Err(fault) => {
             let _ = writeln!(errors, "{fault}");

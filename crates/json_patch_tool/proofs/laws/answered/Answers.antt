@@ -1,0 +1,14 @@
+use Rattle.json_patch_tool.proofs.Below.{Below}
+use Rattle.json_patch_tool.proofs.Each.{answered}
+use Rattle.json_patch_tool.proofs.laws.answered.Goals as goal
+
+pub returns : goal.returns
+returns c =
+    let below : Below = record {
+      read_or_refused = c.read_or_refused.ensures;
+      read_is_whole = c.read_is_whole.ensures;
+      run_ends = c.run_ends.ensures;
+      inverse_is_computed = c.inverse_is_computed.ensures;
+      merged_is_one = c.merged_is_one.ensures;
+    } in
+    answered below c.document_or_not.ensures
