@@ -52,6 +52,10 @@ pub length-documents_along : (d : Data) (ps : List Patch) → AreStored d ps →
 length-documents_along d [] s = refl
 length-documents_along d (p ∷ ps) s = length-documents_from (ran d (operations_of p)) ps (λ e. length-documents_along e ps) s.1
 
+pub none_stored : (d : Data) (ps : List Patch) → AreStored d ps → documents_along d ps ≡ [] → ps ≡ []
+none_stored d [] s is = refl
+none_stored d (p ∷ ps) s is = let n : length (documents_along d (p ∷ ps)) ≡ 0 = ap length is in absurd (omega (arith, n, length-documents_along d (p ∷ ps) s))
+
 -- ---- the first
 
 pub first_is : (ps : List Patch) (p : Patch) → 0 < length ps → p ≡ get_or ps 0 p → ps ≡ p ∷ drop 1 ps

@@ -1,6 +1,6 @@
 //! What is done with an editor.
 
-ghost use Rattle.std.specs.Prelude.{◌≡◌, ◌↔◌, ◌<◌, ◌≤◌, IfOk, OnErr, OnOk, IsTrue, length};
+ghost use Rattle.std.specs.Prelude.{◌≡◌, ◌↔◌, ◌<◌, ◌≤◌, [], IfOk, IsOk, OnErr, OnOk, IsTrue, length};
 ghost use Rattle.serde_json.specs.View.{view};
 ghost use Rattle.json_patch.specs.Document.{IsDocument};
 ghost use Rattle.json_patch.specs.Operation.{AreWhole, operations};
@@ -80,6 +80,7 @@ impl Editor {
         ensures undone { OnOk result (versions self.new ≡ after_undo (versions self.old)) }
         ensures answer { IfOk result
             (λ took. IsTrue took ↔ (0 < length (versions self.old).before)) }
+        ensures nothing { (versions self.old).before ≡ [] → IsOk result }
         ensures unchanged { OnErr result (versions self.new ≡ versions self.old) }
     {
         shift(alloc, &mut self.document, &mut self.undos, &mut self.redos)
@@ -90,6 +91,7 @@ impl Editor {
         ensures redone { OnOk result (versions self.new ≡ after_redo (versions self.old)) }
         ensures answer { IfOk result
             (λ took. IsTrue took ↔ (0 < length (versions self.old).after)) }
+        ensures nothing { (versions self.old).after ≡ [] → IsOk result }
         ensures unchanged { OnErr result (versions self.new ≡ versions self.old) }
     {
         shift(alloc, &mut self.document, &mut self.redos, &mut self.undos)
