@@ -1,13 +1,15 @@
 """The calls whose requests for memory are refused, and what they have to answer and to leave."""
 from collections import namedtuple
 
-from patches import *
+from patches import (
+    ARTICLE, ARTICLE_MERGE, ARTICLE_MERGED, NAMES, NAMES_PATCH, VECTORS,
+    add, compact, indented, move, printed, printed_patch, remove, replace, test,
+)
 
 MEMORY = "out of memory"
 NOT_FOUND = "path is invalid"
 
-# A call of the program `json_patch_memory`: the line of the table that it belongs to, its arguments,
-# what the program writes with ample memory, and each thing that it may write where a request was
+# A call of the program json_patch_memory: its line in the table that is printed, its arguments, what the program writes with ample memory, and each thing that it may write where a request was
 # refused. `requests` is the number of requests, where it is known.
 Call = namedtuple("Call", "line arguments answer short requests", defaults=[None])
 
@@ -126,10 +128,11 @@ def pointer_calls():
     same = left(MEMORY, pointer)
     for call in ("to_buf", "parse", "clone"):
         yield Call(f"pointer {call}: {pointer}", [call, pointer], left(pointer, pointer), [same])
-    yield Call(f"pointer decoded: {pointer}", ["decoded", pointer], left("m~n", pointer), [same])
-    first = "/a~1b"
-    yield Call(f"pointer decoded: {first}", ["decoded", first], left("a/b", first), [left(MEMORY, first)])
-    yield Call(f"pointer with_last: {pointer}", ["with_last", pointer, "1"], left("/a~1b/1", pointer), [same])
+    ended_anew = left("/a~1b/1", pointer)
+    yield Call(f"pointer with_last: {pointer}", ["with_last", pointer, "1"], ended_anew, [same])
+    for pointer, token in (("/a~1b", "a/b"), (pointer, "m~n")):
+        line = f"pointer decoded: the last token of {pointer}"
+        yield Call(line, ["decoded", pointer], left(token, pointer), [left(MEMORY, pointer)])
     for pointer, longer in (("", "/a~1b~0"), ("/x", "/x/a~1b~0")):
         yield Call(
             f"pointer push_back: {pointer or 'the root'}",
@@ -201,7 +204,8 @@ def merge_calls():
 def kind_calls(line, kind, value, read, told):
     """The calls on one value: `read` is what is read of it, and `told` the text of that."""
     text = compact(value)
-    yield Call(f"from_value: {line}", ["from_value", kind, text], left(told, text), [left(MEMORY, text)])
+    argument = [left(MEMORY, text)]
+    yield Call(f"from_value: {line}", ["from_value", kind, text], left(told, text), argument)
     same = [left(MEMORY, told)]
     yield Call(f"to_value: {line}", ["to_value", kind, text], left(compact(read), told), same)
     yield Call(f"clone: {line}", ["clone", kind, text], left(told, told), same)
@@ -235,27 +239,30 @@ def tool_runs():
         ("an article", "merge", [ARTICLE, ARTICLE_MERGE], compact(ARTICLE_MERGED)),
     ):
         yield ToolRun(f"json_patch_tool {mode}: {name}", mode, compact(pair), 0, line + "\n", "")
+    absent = refusal(0, "/-", NOT_FOUND)
     for name, mode, pair, status, fault in (
-        ("an item that isn't there", "patch", [[1], [remove("/-")]], 1, refusal(0, "/-", NOT_FOUND)),
+        ("an item that isn't there", "patch", [[1], [remove("/-")]], 1, absent),
         ("no patch", "record", [1, {}], 2, "patch is not a list"),
         ("a fraction", "merge", [1.5, {}], 2, "a number is not whole"),
     ):
-        yield ToolRun(f"json_patch_tool {mode}: {name}", mode, compact(pair), status, "", fault + "\n")
+        yield ToolRun(f"json_patch_tool {mode}: {name}", mode, compact(pair), status, "", fault)
 
 
 def large_calls():
     """What a change of one member may ask for, on a thousand of them."""
     members = {f"m{number:03}": "abcdefghij" for number in range(1000)}
     document = {**members, "x": {}}
-    items = [{"k": "abcdefghij", "x": {}} for _ in range(1000)]
-    changed = [{**it, "x": {"b": 2}} if place == 500 else it for place, it in enumerate(items)]
-    for name, first, operations, last, bound, holds in (
-        ("an add below one of 1000 members", document, [add("/x/b", 2)], {**document, "x": {"b": 2}}, 64, False),
-        ("an add in one of 1000 items", items, [add("/500/x/b", 2)], changed, 64, False),
-        ("an add beside 1000 members", members, [add("/x", 2)], {**members, "x": 2}, 16, False),
-        ("a replace of one of 1000 members", document, [replace("/x", 2)], {**document, "x": 2}, 16, False),
-        ("a remove of one of 1000 members", document, [remove("/x")], members, 1, False),
-        ("a test of one of 1000 members", document, [test("/x", {})], document, 1, False),
+    items = [{"k": "abcdefghij", "x": {}}] * 1000
+    changed = items[:500] + [{**items[500], "x": {"b": 2}}] + items[501:]
+    set_to_2 = {**members, "x": 2}
+    for name, first, operation, last, fewer_than, holds in (
+        ("below a member", document, add("/x/b", 2), {**members, "x": {"b": 2}}, 64, False),
+        ("in an item", items, add("/500/x/b", 2), changed, 64, False),
+        ("beside members", members, add("/x", 2), set_to_2, 16, False),
+        ("of a member", document, replace("/x", 2), set_to_2, 16, False),
+        ("of a member", document, remove("/x"), members, 1, False),
+        ("of a member", document, test("/x", {}), document, 1, False),
     ):
-        arguments = ["patch", compact(first), compact(operations)]
-        yield Bound(f"patch: {name}", arguments, left("done", compact(last)), bound, holds)
+        line = f"patch: {operation['op']} {name}, of 1000"
+        arguments = ["patch", compact(first), compact([operation])]
+        yield Bound(line, arguments, left("done", compact(last)), fewer_than, holds)
