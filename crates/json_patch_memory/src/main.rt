@@ -1,0 +1,56 @@
+//! Makes one call on one input and tells what came of it, for a test that refuses its requests for
+//! memory one after another: `json_patch_memory CALL TEXT..` writes a line with the answer and with
+//! what the call leaves.
+#![tactic(auto)]
+
+mod counted;
+mod kinds;
+mod pointers;
+mod runs;
+
+use std::env::Args;
+use std::io::ErrorKind;
+use std::{env, io};
+
+fn main(rt: HostRuntime) -> io::Result<()> {
+    let line = seen(&rt, env::args(&rt)?)?;
+    println!(rt; "{line}")
+}
+
+/// The line for a call that the arguments name, on the texts after its name.
+fn seen(rt: &HostRuntime, mut words: Args) -> io::Result<String> {
+    let _program = words.next();
+    let (Some(call), Some(first)) = (words.next(), words.next()) else {
+        return Err(io::Error::from(ErrorKind::InvalidInput));
+    };
+    match words.next() {
+        Some(second) => on_two(rt, call.as_str(), first.as_str(), second.as_str()),
+        None => on_one(rt, call.as_str(), first.as_str()),
+    }
+}
+
+fn on_one(rt: &HostRuntime, call: &str, text: &str) -> io::Result<String> {
+    match call {
+        "to_buf" => pointers::to_buf(rt, text),
+        "decoded" => pointers::decoded(rt, text),
+        "parse" => pointers::parse(rt, text),
+        "clone" => pointers::clone(rt, text),
+        "pretty" => runs::pretty(rt, text),
+        _ => Err(io::Error::from(ErrorKind::InvalidInput)),
+    }
+}
+
+fn on_two(rt: &HostRuntime, call: &str, first: &str, second: &str) -> io::Result<String> {
+    match call {
+        "push_back" => pointers::push_back(rt, first, second),
+        "with_last" => pointers::with_last(rt, first, second),
+        "patch" => runs::patch(rt, first, second),
+        "patch_unsafe" => runs::patch_unsafe(rt, first, second),
+        "apply_patches" => runs::apply_patches(rt, first, second),
+        "merge" => runs::merge(rt, first, second),
+        "from_value" => kinds::from_value(rt, first, second),
+        "to_value" => kinds::to_value(rt, first, second),
+        "clone" => kinds::clone(rt, first, second),
+        _ => Err(io::Error::from(ErrorKind::InvalidInput)),
+    }
+}

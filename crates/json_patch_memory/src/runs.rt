@@ -1,0 +1,83 @@
+//! Calls on a document.
+
+ghost use Rattle.std.specs.Prelude.{IfOk};
+ghost use Rattle.serde_json.specs.View.{view};
+ghost use Rattle.json_patch.specs.Document.{IsDocument};
+ghost use Rattle.json_patch.specs.Operation.{AreWhole, operations};
+
+use crate::counted::{counted, line};
+use json_patch::{Patch, PatchFault, is_whole};
+use serde_json::Value;
+use std::io;
+use std::io::ErrorKind;
+
+/// `done`, in place of an answer that is empty.
+fn done<E>(answer: Result<(), E>) -> Result<&'static str, E> {
+    match answer {
+        Ok(()) => Ok("done"),
+        Err(fault) => Err(fault),
+    }
+}
+
+pub(crate) fn patch(rt: &HostRuntime, document: &str, changes: &str) -> io::Result<String> {
+    let mut document = document_of(rt, document)?;
+    let changes = patch_of(rt, changes)?;
+    let answer = counted!(rt; json_patch::patch(rt.alloc(), &mut document, changes.as_slice()));
+    line(rt, &done(answer), &document)
+}
+
+pub(crate) fn patch_unsafe(rt: &HostRuntime, document: &str, changes: &str) -> io::Result<String> {
+    let mut document = document_of(rt, document)?;
+    let changes = patch_of(rt, changes)?;
+    let answer =
+        counted!(rt; json_patch::patch_unsafe(rt.alloc(), &mut document, changes.as_slice()));
+    line(rt, &done(answer), &document)
+}
+
+pub(crate) fn apply_patches(rt: &HostRuntime, document: &str, changes: &str) -> io::Result<String> {
+    let mut document = document_of(rt, document)?;
+    let changes = patch_of(rt, changes)?;
+    let answer =
+        counted!(rt; json_patch::apply_patches(rt.alloc(), &mut document, changes.as_slice()));
+    line(rt, &answer, &document)
+}
+
+pub(crate) fn merge(rt: &HostRuntime, document: &str, changes: &str) -> io::Result<String> {
+    let mut document = document_of(rt, document)?;
+    let changes = document_of(rt, changes)?;
+    let answer = counted!(rt; json_patch::merge(rt.alloc(), &mut document, &changes));
+    let answer = done(answer.map_err(PatchFault::Memory));
+    line(rt, &answer, &document)
+}
+
+pub(crate) fn pretty(rt: &HostRuntime, document: &str) -> io::Result<String> {
+    let document = document_of(rt, document)?;
+    let answer = counted!(rt; json_patch::pretty(rt.alloc(), &document));
+    line(rt, &answer.map_err(PatchFault::Memory), &document)
+}
+
+fn document_of(rt: &HostRuntime, text: &str) -> io::Result<Value>
+    ensures { IfOk result (λ document. IsDocument (view document)) }
+{
+    let document = value_of(rt, text)?;
+    if !is_whole(&document) {
+        return Err(io::Error::from(ErrorKind::InvalidInput));
+    }
+    Ok(document)
+}
+
+fn patch_of(rt: &HostRuntime, text: &str) -> io::Result<Patch>
+    ensures { IfOk result (λ changes. AreWhole (operations changes.0.items)) }
+{
+    match Patch::from_value(rt.alloc(), &value_of(rt, text)?) {
+        Ok(changes) => Ok(changes),
+        Err(_) => Err(io::Error::from(ErrorKind::InvalidInput)),
+    }
+}
+
+pub(crate) fn value_of(rt: &HostRuntime, text: &str) -> io::Result<Value> {
+    match Value::from_str(rt.alloc(), text) {
+        Ok(value) => Ok(value),
+        Err(_) => Err(io::Error::from(ErrorKind::InvalidInput)),
+    }
+}

@@ -1,0 +1,268 @@
+"""The calls whose requests for memory are refused, and what they have to answer and to leave."""
+from collections import namedtuple
+
+from patches import (
+    ARTICLE, ARTICLE_MERGE, ARTICLE_MERGED, NAMES, NAMES_PATCH, VECTORS,
+    add, compact, indented, move, printed, printed_patch, remove, replace, test,
+)
+
+MEMORY = "out of memory"
+NOT_FOUND = "path is invalid"
+
+# A call of the program json_patch_memory: its line in the table that is printed, its arguments, what the program writes with ample memory, and each thing that it may write where a request was
+# refused. `requests` is the number of requests, where it is known.
+Call = namedtuple("Call", "line arguments answer short requests", defaults=[None])
+
+# A run of json_patch_tool: its mode, its input, and its status, line and fault with ample memory.
+ToolRun = namedtuple("ToolRun", "line mode input status output fault")
+
+# A bound on the requests that fall into a call on a large document, and whether it is kept yet:
+# those that aren't are left out.
+Bound = namedtuple("Bound", "line arguments answer fewer_than holds")
+
+
+def left(answer, state):
+    """What the program writes: an answer, and what the call leaves."""
+    return f"{answer} leaves {state}\n"
+
+
+class Run:
+    """A list of operations on a document, with the states that it passes through, and the patch
+    that leads back or the text of the refusal after the last of those states."""
+
+    def __init__(self, states, operations, inverse=None, refusal=None):
+        self.states = [compact(state) for state in states]
+        self.operations = operations
+        self.inverse = inverse
+        self.refusal = refusal
+
+    def arguments(self, call):
+        return [call, self.states[0], compact(self.operations)]
+
+
+def refusal(number, path, reason):
+    return f"operation '/{number}' failed at path '{path}': {reason}"
+
+
+RUNS = {
+    "a test and an add": Run(
+        [NAMES, NAMES, [{"happy": True, "name": "Andrew"}, {"name": "Maxim"}]],
+        NAMES_PATCH,
+        inverse=[remove("/0/happy")],
+    ),
+    "the whole document replaced": Run(
+        [None, {"title": "Hello!"}],
+        [replace("", {"title": "Hello!"})],
+        inverse=[replace("", None)],
+    ),
+    "a member moved over its parent": Run(
+        [{"a": {"b": 1, "c": 2}}, {"a": 1}],
+        [move("/a/b", "/a")],
+        inverse=[replace("/a", {"c": 2}), add("/a/b", 1)],
+    ),
+    "an item moved over a member of a later one": Run(
+        [[9, {"k": 0}, {"b": 1}], [{"k": 0}, {"b": 9}]],
+        [move("/0", "/1/b")],
+        inverse=[replace("/1/b", 1), add("/0", 9)],
+    ),
+    "a member moved before its parent": Run(
+        [[{"x": 5}, 7], [5, {}, 7]],
+        [move("/0/x", "/0")],
+        inverse=[remove("/0"), add("/0/x", 5)],
+    ),
+    "an item moved behind the next one": Run(
+        [[1, 2], [2, 1]],
+        [move("/0", "/1")],
+        inverse=[remove("/1"), add("/0", 1)],
+    ),
+    "an item moved past the end": Run(
+        [[1, 2]],
+        [move("/0", "/2")],
+        refusal=refusal(0, "/2", NOT_FOUND),
+    ),
+    "a member moved to where nothing is": Run(
+        [{"a": 1}],
+        [move("/a", "/c/x")],
+        refusal=refusal(0, "/c/x", NOT_FOUND),
+    ),
+    "an add and a failed test": Run(
+        [{"a": 1}, {"a": 1, "b": 2}],
+        [add("/b", 2), test("/a", 9)],
+        refusal=refusal(1, "/a", "value did not match"),
+    ),
+    "places that shift": Run(
+        [
+            {"l": [1, 2, 3]},
+            {"l": [2, 3]},
+            {"l": [2, 3, 4]},
+            {"l": [3, 4, 2]},
+            {"l": [3, 4, 2]},
+        ],
+        [remove("/l/0"), add("/l/-", 4), move("/l/0", "/l/2"), test("/l/2", 2)],
+        inverse=[remove("/l/2"), add("/l/0", 2), remove("/l/2"), add("/l/0", 1)],
+    ),
+    "a member moved over the document": Run(
+        [{"a": 1, "b": 2}, 1],
+        [move("/a", "")],
+        inverse=[replace("", {"b": 2}), add("/a", 1)],
+    ),
+}
+
+IN_PLACE = {
+    "an add and a move": Run(
+        [{"a": 1}, {"a": 1, "b": 2}, {"b": 2, "c": 1}],
+        [add("/b", 2), move("/a", "/c")],
+    ),
+}
+
+MERGES = {
+    "an article": (ARTICLE, ARTICLE_MERGE, ARTICLE_MERGED),
+    "a null in an object": ({}, {"a": {"b": None}}, {"a": {}}),
+    "an object for a list": ([1], {"a": 1}, {"a": 1}),
+    "null for an object": ({"a": 1}, None, None),
+}
+
+
+def pointer_calls():
+    pointer = "/a~1b/m~0n"
+    same = left(MEMORY, pointer)
+    for call in ("to_buf", "parse", "clone"):
+        yield Call(f"pointer {call}: {pointer}", [call, pointer], left(pointer, pointer), [same])
+    ended_anew = left("/a~1b/1", pointer)
+    yield Call(f"pointer with_last: {pointer}", ["with_last", pointer, "1"], ended_anew, [same])
+    for pointer, token in (("/a~1b", "a/b"), (pointer, "m~n")):
+        line = f"pointer decoded: the last token of {pointer}"
+        yield Call(line, ["decoded", pointer], left(token, pointer), [left(MEMORY, pointer)])
+    for pointer, longer in (("", "/a~1b~0"), ("/x", "/x/a~1b~0")):
+        yield Call(
+            f"pointer push_back: {pointer or 'the root'}",
+            ["push_back", pointer, "a/b~"],
+            left("done", longer),
+            [left(MEMORY, pointer)],
+        )
+
+
+def run_calls():
+    """`patch` and `apply_patches` leave the document as it was; `patch_unsafe` leaves a state."""
+    for name, run in RUNS.items():
+        first, last = run.states[0], run.states[-1]
+        accepted, recorded = left("done", last), None
+        if run.refusal:
+            accepted = recorded = left(run.refusal, first)
+        else:
+            recorded = left(printed_patch(run.inverse), last)
+        unchanged = [left(MEMORY, first)]
+        yield Call(f"patch: {name}", run.arguments("patch"), accepted, unchanged)
+        yield Call(f"apply_patches: {name}", run.arguments("apply_patches"), recorded, unchanged)
+    for name, run in {**RUNS, **IN_PLACE}.items():
+        answer = left(run.refusal or "done", run.states[-1])
+        short = [left(MEMORY, state) for state in run.states]
+        yield Call(f"patch_unsafe: {name}", run.arguments("patch_unsafe"), answer, short)
+
+
+def named_calls():
+    """Calls of which it is known how many requests fall into them."""
+    removes = compact([test("/l/0", 1), remove("/l/0")])
+    yield Call(
+        "patch_unsafe: a test and a remove",
+        ["patch_unsafe", '{"l":[1,2]}', removes],
+        left("done", '{"l":[2]}'),
+        [],
+        requests=0,
+    )
+    names = compact([test("/a/b", 1), remove("/a/b"), remove("/a")])
+    yield Call(
+        "patch_unsafe: a test and removes of members",
+        ["patch_unsafe", '{"a":{"b":1}}', names],
+        left("done", "{}"),
+        [],
+        requests=0,
+    )
+    yield Call(
+        "patch: no operation",
+        ["patch", '{"a":[1,2]}', "[]"],
+        left("done", '{"a":[1,2]}'),
+        [],
+        requests=0,
+    )
+    yield Call(
+        "patch_unsafe: a refusal, whose path is copied",
+        ["patch_unsafe", '{"a":1}', compact([remove("/c/x")])],
+        left(refusal(0, "/c/x", NOT_FOUND), '{"a":1}'),
+        [left(MEMORY, '{"a":1}')],
+        requests=1,
+    )
+
+
+def merge_calls():
+    for name, (document, changes, merged) in MERGES.items():
+        texts = [compact(document), compact(changes)]
+        short = [left(MEMORY, texts[0])]
+        yield Call(f"merge: {name}", ["merge", *texts], left("done", compact(merged)), short)
+
+
+def kind_calls(line, kind, value, read, told):
+    """The calls on one value: `read` is what is read of it, and `told` the text of that."""
+    text = compact(value)
+    argument = [left(MEMORY, text)]
+    yield Call(f"from_value: {line}", ["from_value", kind, text], left(told, text), argument)
+    same = [left(MEMORY, told)]
+    yield Call(f"to_value: {line}", ["to_value", kind, text], left(compact(read), told), same)
+    yield Call(f"clone: {line}", ["clone", kind, text], left(told, told), same)
+
+
+def vector_calls():
+    """Each vector's patch, each of its operations, and each operation's struct."""
+    for document, operations in VECTORS:
+        read = [{n: v for n, v in it.items() if n != "xyz"} for it in operations]
+        yield from kind_calls("a patch", "patch", operations, read, printed_patch(read))
+        for it in read:
+            fields = {n: v for n, v in it.items() if n != "op"}
+            yield from kind_calls("an operation", "operation", it, it, printed(it))
+            yield from kind_calls(f"a struct of {it['op']}", it["op"], it, fields, printed(fields))
+        text = compact(document)
+        answer = left(indented(document), text)
+        yield Call("pretty", ["pretty", text], answer, [left(MEMORY, text)])
+
+
+def tool_runs():
+    """The program, which writes nothing to standard output where memory is short."""
+    over = {"a": {"b": 1, "c": 2}}
+    patched = '[{"happy":true,"name":"Andrew"},{"name":"Maxim"}]'
+    recorded = (
+        '[{"a":1},[{"op":"replace","path":"/a","value":{"c":2}},'
+        '{"op":"add","path":"/a/b","value":1}]]'
+    )
+    for name, mode, pair, line in (
+        ("a test and an add", "patch", [NAMES, NAMES_PATCH], patched),
+        ("a member moved over its parent", "record", [over, [move("/a/b", "/a")]], recorded),
+        ("an article", "merge", [ARTICLE, ARTICLE_MERGE], compact(ARTICLE_MERGED)),
+    ):
+        yield ToolRun(f"json_patch_tool {mode}: {name}", mode, compact(pair), 0, line + "\n", "")
+    absent = refusal(0, "/-", NOT_FOUND)
+    for name, mode, pair, status, fault in (
+        ("an item that isn't there", "patch", [[1], [remove("/-")]], 1, absent),
+        ("no patch", "record", [1, {}], 2, "patch is not a list"),
+        ("a fraction", "merge", [1.5, {}], 2, "a number is not whole"),
+    ):
+        yield ToolRun(f"json_patch_tool {mode}: {name}", mode, compact(pair), status, "", fault)
+
+
+def large_calls():
+    """What a change of one member may ask for, on a thousand of them."""
+    members = {f"m{number:03}": "abcdefghij" for number in range(1000)}
+    document = {**members, "x": {}}
+    items = [{"k": "abcdefghij", "x": {}}] * 1000
+    changed = items[:500] + [{**items[500], "x": {"b": 2}}] + items[501:]
+    set_to_2 = {**members, "x": 2}
+    for name, first, operation, last, fewer_than, holds in (
+        ("below a member", document, add("/x/b", 2), {**members, "x": {"b": 2}}, 64, False),
+        ("in an item", items, add("/500/x/b", 2), changed, 64, False),
+        ("beside members", members, add("/x", 2), set_to_2, 16, False),
+        ("of a member", document, replace("/x", 2), set_to_2, 16, False),
+        ("of a member", document, remove("/x"), members, 1, False),
+        ("of a member", document, test("/x", {}), document, 1, False),
+    ):
+        line = f"patch: {operation['op']} {name}, of 1000"
+        arguments = ["patch", compact(first), compact([operation])]
+        yield Bound(line, arguments, left("done", compact(last)), fewer_than, holds)
