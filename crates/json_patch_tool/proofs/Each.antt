@@ -40,8 +40,8 @@ module _ (below : Below) (document_or_not : (d : Data) → IsDocument d ⊎ (IsD
         inr (Refused (record { operation = w.0; path = path; kind = w.1 }), (document, (ops, reads, (w.2.refuses, is_path))))
   ]
 
-  patched : (d p : Data) → Applies d p ⊎ ((f : ToolFault) × IsNotPatched d p f)
-  patched d p = elim (document_or_not d) [
+  patch_or_not : (d p : Data) → Applies d p ⊎ ((f : ToolFault) × IsNotPatched d p f)
+  patch_or_not d p = elim (document_or_not d) [
     | inr n ↦ inr (NotWhole, n)
     | inl document ↦ elim (below.read_or_refused p) [
       | inl w ↦ run_of d p w.0 document w.1.reads
@@ -49,16 +49,16 @@ module _ (below : Below) (document_or_not : (d : Data) → IsDocument d ⊎ (IsD
     ]
   ]
 
-  recorded : (d p : Data) → Applies d p → (e : Data) × GivesValue Record d p e
-  recorded d p h =
+  recorded_value : (d p : Data) → Applies d p → (e : Data) × GivesValue Record d p e
+  recorded_value d p h =
       let exactly = below.inverse_is_computed d h.1.0 h.0 (below.read_is_whole p h.1.0 h.1.2) h.1.1 h.1.3 in
       let undo = inverse d h.1.0 in
       (_, (h.0, (h.1.0, undo, h.1.1, h.1.2, h.1.3, (exactly undo).1 refl, refl)))
 
-  given : (mode : Mode) (d p : Data) → ((e : Data) × GivesValue mode d p e) ⊎ ((f : ToolFault) × GivesFault mode d p f)
-  given Patch d p = ⊎_elim (λ h. inl (h.1.1, (h.0, (h.1.0, h.1.2, h.1.3)))) inr (patched d p)
-  given Record d p = ⊎_elim (λ h. inl (recorded d p h)) inr (patched d p)
-  given Merge d p = elim (document_or_not d) [
+  value_or_fault : (mode : Mode) (d p : Data) → ((e : Data) × GivesValue mode d p e) ⊎ ((f : ToolFault) × GivesFault mode d p f)
+  value_or_fault Patch d p = ⊎_elim (λ h. inl (h.1.1, (h.0, (h.1.0, h.1.2, h.1.3)))) inr (patch_or_not d p)
+  value_or_fault Record d p = ⊎_elim (λ h. inl (recorded_value d p h)) inr (patch_or_not d p)
+  value_or_fault Merge d p = elim (document_or_not d) [
     | inr n ↦ inr (NotWhole, inl n)
     | inl document ↦ elim (document_or_not p) [
       | inr n ↦ inr (NotWhole, inr n)
@@ -68,28 +68,28 @@ module _ (below : Below) (document_or_not : (d : Data) → IsDocument d ⊎ (IsD
 
 -- ---- what the bytes say
 
-text_said : (input : List ℕ) → length input ≤ MAX_INPUT → (r : Option Data) → read input ≡ r → (b : Bool) → is_utf8 input ≡ b
+value_of_text : (input : List ℕ) → length input ≤ MAX_INPUT → (r : Option Data) → read input ≡ r → (b : Bool) → is_utf8 input ≡ b
     → ((d : Data) × Says input d) ⊎ ((f : ToolFault) × NoPair input f)
-text_said input fits None reads b utf8 = inr (Syntax, (fits, λ _. reads))
-text_said input fits (Some d) reads true utf8 = inl (d, (fits, IsUtf8-from_is_utf8 input utf8, reads))
-text_said input fits (Some d) reads false utf8 = inr (Syntax, (fits, λ h. let is = is_utf8-from_IsUtf8 input h in cc))
+value_of_text input fits None reads b utf8 = inr (Syntax, (fits, λ _. reads))
+value_of_text input fits (Some d) reads true utf8 = inl (d, (fits, IsUtf8-from_is_utf8 input utf8, reads))
+value_of_text input fits (Some d) reads false utf8 = inr (Syntax, (fits, λ h. let is = is_utf8-from_IsUtf8 input h in cc))
 
-said : (input : List ℕ) → ((d : Data) × Says input d) ⊎ ((f : ToolFault) × NoPair input f)
-said input = ⊎_elim (λ more. inr (TooLarge, more)) (λ fits. text_said input fits (read input) refl (is_utf8 input) refl) (cases_lt MAX_INPUT (length input))
+value_or_not : (input : List ℕ) → ((d : Data) × Says input d) ⊎ ((f : ToolFault) × NoPair input f)
+value_or_not input = ⊎_elim (λ more. inr (TooLarge, more)) (λ fits. value_of_text input fits (read input) refl (is_utf8 input) refl) (cases_lt MAX_INPUT (length input))
 
-pair_in : (input : List ℕ) (whole : Data) → Says input whole → (o : Option (Data × Data)) → pair_of whole ≡ o
+pair_of_whole : (input : List ℕ) (whole : Data) → Says input whole → (o : Option (Data × Data)) → pair_of whole ≡ o
     → ((d p : Data) × SaysPair input d p) ⊎ ((f : ToolFault) × NoPair input f)
-pair_in input whole says None is = inr (NotAPair, (whole, says, is))
-pair_in input whole says (Some x) is = inl (x.0, x.1, (whole, says, is))
+pair_of_whole input whole says None is = inr (NotAPair, (whole, says, is))
+pair_of_whole input whole says (Some x) is = inl (x.0, x.1, (whole, says, is))
 
-pair_said : (input : List ℕ) → ((d p : Data) × SaysPair input d p) ⊎ ((f : ToolFault) × NoPair input f)
-pair_said input = ⊎_elim (λ w. pair_in input w.0 w.1 (pair_of w.0) refl) inr (said input)
+pair_or_not : (input : List ℕ) → ((d p : Data) × SaysPair input d p) ⊎ ((f : ToolFault) × NoPair input f)
+pair_or_not input = ⊎_elim (λ w. pair_of_whole input w.0 w.1 (pair_of w.0) refl) inr (value_or_not input)
 
-pub answered : Below → ((d : Data) → IsDocument d ⊎ (IsDocument d → ⊥)) → (mode : Mode) (input : List ℕ)
+pub each_has_an_answer : Below → ((d : Data) → IsDocument d ⊎ (IsDocument d → ⊥)) → (mode : Mode) (input : List ℕ)
     → (answer : Result (List ℕ) ToolFault) × Answer mode input answer
-answered below document_or_not mode input = elim (pair_said input) [
+each_has_an_answer below document_or_not mode input = elim (pair_or_not input) [
   | inr no_pair ↦ (Err no_pair.0, inl no_pair.1)
-  | inl w ↦ elim (given below document_or_not mode w.0 w.1) [
+  | inl w ↦ elim (value_or_fault below document_or_not mode w.0 w.1) [
     | inl value ↦ (Ok (line_of value.0), (w.0, w.1, value.0, w.2, value.1, refl))
     | inr fault ↦ (Err fault.0, inr (w.0, w.1, w.2, fault.1))
   ]

@@ -1,3 +1,5 @@
+//! The faults of the tool, what becomes one of them, and the status of each.
+
 ghost use Rattle.std.specs.Prelude.{◌≡◌};
 ghost use Rattle.json_patch_tool.specs.Converted.{of_reading, of_run};
 ghost use Rattle.json_patch_tool.specs.Statuses.{status_of};

@@ -22,7 +22,7 @@ pub fn answered_once()
 }
 
 /// In each mode each input has an answer.
-pub fn answered()
+pub fn each_input_has_an_answer()
     ensures { (mode : Mode) (input : List ℕ)
         → (answer : Result (List ℕ) ToolFault) × Answer mode input answer }
 {
@@ -35,7 +35,7 @@ pub fn answered()
 }
 
 /// The answer is no fault of memory, of the reader or of the writer.
-pub fn answered_by_the_input()
+pub fn answer_is_no_failure()
     ensures { (mode : Mode) (input : List ℕ) (fault : ToolFault) → Answer mode input (Err fault)
         → (fault ≢ Memory) × (fault ≢ ReadFailed) × (fault ≢ WriteFailed) }
 {}

@@ -1,3 +1,5 @@
+//! The modes, the words that name them, and how the program is called.
+
 ghost use Rattle.std.specs.Prelude.{◌≡◌, ◌↔◌, Some, codes};
 ghost use Rattle.json_patch_tool.specs.Modes.{word_of};
 ghost use Rattle.json_patch_tool.specs.declared.mode.Mode.{Mode};

@@ -1,6 +1,6 @@
 use Rattle.json_patch_tool.proofs.Below.{Below}
-use Rattle.json_patch_tool.proofs.Each.{answered}
-use Rattle.json_patch_tool.proofs.laws.answered.Goals as goal
+use Rattle.json_patch_tool.proofs.Each.{each_has_an_answer}
+use Rattle.json_patch_tool.proofs.laws.each_input_has_an_answer.Goals as goal
 
 pub returns : goal.returns
 returns c =
@@ -11,4 +11,4 @@ returns c =
       inverse_is_computed = c.inverse_is_computed.ensures;
       merged_is_one = c.merged_is_one.ensures;
     } in
-    answered below c.document_or_not.ensures
+    each_has_an_answer below c.document_or_not.ensures
