@@ -1,3 +1,6 @@
+//! Tests of what no clause says: texts, that calls succeed, and runs over readers and writers that
+//! fail in mid-stream.
+
 ghost use Rattle.std.specs.Prelude.{◌<◌, Some, []};
 
 use crate::answer::respond;
@@ -252,42 +255,44 @@ fn tells_faults_and_statuses(rt: HostRuntime) -> Result<(), Fail> {
     Ok(())
 }
 
+/// An input of a mode, and its line.
+const ANSWERS: [(Mode, &[u8], &[u8]); 11] = [
+    (Mode::Patch, HAPPY, HAPPY_LINE),
+    (
+        Mode::Patch,
+        b" [ {\"b\": [1, true], \"a\": \"x\"} , [ ] ]\n",
+        b"{\"a\":\"x\",\"b\":[1,true]}\n",
+    ),
+    (
+        Mode::Patch,
+        b"[18446744073709551615,[]]",
+        b"18446744073709551615\n",
+    ),
+    (
+        Mode::Patch,
+        b"[-9223372036854775808,[]]",
+        b"-9223372036854775808\n",
+    ),
+    (Mode::Record, b"[7,[]]", b"[7,[]]\n"),
+    (Mode::Record, OVER, OVER_BACK),
+    (Mode::Record, DOWN, DOWN_BACK),
+    (Mode::Merge, TITLED, TITLED_LINE),
+    (
+        Mode::Merge,
+        b"[{\"a\":{\"b\":1}},{\"a\":{\"b\":null}}]",
+        b"{\"a\":{}}\n",
+    ),
+    (
+        Mode::Merge,
+        b"[{\"a\":1},{\"a\":{\"b\":{\"c\":null,\"d\":2}}}]",
+        b"{\"a\":{\"b\":{\"d\":2}}}\n",
+    ),
+    (Mode::Merge, b"[{\"a\":1},{\"b\":null}]", b"{\"a\":1}\n"),
+];
+
 #[test]
 fn answers(rt: HostRuntime) -> Result<(), Fail> {
-    let cases: [(Mode, &[u8], &[u8]); 11] = [
-        (Mode::Patch, HAPPY, HAPPY_LINE),
-        (
-            Mode::Patch,
-            b" [ {\"b\": [1, true], \"a\": \"x\"} , [ ] ]\n",
-            b"{\"a\":\"x\",\"b\":[1,true]}\n",
-        ),
-        (
-            Mode::Patch,
-            b"[18446744073709551615,[]]",
-            b"18446744073709551615\n",
-        ),
-        (
-            Mode::Patch,
-            b"[-9223372036854775808,[]]",
-            b"-9223372036854775808\n",
-        ),
-        (Mode::Record, b"[7,[]]", b"[7,[]]\n"),
-        (Mode::Record, OVER, OVER_BACK),
-        (Mode::Record, DOWN, DOWN_BACK),
-        (Mode::Merge, TITLED, TITLED_LINE),
-        (
-            Mode::Merge,
-            b"[{\"a\":{\"b\":1}},{\"a\":{\"b\":null}}]",
-            b"{\"a\":{}}\n",
-        ),
-        (
-            Mode::Merge,
-            b"[{\"a\":1},{\"a\":{\"b\":{\"c\":null,\"d\":2}}}]",
-            b"{\"a\":{\"b\":{\"d\":2}}}\n",
-        ),
-        (Mode::Merge, b"[{\"a\":1},{\"b\":null}]", b"{\"a\":1}\n"),
-    ];
-    for (mode, text, line) in cases {
+    for (mode, text, line) in ANSWERS {
         for (piece, interrupts) in [(1, false), (1, true), (7, true), (100, false)] {
             let mut reader = Drip::new(text, piece, interrupts);
             let mut writer = writer_with(rt.alloc(), Trouble::None);
@@ -299,6 +304,49 @@ fn answers(rt: HostRuntime) -> Result<(), Fail> {
         }
     }
     Ok(())
+}
+
+/// No clause refuses a `run` that answers `ReadFailed` though its reader didn't fail, or a call
+/// that answers `Memory` though memory is ample.
+#[test]
+fn read_always_fails(rt: HostRuntime) {
+    for (mode, text, line) in ANSWERS {
+        let mut reader = text;
+        let mut writer = writer_with(rt.alloc(), Trouble::None);
+        assert!(rt; run(rt.alloc(), mode, &mut reader, &mut writer).is_ok());
+        assert!(rt; writer.taken.as_slice() == line, "at {text:?}");
+    }
+}
+
+#[test]
+fn always_out_of_memory(rt: HostRuntime) -> Result<(), Fail> {
+    for (mode, text, line) in ANSWERS {
+        assert!(rt;
+            respond(rt.alloc(), mode, text)?.as_bytes() == line,
+            "at {text:?}"
+        );
+        let (status, written, told) = ended(
+            &rt,
+            Ok(Some(mode)),
+            text,
+            Trouble::None,
+            Trouble::None,
+        );
+        assert_eq!(rt; status, 0, "at {text:?}");
+        assert!(rt; written.as_slice() == line, "at {text:?}");
+        assert!(rt; told.is_empty(), "at {text:?}");
+    }
+    Ok(())
+}
+
+/// A read that gives less than was asked for doesn't show the end.
+#[test]
+fn reading_stops_early(rt: HostRuntime) -> Result<(), Fail> {
+    let mut reader = Drip::new(HAPPY, 1, false);
+    let mut writer = writer_with(rt.alloc(), Trouble::None);
+    assert!(rt; run(rt.alloc(), Mode::Patch, &mut reader, &mut writer).is_ok());
+    assert!(rt; writer.taken.as_slice() == HAPPY_LINE);
+    refuse(&rt, Mode::Patch, b"[1,[]] x", 2, "input is not JSON")
 }
 
 #[test]
@@ -567,83 +615,114 @@ fn says_how_far_it_wrote(rt: HostRuntime) {
 }
 
 /// The status, with what was written and what was told.
-fn ended(
+fn ended<R: Read + Drop>(
     rt: &HostRuntime,
     asked: Result<Option<Mode>, ToolFault>,
-    input: &[u8],
+    mut reader: R,
     writing: Trouble,
     telling: Trouble,
 ) -> (u8, Vec<u8>, Vec<u8>) {
-    let mut reader = input;
     let mut writer = writer_with(rt.alloc(), writing);
     let mut errors = writer_with(rt.alloc(), telling);
     let number = run_as_asked(rt.alloc(), asked, &mut reader, &mut writer, &mut errors);
     (number, writer.taken, errors.taken)
 }
 
+const MODES: [Mode; 3] = [Mode::Patch, Mode::Record, Mode::Merge];
+
+/// An input of a mode, the status, what is written, and what is told.
+const ENDINGS: [(Mode, &[u8], u8, &[u8], &[u8]); 9] = [
+    (Mode::Patch, HAPPY, 0, HAPPY_LINE, b""),
+    (Mode::Record, OVER, 0, OVER_BACK, b""),
+    (Mode::Merge, TITLED, 0, TITLED_LINE, b""),
+    (Mode::Patch, NO_SUCH_ITEM, 1, b"", NO_SUCH_ITEM_TOLD),
+    (Mode::Record, NO_SUCH_ITEM, 1, b"", NO_SUCH_ITEM_TOLD),
+    (
+        Mode::Patch,
+        b"[1]",
+        2,
+        b"",
+        b"input is not a list of two values\n",
+    ),
+    (Mode::Record, b"[1,{}]", 2, b"", b"patch is not a list\n"),
+    (Mode::Merge, b"[1.5,1]", 2, b"", b"a number is not whole\n"),
+    (Mode::Merge, b"[1,", 2, b"", b"input is not JSON\n"),
+];
+
+const NO_SUCH_ITEM: &[u8] = b"[[1],[{\"op\":\"remove\",\"path\":\"/-\"}]]";
+
+const NO_SUCH_ITEM_TOLD: &[u8] = b"operation '/0' failed at path '/-': path is invalid\n";
+
 #[test]
-fn ends_with_a_status(rt: HostRuntime) {
-    let cases: [(
-        Result<Option<Mode>, ToolFault>,
-        &[u8],
-        Trouble,
-        u8,
-        &[u8],
-        &[u8],
-    ); 6] = [
-        (
-            Ok(Some(Mode::Patch)),
-            HAPPY,
+fn ends_with_the_status_of_the_answer(rt: HostRuntime) {
+    for (mode, input, number, line, text) in ENDINGS {
+        let (status, written, told) = ended(
+            &rt,
+            Ok(Some(mode)),
+            input,
             Trouble::None,
-            0,
-            HAPPY_LINE,
-            b"",
-        ),
-        (
-            Ok(Some(Mode::Patch)),
-            b"[1]",
             Trouble::None,
-            2,
-            b"",
-            b"input is not a list of two values\n",
-        ),
-        (
-            Ok(Some(Mode::Patch)),
-            HAPPY,
-            Trouble::Flush,
-            4,
-            HAPPY_LINE,
-            b"write failed\n",
-        ),
-        (
-            Ok(Some(Mode::Patch)),
-            HAPPY,
-            Trouble::Full,
-            4,
-            b"",
-            b"write failed\n",
-        ),
-        (
-            Ok(None),
-            HAPPY,
+        );
+        assert_eq!(rt; status, number, "at {input:?}");
+        assert!(rt; written.as_slice() == line, "at {input:?}");
+        assert!(rt; told.as_slice() == text, "at {input:?}");
+    }
+}
+
+#[test]
+fn ends_with_4_where_reading_fails(rt: HostRuntime) {
+    for mode in MODES {
+        let reader = Broken(HAPPY);
+        let (status, written, told) = ended(
+            &rt,
+            Ok(Some(mode)),
+            reader,
             Trouble::None,
-            64,
-            b"",
-            b"usage: json_patch_tool patch|record|merge\n",
-        ),
-        (
-            Err(ToolFault::Memory),
-            HAPPY,
             Trouble::None,
-            3,
-            b"",
-            b"out of memory\n",
-        ),
+        );
+        assert_eq!(rt; status, 4);
+        assert!(rt; written.is_empty());
+        assert!(rt; told.as_slice() == b"read failed\n".as_slice());
+    }
+}
+
+#[test]
+fn ends_with_4_where_writing_fails(rt: HostRuntime) {
+    let cases: [(Mode, &[u8], &[u8]); 3] = [
+        (Mode::Patch, HAPPY, HAPPY_LINE),
+        (Mode::Record, OVER, OVER_BACK),
+        (Mode::Merge, TITLED, TITLED_LINE),
     ];
-    for (asked, input, writing, number, line, text) in cases {
-        let (status, written, told) = ended(&rt, asked, input, writing, Trouble::None);
+    for (mode, input, line) in cases {
+        let broken = Trouble::At(1, ErrorKind::BrokenPipe);
+        for (writing, sent) in [
+            (broken, 0),
+            (Trouble::Full, 0),
+            (Trouble::Flush, line.len()),
+        ] {
+            let (status, written, told) = ended(&rt, Ok(Some(mode)), input, writing, Trouble::None);
+            assert_eq!(rt; status, 4, "after {sent} bytes");
+            assert!(rt; sent <= line.len());
+            assert!(rt; written.as_slice() == &line[..sent], "after {sent} bytes");
+            assert!(rt;
+                told.as_slice() == b"write failed\n".as_slice(),
+                "after {sent} bytes"
+            );
+        }
+    }
+}
+
+#[test]
+fn ends_where_no_mode_is_asked_for(rt: HostRuntime) {
+    let usage: &[u8] = b"usage: json_patch_tool patch|record|merge\n";
+    let cases = [
+        (Ok(None), 64, usage),
+        (Err(ToolFault::Memory), 3, b"out of memory\n"),
+    ];
+    for (asked, number, text) in cases {
+        let (status, written, told) = ended(&rt, asked, HAPPY, Trouble::None, Trouble::None);
         assert_eq!(rt; status, number);
-        assert!(rt; written.as_slice() == line, "at status {number}");
+        assert!(rt; written.is_empty(), "at status {number}");
         assert!(rt; told.as_slice() == text, "at status {number}");
     }
 }
@@ -655,7 +734,7 @@ fn ends_so_where_nothing_can_be_told(rt: HostRuntime) {
         let (usage, _, _) = ended(&rt, Ok(None), HAPPY, Trouble::None, telling);
         assert_eq!(rt; usage, 64);
         let patch = Ok(Some(Mode::Patch));
-        let (fault, _, _) = ended(&rt, patch, b"", Trouble::None, telling);
+        let (fault, _, _) = ended(&rt, patch, b"".as_slice(), Trouble::None, telling);
         assert_eq!(rt; fault, 2);
     }
 }
