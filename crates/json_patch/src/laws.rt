@@ -9,4 +9,3 @@ pub mod locality;
 pub mod merging;
 pub mod runs;
 pub mod values;
-pub mod whole_values;

@@ -7,7 +7,7 @@ ghost use Rattle.json_patch_tool.specs.declared.fault.ToolFault.{ToolFault};
 ghost use Rattle.json_patch_tool.specs.declared.fault.ToolFault.TheVariants.{Memory, ReadFailed, WriteFailed};
 ghost use Rattle.json_patch_tool.specs.declared.mode.Mode.{Mode};
 
-use json_patch::laws::{inverse, merging, runs, values, whole_values};
+use json_patch::laws::{documents, inverse, merging, runs, values};
 
 /// In each mode an input has one answer at most: one line, or one fault.
 pub fn answered_once()
@@ -15,7 +15,7 @@ pub fn answered_once()
         → Answer mode input a → Answer mode input b → a ≡ b }
 {
     values::read_or_refused();
-    whole_values::read_is_whole();
+    values::read_is_whole();
     runs::run_ends();
     inverse::inverse_is_computed();
     merging::merged_is_one();
@@ -26,9 +26,9 @@ pub fn each_input_has_an_answer()
     ensures { (mode : Mode) (input : List ℕ)
         → (answer : Result (List ℕ) ToolFault) × Answer mode input answer }
 {
-    whole_values::document_or_not();
+    documents::document_or_not();
     values::read_or_refused();
-    whole_values::read_is_whole();
+    values::read_is_whole();
     runs::run_ends();
     inverse::inverse_is_computed();
     merging::merged_is_one();

@@ -4,7 +4,7 @@ ghost use Rattle.std.specs.Prelude.{◌⊎◌, List, Option, ℕ};
 ghost use Rattle.serde_json.specs.Data.{Data};
 ghost use Rattle.json_patch.specs.Document.{IsDocument};
 ghost use Rattle.json_patch.specs.Operation.{AreWhole, IsWholeOp, Operation};
-ghost use Rattle.json_patch.specs.PatchValue.{written, written_fields, written_patch};
+ghost use Rattle.json_patch.specs.PatchValue.{ReadsPatch, written, written_fields, written_patch};
 ghost use Rattle.json_patch.specs.ReadLaws.{IsRead, IsReadAlone, IsReadLike, IsUnread, IsUnreadAlone, IsUnreadLike};
 ghost use Rattle.json_patch.specs.declared.error.ReadKind.{ReadKind};
 
@@ -12,6 +12,11 @@ ghost use Rattle.json_patch.specs.declared.error.ReadKind.{ReadKind};
 pub fn read_or_refused()
     ensures { (v : Data) → ((ops : List Operation) × IsRead v ops)
         ⊎ ((k : Option ℕ) × (kind : ReadKind) × IsUnread v k kind) }
+{}
+
+/// A patch that a value reads as is whole.
+pub fn read_is_whole()
+    ensures { (v : Data) (ops : List Operation) → ReadsPatch v ops → AreWhole ops }
 {}
 
 /// Each value reads as one operation, or is refused for one kind, and never both.
