@@ -109,9 +109,6 @@ short_state U (Memory error) d m new os k less h same = (k, omega arith, subst (
 abbrev pub IsRecorded : Data → List PatchOperation → ℕ → List PatchOperation → Type 0
 IsRecorded d os k undo = reverse (operations undo) ≡ inverse d (take k (operations os))
 
-pub recorded_none : (d : Data) (os undo : List PatchOperation) → undo ≡ [] → IsRecorded d os 0 undo
-recorded_none d os undo is = ap (λ u. reverse (operations u)) is
-
 -- a list up to the item at k, and that item
 pub take_at : (os : List PatchOperation) (k : ℕ) (o : PatchOperation) → k < length os → IsAt os k o → take (suc k) (operations os) ≡ take k (operations os) ++ operation_of o ∷ []
 take_at [] k o less is = absurd (omega arith)

@@ -33,7 +33,7 @@ item_within t Next len n h is less = absurd (omega arith)
 
 -- ---- slots
 
-not_next : (b : Bool) (t : List ℕ) → bytes_eq t next_token ≡ b → t ≢ next_token → b ≡ false
+pub not_next : (b : Bool) (t : List ℕ) → bytes_eq t next_token ≡ b → t ≢ next_token → b ≡ false
 not_next true t is other = absurd (other ((bytes_eq-Decides t next_token).0 is))
 not_next false t is other = refl
 

@@ -32,7 +32,8 @@ pub mod Blocks
 pub mod Parents
 pub mod Plain
 pub mod Applied
-pub mod Logged
+pub mod Logs
+pub mod Undos
 pub mod PatchFaults
 pub mod PatchValues
 pub mod ReadStages

@@ -129,10 +129,6 @@ pub place_text : (r : Result (String Global) AllocError) (i : ℕ) → i < 2 ^ 6
 place_text (Ok s) i fits h = h ∙ sym (token_is_decimal i fits)
 place_text (Err e) i fits h = h
 
-pub numbered : (P Q : Pointer) (n : List ℕ) (i : ℕ) (d : Data) → undo_from P (LaterItems i) ≡ undo_add d P → n ≡ token_of i → ReplacesLast P n Q → remove Q ≡ undo_from P (LaterItems i)
-numbered [] Q n i d undoes is h = cc
-numbered (t ∷ P) Q n i d undoes is h = ap remove (h (front_of t P) (last_of t P) (split_whole t P) ∙ ap (λ x. front_of t P ++ x ∷ []) is)
-
 -- ---- without memory
 
 pub unescaped_parts : (P F : Pointer) (t : List ℕ) → P ≡ F ++ t ∷ [] → AreUnescaped P → AreUnescaped F × IsUnescaped t

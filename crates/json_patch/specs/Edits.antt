@@ -49,11 +49,11 @@ undo_from P Nothing = remove P
 undo_from P (LaterItems i) = remove (with_last P (token_of i))
 undo_from P (Former w) = replace P (view w)
 
--- where that works
-abbrev pub undo_place : Pointer → Displaced → Pointer
-undo_place P Nothing = P
-undo_place P (LaterItems i) = with_last P (token_of i)
-undo_place P (Former w) = P
+-- the same, at the place where it works
+abbrev pub undo_at_place : Pointer → Displaced → Operation
+undo_at_place P Nothing = remove P
+undo_at_place P (LaterItems i) = remove P
+undo_at_place P (Former w) = replace P (view w)
 
 -- the document before a change at P that found this
 abbrev pub undone : Displaced → Pointer → Data → Option Data

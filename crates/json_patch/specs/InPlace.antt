@@ -16,33 +16,26 @@ abbrev pub AreUnescaped : Pointer → Type 0
 AreUnescaped [] = Unit {0}
 AreUnescaped (t ∷ P) = IsUnescaped t × AreUnescaped P
 
--- a `test` or a `remove` at a pointer whose text holds no ~
+-- a `test`, or a `remove` at a pointer whose text holds no ~
 abbrev pub IsInPlace : Operation → Type 0
 IsInPlace (add P v) = ⊥
 IsInPlace (remove P) = AreUnescaped P
 IsInPlace (replace P v) = ⊥
 IsInPlace (move F P) = ⊥
 IsInPlace (copy F P) = ⊥
-IsInPlace (test P v) = AreUnescaped P
+IsInPlace (test P v) = Unit {0}
 
 abbrev pub AreInPlace : List Operation → Type 0
 AreInPlace [] = Unit {0}
 AreInPlace (op ∷ ops) = IsInPlace op × AreInPlace ops
 
--- a `test` at such a pointer
-abbrev pub IsLookup : Operation → Type 0
-IsLookup (add P v) = ⊥
-IsLookup (remove P) = ⊥
-IsLookup (replace P v) = ⊥
-IsLookup (move F P) = ⊥
-IsLookup (copy F P) = ⊥
-IsLookup (test P v) = AreUnescaped P
-
--- `test`s and then at most one `remove`, at such pointers
-abbrev pub AreChecked : List Operation → Type 0
-AreChecked [] = Unit {0}
-AreChecked (op ∷ []) = IsInPlace op
-AreChecked (op ∷ next ∷ ops) = IsLookup op × AreChecked (next ∷ ops)
+-- `test`s, and then at most one `remove` at such a pointer
+abbrev pub AreTestsThenRemove : List Operation → Type 0
+AreTestsThenRemove [] = Unit {0}
+AreTestsThenRemove (test P v ∷ ops) = AreTestsThenRemove ops
+AreTestsThenRemove (remove P ∷ []) = AreUnescaped P
+AreTestsThenRemove (remove P ∷ op ∷ ops) = ⊥
+AreTestsThenRemove (op ∷ ops) = ⊥
 
 -- ---- for private clauses
 

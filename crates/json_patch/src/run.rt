@@ -1,26 +1,26 @@
 //! A list of operations on a document (RFC 6902, section 5).
 
-ghost use Rattle.std.specs.Prelude.{◌≡◌, ◌≤◌, ◌+◌, ◌*◌, [], ℕ, IfOk, IsOk, OnOk, OnErr, length, take};
+ghost use Rattle.std.specs.Prelude.{◌≡◌, ◌≤◌, ◌+◌, ◌*◌, ◌++◌, [], ℕ, IfOk, IsOk, OnOk, OnErr, length, take};
+ghost use mathlib.Core.List.{reverse};
 ghost use Rattle.serde_json.specs.Data.{Data};
 ghost use Rattle.serde_json.specs.View.{view};
 ghost use Rattle.json_patch.specs.Attempt.{Steps};
 ghost use Rattle.json_patch.specs.Document.{IsDocument};
-ghost use Rattle.json_patch.specs.InPlace.{AreChecked, AreInPlace, IsInPlace, NeverShort};
-ghost use mathlib.Core.List.{reverse};
-ghost use Rattle.json_patch.specs.InverseComputed.{inverse};
+ghost use Rattle.json_patch.specs.Faulting.{Reports};
+ghost use Rattle.json_patch.specs.InPlace.{AreInPlace, AreTestsThenRemove, IsInPlace, NeverShort};
 ghost use Rattle.json_patch.specs.Inverse.{ArePlain, IsInverse};
+ghost use Rattle.json_patch.specs.InverseComputed.{block, inverse};
 ghost use Rattle.json_patch.specs.Operation.{AreWhole, operation_of, operations, path_of};
 ghost use Rattle.json_patch.specs.Refusal.{IfRefused, NamesFirst, OnMemory};
 ghost use Rattle.json_patch.specs.Run.{Accepts, IsAccepted};
 ghost use Rattle.json_patch.specs.RunComputed.{stepped};
-ghost use Rattle.json_patch.specs.Faulting.{Reports};
 ghost use Rattle.json_patch.specs.Undoing.{From};
 
 use crate::error::{PatchError, PatchFault};
 use crate::operation::{Patch, PatchOperation};
-use crate::record::{record_step, run_back};
+use crate::record::{record_step, undo_recorded};
 use crate::step::step;
-use crate::undoing::{is_undoable, logged_step, take_back};
+use crate::undoing::{is_undoable, log_step, undo_all};
 use crate::walk::StepFault;
 use serde_json::Value;
 use std::alloc::Global;
@@ -29,11 +29,11 @@ use std::mem;
 /// Applies the operations one after another, or none of them. A refused patch leaves the document
 /// as it was, and so does one for which memory was short.
 ///
-/// The first operations are made in place, as far as they can be taken back with no memory: each
-/// `test`, and each `add`, `replace` and `copy` at a path with no `~`. If one more is left, it is made
-/// in place too, but for a `move`. If more are left, they are made on a copy of the document, which
-/// takes its place at the end. The empty list takes no memory, and neither does an accepted list of
-/// `test`s and then at most one `remove`, where no pointer holds a `~`.
+/// The first operations are made in place, as far as they can be undone with no memory: each
+/// `test`, and each `add`, `replace` and `copy` at a path with no `~`. If one more is left, it is
+/// made in place too, but for a `move`. If more are left, they are made on a copy of the document,
+/// which takes its place at the end. The empty list takes no memory, and neither does an accepted
+/// list of `test`s and then at most one `remove` at a path with no `~`.
 pub fn patch(alloc: Global, doc: &mut Value, patch: &[PatchOperation]) -> Result<(), PatchFault>
     requires document { IsDocument (view doc.old) }
     requires whole { AreWhole (operations patch.now) }
@@ -42,28 +42,28 @@ pub fn patch(alloc: Global, doc: &mut Value, patch: &[PatchOperation]) -> Result
     ensures unchanged { OnErr result (view doc.new ≡ view doc.old) }
     ensures document { IsDocument (view doc.new) }
     ensures empty { patch.now ≡ [] → IsOk result }
-    ensures in_place { AreChecked (operations patch.now)
+    ensures in_place { AreTestsThenRemove (operations patch.now)
         → (e : Data) → Accepts (view doc.old) (operations patch.now) e → IsOk result }
 {
     let mut log = Vec::new(alloc);
     let mut number = 0;
     while patch.len() - number > 1 && is_undoable(&patch[number]) {
         let operation = &patch[number];
-        if let Err(fault) = logged_step(alloc, doc, operation, &mut log) {
-            take_back(alloc, doc, patch, number, log);
+        if let Err(fault) = log_step(alloc, doc, operation, &mut log) {
+            undo_all(alloc, doc, patch, number, log);
             return Err(reported(alloc, number, operation, fault));
         }
         number += 1;
     }
-    if let Err(fault) = finish(alloc, doc, patch, number) {
-        take_back(alloc, doc, patch, number, log);
+    if let Err(fault) = run_rest(alloc, doc, patch, number) {
+        undo_all(alloc, doc, patch, number, log);
         return Err(fault);
     }
     Ok(())
 }
 
 /// Makes the operations from this number on, or none of them: one in place, several on a copy.
-fn finish(
+fn run_rest(
     alloc: Global,
     doc: &mut Value,
     patch: &[PatchOperation],
@@ -91,6 +91,25 @@ fn finish(
             Err(fault) => Err(reported(alloc, start, operation, fault)),
         };
     }
+    run_on_copy(alloc, doc, patch, start)
+}
+
+/// Makes the operations from this number on, or none of them: they are made on a copy of the
+/// document, which takes its place at the end.
+fn run_on_copy(
+    alloc: Global,
+    doc: &mut Value,
+    patch: &[PatchOperation],
+    start: usize,
+) -> Result<(), PatchFault>
+    requires whole { AreWhole (operations patch.now) }
+    requires within { start ≤ length patch.now }
+    ensures accepted { OnOk result (From (view doc.old) (operations patch.now) start
+        (λ d. Accepts d (operations patch.now) (view doc.new))) }
+    ensures refused { From (view doc.old) (operations patch.now) start
+        (λ d. IfRefused result (NamesFirst d (operations patch.now))) }
+    ensures unchanged { OnErr result (view doc.new ≡ view doc.old) }
+{
     let mut work = doc.clone()?;
     for number in start..patch.len() {
         let operation = &patch[number];
@@ -105,7 +124,7 @@ fn finish(
 /// Applies the operations one after another, in place. A refused operation leaves what the ones
 /// before it made of the document; where memory is short, what some of the first ones made of it
 /// is left. A `move` is made on a copy of the document, so that none loses its value. An accepted
-/// list of `test` and `remove` operations takes no memory where no pointer holds a `~`.
+/// list of `test`s and of `remove`s at paths with no `~` takes no memory.
 pub fn patch_unsafe(
     alloc: Global,
     doc: &mut Value,
@@ -160,21 +179,21 @@ pub fn apply_patches(
     while number < patches.len() && is_undoable(&patches[number]) {
         let operation = &patches[number];
         if let Err(fault) = record_step(alloc, doc, operation, &mut undo) {
-            run_back(alloc, doc, undo);
+            undo_recorded(alloc, doc, undo);
             return Err(reported(alloc, number, operation, fault));
         }
         number += 1;
     }
     if let Err(fault) = record_rest(alloc, doc, patches, number, &mut undo) {
-        run_back(alloc, doc, undo);
+        undo_recorded(alloc, doc, undo);
         return Err(fault);
     }
     undo.reverse();
     Ok(Patch(undo))
 }
 
-/// Makes the operations from this number on and records what undoes them, or none of them: they
-/// are made on a copy of the document.
+/// Makes the operations from this number on and records what undoes them, or none of them: one in
+/// place, several on a copy.
 fn record_rest(
     alloc: Global,
     doc: &mut Value,
@@ -197,6 +216,37 @@ fn record_rest(
     if start == patches.len() {
         return Ok(());
     }
+    if patches.len() - start == 1 {
+        let operation = &patches[start];
+        return match record_in_place(alloc, doc, operation, undo) {
+            Ok(()) => Ok(()),
+            Err(fault) => Err(reported(alloc, start, operation, fault)),
+        };
+    }
+    record_on_copy(alloc, doc, patches, start, undo)
+}
+
+/// Makes the operations from this number on and records what undoes them, or none of them: they are
+/// made on a copy of the document, which takes its place at the end.
+fn record_on_copy(
+    alloc: Global,
+    doc: &mut Value,
+    patches: &[PatchOperation],
+    start: usize,
+    undo: &mut Vec<PatchOperation>,
+) -> Result<(), PatchFault>
+    requires whole { AreWhole (operations patches.now) }
+    requires within { start ≤ length patches.now }
+    ensures accepted { OnOk result (From (view doc.old) (operations patches.now) start
+        (λ d. Accepts d (operations patches.now) (view doc.new))) }
+    ensures recorded { OnOk result (From (view doc.old) (operations patches.now) start
+        (λ d. reverse (operations undo.old.items) ≡ inverse d (take start (operations patches.now))
+        → reverse (operations undo.new.items) ≡ inverse d (operations patches.now))) }
+    ensures refused { From (view doc.old) (operations patches.now) start
+        (λ d. IfRefused result (NamesFirst d (operations patches.now))) }
+    ensures unchanged { OnErr result (view doc.new ≡ view doc.old) }
+    ensures kept { OnErr result (operations undo.new.items ≡ operations undo.old.items) }
+{
     let kept = undo.len();
     let mut work = doc.clone()?;
     for number in start..patches.len() {
@@ -227,6 +277,28 @@ fn step_in_place(
         return Ok(());
     }
     step(alloc, doc, operation)
+}
+
+/// Makes the operation and records what undoes it, or leaves both as they were.
+fn record_in_place(
+    alloc: Global,
+    doc: &mut Value,
+    operation: &PatchOperation,
+    undo: &mut Vec<PatchOperation>,
+) -> Result<(), StepFault>
+    ensures leaves { Steps result (stepped (view doc.old) (operation_of operation.now)) (view doc.new) }
+    ensures records { OnOk result (operations undo.new.items
+        ≡ operations undo.old.items ++ reverse (block (view doc.old) (operation_of operation.now))) }
+    ensures kept { OnErr result (operations undo.new.items ≡ operations undo.old.items) }
+    ensures unchanged { OnErr result (view doc.new ≡ view doc.old) }
+{
+    let PatchOperation::Move(_) = operation else {
+        return record_step(alloc, doc, operation, undo);
+    };
+    let mut work = doc.clone()?;
+    record_step(alloc, &mut work, operation, undo)?;
+    mem::swap(doc, &mut work);
+    Ok(())
 }
 
 /// The fault of a run in which the operation of this number was the first that wasn't made.

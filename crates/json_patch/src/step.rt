@@ -56,7 +56,7 @@ pub(crate) fn step(
             copy_value(alloc, doc, from, operation.path.as_pointer())?;
         }
         PatchOperation::Test(operation) => {
-            test(alloc, doc, operation.path.as_pointer(), &operation.value)?;
+            test(doc, operation.path.as_pointer(), &operation.value)?;
         }
     }
     Ok(())
@@ -185,7 +185,7 @@ pub(crate) fn copy_value(
     ensures back { IsDocument (view doc.old) → IfOk result
         (λ was. undone was (tokens_of path.entry) (view doc.new) ≡ Some (view doc.old)) }
 {
-    let Some(value) = find(alloc, doc, from.tokens())? else {
+    let Some(value) = find(doc, from.tokens()) else {
         return Err(StepFault::Refused(PatchErrorKind::InvalidFromPointer));
     };
     let copy = value.clone()?;
@@ -193,17 +193,12 @@ pub(crate) fn copy_value(
 }
 
 /// `test` (section 4.6).
-pub(crate) fn test(
-    alloc: Global,
-    doc: &Value,
-    path: Pointer<'_>,
-    value: &Value,
-) -> Result<(), StepFault>
+pub(crate) fn test(doc: &Value, path: Pointer<'_>, value: &Value) -> Result<(), StepFault>
     ensures leaves { Steps result
         (stepped (view doc.now) (test_at (tokens_of path.entry) (view value.now))) (view doc.now) }
-    ensures in_place { AreUnescaped (tokens_of path.entry) → NeverShort result }
+    ensures in_place { NeverShort result }
 {
-    match find(alloc, doc, path.tokens())? {
+    match find(doc, path.tokens()) {
         Some(place) if same_values(place, value) => Ok(()),
         Some(_) => Err(StepFault::Refused(PatchErrorKind::TestFailed)),
         None => Err(StepFault::Refused(PatchErrorKind::InvalidPointer)),

@@ -21,8 +21,8 @@ use jsonptr::Pointer;
 use serde_json::Value;
 use std::alloc::Global;
 
-/// Whether `take_back` can undo the operation: a `test`, or an `add`, `replace` or `copy` at a path
-/// whose text holds no `~`.
+/// Whether the operation can be undone with no memory: a `test`, or an `add`, `replace` or `copy` at
+/// a path whose text holds no `~`.
 pub(crate) fn is_undoable(operation: &PatchOperation) -> bool
     ensures { IsTrue result ↔ IsUndoable (operation_of operation.now) }
 {
@@ -47,9 +47,9 @@ fn is_unescaped(path: Pointer<'_>) -> bool
     true
 }
 
-/// Makes the operation, and adds to the log what it displaced; a `test` displaces nothing. A
-/// refused one leaves the document and the log as they were.
-pub(crate) fn logged_step(
+/// Makes the operation, and adds to the log what it displaced; a `test` displaces nothing. Where it
+/// fails, the document and the log are left as they were.
+pub(crate) fn log_step(
     alloc: Global,
     doc: &mut Value,
     operation: &PatchOperation,
@@ -67,13 +67,11 @@ pub(crate) fn logged_step(
     ensures in_place { IsInPlace (operation_of operation.now) → NeverShort result }
 {
     if let PatchOperation::Test(operation) = operation {
-        return test(alloc, doc, operation.path.as_pointer(), &operation.value);
+        return test(doc, operation.path.as_pointer(), &operation.value);
     }
     log.reserve(1)?;
     let was = put(alloc, doc, operation)?;
-    if log.push(was).is_err() {
-        unreachable!();
-    }
+    log.push_reserved(was);
     Ok(())
 }
 
@@ -110,8 +108,8 @@ pub(crate) fn put(
     }
 }
 
-/// Takes back so many operations from the start of the patch. This is the log of them.
-pub(crate) fn take_back(
+/// Undoes the first `number` operations of the patch, of which this is the log.
+pub(crate) fn undo_all(
     alloc: Global,
     doc: &mut Value,
     patch: &[PatchOperation],
@@ -128,7 +126,7 @@ pub(crate) fn take_back(
     }
 }
 
-/// Takes back the last operation.
+/// Undoes the last operation that was made.
 fn undo_step(alloc: Global, doc: &mut Value, operation: &PatchOperation, log: &mut Vec<Displaced>)
     ensures { (d : Data) (ops : List Operation)
         → LeadsBack d (operation_of operation.now ∷ ops) (reverse log.old.items) (view doc.old)
@@ -138,12 +136,12 @@ fn undo_step(alloc: Global, doc: &mut Value, operation: &PatchOperation, log: &m
         return;
     }
     if let Some(was) = log.pop() {
-        put_back(alloc, doc, operation.path(), was);
+        undo_change(alloc, doc, operation.path(), was);
     }
 }
 
-/// Takes back a change at `path` that found this. It takes no memory where the path has no `~`.
-pub(crate) fn put_back(alloc: Global, doc: &mut Value, path: Pointer<'_>, was: Displaced)
+/// Undoes a change at `path` that found this. It takes no memory where the path has no `~`.
+fn undo_change(alloc: Global, doc: &mut Value, path: Pointer<'_>, was: Displaced)
     ensures { (d : Data) → AreUnescaped (tokens_of path.entry)
         → undone was (tokens_of path.entry) (view doc.old) ≡ Some d → view doc.new ≡ d }
 {

@@ -3,6 +3,7 @@
 ghost use Rattle.std.specs.Prelude.{◌≡◌, ◌∷◌, [], ℕ, ◌<◌, ◌≤◌, ◌^◌, Some, None, IfOk, IsOk, MatchResult, option_map, alloc_error};
 ghost use Rattle.std.specs.Cow.{cow_str_bytes};
 ghost use Rattle.serde_json.specs.Data.{array, object};
+ghost use Rattle.serde_json.specs.Find.{get_member};
 ghost use Rattle.serde_json.specs.View.{view, items_view, members_view};
 ghost use Rattle.jsonptr.specs.Places.{place_of};
 ghost use Rattle.jsonptr.specs.Pointers.{token_of, tokens_left};
@@ -197,33 +198,43 @@ fn edit_items(items: &mut Vec<Value>, token: Token<'_>, edit: Edit) -> Result<Di
     }
 }
 
-/// What stands where the tokens lead.
-pub(crate) fn find<'v>(
-    alloc: Global,
-    document: &'v Value,
-    mut tokens: Tokens<'_>,
-) -> Result<Option<&'v Value>, AllocError>
-    ensures found { IfOk result (λ place. option_map (λ v. view v.now) place
-        ≡ found (view document.now) (tokens_left tokens.entry)) }
-    ensures in_place { AreUnescaped (tokens_left tokens.entry) → IsOk result }
+/// What stands where the tokens lead. It takes no memory.
+pub(crate) fn find<'v>(document: &'v Value, mut tokens: Tokens<'_>) -> Option<&'v Value>
+    ensures { option_map (λ v. view v.now) result
+        ≡ found (view document.now) (tokens_left tokens.entry) }
 {
     let Some(token) = tokens.next() else {
-        return Ok(Some(document));
+        return Some(document);
     };
     match document {
-        Value::Object(members) => {
-            let name = name_of(alloc, token)?;
-            match members.get(name.as_str()) {
-                Some(child) => find(alloc, child, tokens),
-                None => Ok(None),
-            }
-        }
-        Value::Array(items) => match item_index(token, items.len()) {
-            Ok(index) => find(alloc, &items[index], tokens),
-            Err(_) => Ok(None),
+        Value::Object(members) => match member_of(members, token) {
+            Some(child) => find(child, tokens),
+            None => None,
         },
-        _ => Ok(None),
+        Value::Array(items) => match item_index(token, items.len()) {
+            Ok(index) => find(&items[index], tokens),
+            Err(_) => None,
+        },
+        _ => None,
     }
+}
+
+/// The member whose name the token stands for. A token with an escape is compared with each name,
+/// so that no memory is taken.
+fn member_of<'v>(members: &'v Map<String, Value>, token: Token<'_>) -> Option<&'v Value>
+    ensures { option_map (λ v. view v.now) result
+        ≡ get_member (token_of token.entry) (members_view members.now.entries) }
+{
+    let name = token.encoded();
+    if token.is_key(name) {
+        return members.get(name);
+    }
+    for (key, member) in members {
+        if token.is_key(key.as_str()) {
+            return Some(member);
+        }
+    }
+    None
 }
 
 /// The member's name that a token stands for: its own text where that holds no escape.

@@ -222,6 +222,59 @@ const CASES: &[Case] = &[
             left: r#"{"a":1}"#,
         },
     },
+    Case {
+        name: "each kind of change is undone, the last one first",
+        document: r#"{"a":[1,2],"b":{"c":3}}"#,
+        patch: r#"[
+            {"op":"test","path":"/a/0","value":1},
+            {"op":"add","path":"/a/-","value":9},
+            {"op":"add","path":"/a/0","value":8},
+            {"op":"add","path":"/b/c","value":6},
+            {"op":"add","path":"/b/d","value":5},
+            {"op":"copy","from":"/a","path":"/b/e"},
+            {"op":"replace","path":"/b/c","value":4},
+            {"op":"test","path":"/b/c","value":3}
+        ]"#,
+        expected: Expected::Refused {
+            operation: 7,
+            path: "/b/c",
+            kind: "TestFailed",
+            left: Some(r#"{"a":[8,1,2,9],"b":{"c":4,"d":5,"e":[8,1,2,9]}}"#),
+        },
+    },
+    Case {
+        name: "changes before a removal and a move are undone with them",
+        document: r#"{"a":{"b":1},"l":[1,2]}"#,
+        patch: r#"[
+            {"op":"replace","path":"/a/b","value":2},
+            {"op":"add","path":"/l/-","value":3},
+            {"op":"remove","path":"/l/0"},
+            {"op":"move","from":"/l/0","path":"/a/c"},
+            {"op":"test","path":"/a/b","value":1}
+        ]"#,
+        expected: Expected::Refused {
+            operation: 4,
+            path: "/a/b",
+            kind: "TestFailed",
+            left: Some(r#"{"a":{"b":2,"c":2},"l":[3]}"#),
+        },
+    },
+    Case {
+        name: "a replacement of the whole document is undone",
+        document: r#"{"a":1}"#,
+        patch: r#"[
+            {"op":"replace","path":"","value":[]},
+            {"op":"add","path":"/-","value":{"a~b":1}},
+            {"op":"add","path":"/0/a~0b","value":2},
+            {"op":"move","from":"/0","path":"/0/x"}
+        ]"#,
+        expected: Expected::Refused {
+            operation: 3,
+            path: "/0/x",
+            kind: "CannotMoveInsideItself",
+            left: Some(r#"[{"a~b":2}]"#),
+        },
+    },
 ];
 
 #[test]

@@ -7,8 +7,9 @@ use Rattle.json_patch.specs.Operation.{operation_of, operations}
 use Rattle.json_patch.specs.RunComputed.{ran}
 use Rattle.json_patch.specs.Undoing.{AreUndos}
 use Rattle.json_patch.specs.declared.operation.Patch.{Patch}
-use Rattle.json_patch.proofs.Applied.{recorded_all, recorded_back, recorded_more, reported_names, state_document, state_more}
-use Rattle.json_patch.proofs.Logged.{block_light, light_more, undoable_at, whole_at}
+use Rattle.json_patch.proofs.Applied.{recorded_all, recorded_back, recorded_more, reported_names, state_more}
+use Rattle.json_patch.proofs.Logs.{not_move, undoable_at}
+use Rattle.json_patch.proofs.Undos.{block_light, light_more}
 use Rattle.json_patch.proofs.Runs.{accepts_document}
 use Rattle.json_patch.proofs.run.apply_patches.Goals as goal
 
@@ -20,10 +21,9 @@ pub returns-in-Err-clause-unchanged : goal.returns-in-Err-clause-unchanged
 returns-in-Err-clause-unchanged c =
     let o = c.index-patches-number-in-loop-number.result in
     let at = c.index-patches-number-in-loop-number.is in
-    let same : view c.record_step.new.doc ≡ view c.loop-number.doc = c.in-Err.ensures.unchanged (state_document (view c.args.doc.now) (view c.loop-number.doc) c.args.patches.now c.loop-number.number c.requires.document c.requires.whole c.loop-number.invariant.state)
-    (whole_at c.args.patches.now c.loop-number.number o c.loop-number-test.true at c.requires.whole)
-    (undoable_at c.args.patches.now c.loop-number.number c.index-patches-number.result o c.loop-number-test.true c.index-patches-number.is at (c.if-is_undoable.ensures.0 refl)) in
-    c.run_back.ensures (view c.args.doc.now) (subst AreUndos (sym c.in-Err.ensures.kept) c.loop-number.invariant.light)
+    let at_undoable = undoable_at c.args.patches.now c.loop-number.number c.index-patches-number.result o c.loop-number-test.true c.index-patches-number.is at (c.if-is_undoable.ensures.0 refl) in
+    let same : view c.record_step.new.doc ≡ view c.loop-number.doc = c.in-Err.ensures.unchanged (not_move (operation_of o) at_undoable) in
+    c.undo_recorded.ensures (view c.args.doc.now) (subst AreUndos (sym c.in-Err.ensures.kept) c.loop-number.invariant.light)
     (ap (λ x. ran x (reverse (operations c.record_step.new.undo.items))) same ∙ ap (λ us. ran (view c.loop-number.doc) (reverse us)) c.in-Err.ensures.kept
     ∙ recorded_back (view c.args.doc.now) (view c.loop-number.doc) c.args.patches.now c.loop-number.number c.loop-number.undo.items c.requires.document c.requires.whole c.loop-number.invariant.state c.loop-number.invariant.recorded)
 
@@ -46,28 +46,28 @@ loop-number-preserved c =
 pub returns-in-Err-record_rest-clause-unchanged : goal.returns-in-Err-record_rest-clause-unchanged
 returns-in-Err-record_rest-clause-unchanged c =
     let told = c.in-Err-record_rest.ensures in
-    c.run_back-in-Err-record_rest.ensures (view c.args.doc.now) (subst AreUndos (sym told.kept) c.loop-number.invariant.light)
+    c.undo_recorded-in-Err-record_rest.ensures (view c.args.doc.now) (subst AreUndos (sym told.kept) c.loop-number.invariant.light)
     (ap (λ x. ran x (reverse (operations c.record_rest.new.undo.items))) told.unchanged ∙ ap (λ us. ran (view c.loop-number.doc) (reverse us)) told.kept
     ∙ recorded_back (view c.args.doc.now) (view c.loop-number.doc) c.args.patches.now c.loop-number.number c.loop-number.undo.items c.requires.document c.requires.whole c.loop-number.invariant.state c.loop-number.invariant.recorded)
 
 pub returns-in-Err-record_rest-clause-document : goal.returns-in-Err-record_rest-clause-document
 returns-in-Err-record_rest-clause-document c = subst IsDocument (sym (returns-in-Err-record_rest-clause-unchanged c)) c.requires.document
 
-pub returns-clause-inverse : goal.returns-clause-inverse
-returns-clause-inverse c = (recorded_all (view c.args.doc.now) (view c.record_rest.new.doc) c.args.patches.now c.record_rest.new.undo.items c.reverse.new.self.items c.requires.document c.requires.whole (c.in_default-record_rest.ensures.accepted (view c.args.doc.now) c.requires.document c.loop-number.invariant.state) (c.in_default-record_rest.ensures.recorded (view c.args.doc.now) c.requires.document c.loop-number.invariant.state c.loop-number.invariant.recorded) c.reverse.ensures.items).inverse
-
-pub returns-clause-leads_back : goal.returns-clause-leads_back
-returns-clause-leads_back c = (recorded_all (view c.args.doc.now) (view c.record_rest.new.doc) c.args.patches.now c.record_rest.new.undo.items c.reverse.new.self.items c.requires.document c.requires.whole (c.in_default-record_rest.ensures.accepted (view c.args.doc.now) c.requires.document c.loop-number.invariant.state) (c.in_default-record_rest.ensures.recorded (view c.args.doc.now) c.requires.document c.loop-number.invariant.state c.loop-number.invariant.recorded) c.reverse.ensures.items).leads_back
-
-pub returns-clause-plain : goal.returns-clause-plain
-returns-clause-plain c = (recorded_all (view c.args.doc.now) (view c.record_rest.new.doc) c.args.patches.now c.record_rest.new.undo.items c.reverse.new.self.items c.requires.document c.requires.whole (c.in_default-record_rest.ensures.accepted (view c.args.doc.now) c.requires.document c.loop-number.invariant.state) (c.in_default-record_rest.ensures.recorded (view c.args.doc.now) c.requires.document c.loop-number.invariant.state c.loop-number.invariant.recorded) c.reverse.ensures.items).plain
-
-pub returns-clause-short : goal.returns-clause-short
-returns-clause-short c = (recorded_all (view c.args.doc.now) (view c.record_rest.new.doc) c.args.patches.now c.record_rest.new.undo.items c.reverse.new.self.items c.requires.document c.requires.whole (c.in_default-record_rest.ensures.accepted (view c.args.doc.now) c.requires.document c.loop-number.invariant.state) (c.in_default-record_rest.ensures.recorded (view c.args.doc.now) c.requires.document c.loop-number.invariant.state c.loop-number.invariant.recorded) c.reverse.ensures.items).short
-
-pub returns-clause-undo_whole : goal.returns-clause-undo_whole
-returns-clause-undo_whole c = (recorded_all (view c.args.doc.now) (view c.record_rest.new.doc) c.args.patches.now c.record_rest.new.undo.items c.reverse.new.self.items c.requires.document c.requires.whole (c.in_default-record_rest.ensures.accepted (view c.args.doc.now) c.requires.document c.loop-number.invariant.state) (c.in_default-record_rest.ensures.recorded (view c.args.doc.now) c.requires.document c.loop-number.invariant.state c.loop-number.invariant.recorded) c.reverse.ensures.items).whole
-
-pub returns-clause-document : goal.returns-clause-document
-returns-clause-document c =
-    accepts_document (view c.args.doc.now) (operations c.args.patches.now) (view c.record_rest.new.doc) c.requires.document c.requires.whole (c.in_default-record_rest.ensures.accepted (view c.args.doc.now) c.requires.document c.loop-number.invariant.state)
+pub returns : goal.returns
+returns c =
+    let d = view c.args.doc.now in
+    let end = c.in_default-record_rest.ensures.accepted d c.requires.document c.loop-number.invariant.state in
+    let all =
+    recorded_all d (view c.record_rest.new.doc) c.args.patches.now c.record_rest.new.undo.items c.reverse.new.self.items c.requires.document c.requires.whole end
+    (c.in_default-record_rest.ensures.recorded d c.requires.document c.loop-number.invariant.state c.loop-number.invariant.recorded) c.reverse.ensures.items in
+    record {
+      accepted = end;
+      inverse = all.inverse;
+      leads_back = all.leads_back;
+      plain = all.plain;
+      short = all.short;
+      undo_whole = all.whole;
+      refused = tt;
+      unchanged = tt;
+      document = accepts_document d (operations c.args.patches.now) (view c.record_rest.new.doc) c.requires.document c.requires.whole end;
+    }

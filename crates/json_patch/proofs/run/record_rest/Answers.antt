@@ -1,26 +1,23 @@
-use Rattle.std.proofs.Common.{◌≡◌, take, length, sym, ap, ◌∙◌}
-use Rattle.std.proofs.lemmas.List.{length-map, take-map}
+use Rattle.std.proofs.Common.{◌≡◌, ◌+◌, ◌-◌, length, take, ap, sym, ◌∙◌, arith}
 use Rattle.serde_json.specs.View.{view}
-use Rattle.json_patch.specs.Operation.{operation_of, operations}
-use Rattle.json_patch.proofs.Applied.{recorded_more, reported_names, state_more}
-use Rattle.json_patch.proofs.Logged.{same_count, take_more}
+use Rattle.json_patch.specs.InverseComputed.{inverse}
+use Rattle.json_patch.specs.Operation.{operations}
+use Rattle.json_patch.proofs.Applied.{recorded_more, reported_names, state_all, state_more, take_past}
 use Rattle.json_patch.proofs.run.record_rest.Goals as goal
+
+pub returns-in-Ok-clause-accepted : goal.returns-in-Ok-clause-accepted
+returns-in-Ok-clause-accepted c = λ d hd s.
+    let one : length c.args.patches.now - c.args.start ≡ 1 = c.if-patches-start-eq1.true in
+    state_all d (view c.record_in_place.new.doc) c.args.patches.now (c.args.start + 1) (omega arith)
+    (state_more d (view c.args.doc.now) _ c.args.patches.now c.args.start c.index-patches-start.result hd c.requires.whole (omega arith) c.index-patches-start.is s c.in-Ok.ensures.leaves)
+
+pub returns-in-Ok-clause-recorded : goal.returns-in-Ok-clause-recorded
+returns-in-Ok-clause-recorded c = λ d hd s before.
+    let one : length c.args.patches.now - c.args.start ≡ 1 = c.if-patches-start-eq1.true in
+    recorded_more d (view c.args.doc.now) _ c.args.patches.now c.args.start c.index-patches-start.result c.args.undo.now.items c.record_in_place.new.undo.items hd c.requires.whole (omega arith) c.index-patches-start.is s c.in-Ok.ensures.leaves c.in-Ok.ensures.records before
+    ∙ ap (inverse d) (take_past c.args.patches.now (c.args.start + 1) (omega arith))
 
 pub returns-in-Err-clause-refused : goal.returns-in-Err-clause-refused
 returns-in-Err-clause-refused c = λ d hd s.
-    reported_names (Unit {0}) c.reported.result c.in-Err.fault d (view c.loop-number.work) (view c.record_step.new.doc) c.args.patches.now c.loop-number.number c.index-patches-number.result hd c.requires.whole c.loop-number-test.true c.index-patches-number.is (c.loop-number.invariant.state d hd s) c.in-Err.ensures.leaves c.reported.ensures
-
-pub returns-in-Err-clause-kept : goal.returns-in-Err-clause-kept
-returns-in-Err-clause-kept c =
-    ap operations c.truncate.ensures.items ∙ sym (take-map operation_of c.len-kept.result c.record_step.new.undo.items) ∙ ap (take c.len-kept.result) c.in-Err.ensures.kept ∙ c.loop-number.invariant.kept
-
-pub loop-number-preserved : goal.loop-number-preserved
-loop-number-preserved c = record {
-  state = λ d hd s.
-      state_more d (view c.loop-number.work) _ c.args.patches.now c.loop-number.number c.index-patches-number.result hd c.requires.whole c.loop-number-test.true c.index-patches-number.is (c.loop-number.invariant.state d hd s) c.in_default.ensures.leaves;
-  recorded = λ d hd s before.
-      recorded_more d (view c.loop-number.work) _ c.args.patches.now c.loop-number.number c.index-patches-number.result c.loop-number.undo.items c.record_step.new.undo.items hd c.requires.whole c.loop-number-test.true c.index-patches-number.is (c.loop-number.invariant.state d hd s) c.in_default.ensures.leaves c.in_default.ensures.records (c.loop-number.invariant.recorded d hd s before);
-  kept =
-      let same : length (operations c.args.undo.now.items) ≡ length c.args.undo.now.items = length-map c.args.undo.now.items operation_of in
-      ap (take c.len-kept.result) c.in_default.ensures.records ∙ take_more c.len-kept.result (operations c.loop-number.undo.items) _ (operations c.args.undo.now.items) c.loop-number.invariant.kept (same ∙ same_count c.args.undo.now c.len-kept.result c.len-kept.ensures);
-}
+    let one : length c.args.patches.now - c.args.start ≡ 1 = c.if-patches-start-eq1.true in
+    reported_names (Unit {0}) c.reported.result c.in-Err.fault d (view c.args.doc.now) (view c.record_in_place.new.doc) c.args.patches.now c.args.start c.index-patches-start.result hd c.requires.whole (omega arith) c.index-patches-start.is s c.in-Err.ensures.leaves c.reported.ensures

@@ -1,7 +1,7 @@
 use Rattle.serde_json.specs.View.{view}
 use Rattle.jsonptr.specs.Pointers.{token_of, tokens_of}
 use Rattle.json_patch.proofs.Parents.{added_in, undo_as_found}
-use Rattle.json_patch.proofs.Logged.{added_back}
+use Rattle.json_patch.proofs.Logs.{added_back}
 use Rattle.json_patch.proofs.step.add.Goals as goal
 
 pub returns-in-Some-clause-leaves : goal.returns-in-Some-clause-leaves

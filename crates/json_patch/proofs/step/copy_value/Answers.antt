@@ -8,4 +8,4 @@ use Rattle.json_patch.proofs.step.copy_value.Goals as goal
 pub returns-clause-back : goal.returns-clause-back
 returns-clause-back c = λ hd.
     c.add.ensures.back hd (subst IsDocument (sym c.in_ok-copy.ensures.cases)
-    (found_document (view c.args.doc.now) (tokens_left c.tokens.result) (view c.in-Some.value.now) hd (sym c.in_ok-value.ensures.found ∙ ap (option_map (λ v. view v.now)) c.in-Some.is)))
+    (found_document (view c.args.doc.now) (tokens_left c.tokens.result) (view c.in-Some.value.now) hd (sym c.in-Some.ensures)))

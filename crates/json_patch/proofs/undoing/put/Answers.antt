@@ -1,6 +1,6 @@
 use Rattle.serde_json.specs.View.{view}
 use Rattle.jsonptr.specs.Pointers.{tokens_of}
-use Rattle.json_patch.proofs.Logged.{replaced_back}
+use Rattle.json_patch.proofs.Logs.{replaced_back}
 use Rattle.json_patch.proofs.undoing.put.Goals as goal
 
 pub returns-in_ok-former-in-Replace-clause-back : goal.returns-in_ok-former-in-Replace-clause-back

@@ -1,7 +1,7 @@
 use Rattle.std.proofs.Common.{◌≡◌, ◌+◌, ◌-◌, length, arith}
 use Rattle.serde_json.specs.View.{view}
 use Rattle.json_patch.proofs.Applied.{not_stopped, reported_names, state_all, state_more}
-use Rattle.json_patch.proofs.run.finish.Goals as goal
+use Rattle.json_patch.proofs.run.run_rest.Goals as goal
 
 pub returns-in-Ok-clause-accepted : goal.returns-in-Ok-clause-accepted
 returns-in-Ok-clause-accepted c = λ d hd s.
@@ -18,11 +18,3 @@ pub returns-in-Err-clause-in_place : goal.returns-in-Err-clause-in_place
 returns-in-Err-clause-in_place c = λ le light d hd s e end.
     let one : length c.args.patch.now - c.args.start ≡ 1 = c.if-patch-start-eq1.true in
     absurd (not_stopped c.in-Err.fault d (view c.args.doc.now) (view c.step_in_place.new.doc) e c.args.patch.now c.args.start c.index-patch-start.result hd c.requires.whole (omega arith) c.index-patch-start.is s c.in-Err.ensures.leaves c.in-Err.ensures.in_place light end)
-
-pub returns-in-Err-step-clause-refused : goal.returns-in-Err-step-clause-refused
-returns-in-Err-step-clause-refused c = λ d hd s.
-    reported_names (Unit {0}) c.reported-in-Err-step.result c.in-Err-step.fault d (view c.loop-number.work) (view c.step.new.doc) c.args.patch.now c.loop-number.number c.index-patch-number.result hd c.requires.whole c.loop-number-test.true c.index-patch-number.is (c.loop-number.invariant d hd s) c.in-Err-step.ensures.leaves c.reported-in-Err-step.ensures
-
-pub loop-number-preserved : goal.loop-number-preserved
-loop-number-preserved c = λ d hd s.
-    state_more d (view c.loop-number.work) _ c.args.patch.now c.loop-number.number c.index-patch-number.result hd c.requires.whole c.loop-number-test.true c.index-patch-number.is (c.loop-number.invariant d hd s) c.in_default.ensures.leaves

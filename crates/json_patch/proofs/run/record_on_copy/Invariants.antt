@@ -3,7 +3,7 @@ use Rattle.serde_json.specs.View.{view}
 use Rattle.json_patch.specs.Operation.{operations}
 use Rattle.json_patch.specs.Undoing.{From}
 use Rattle.json_patch.proofs.Applied.{IsState, IsRecorded}
-use Rattle.json_patch.proofs.run.record_rest.Given as goal
+use Rattle.json_patch.proofs.run.record_on_copy.Given as goal
 
 abbrev pub invariant-loop-number : goal.invariant-loop-number
 invariant-loop-number l = record {

@@ -1,6 +1,6 @@
 use Rattle.serde_json.specs.View.{view}
-use Rattle.json_patch.proofs.Logged.{undo_last}
-use Rattle.json_patch.proofs.record.run_back.Goals as goal
+use Rattle.json_patch.proofs.Undos.{undo_last}
+use Rattle.json_patch.proofs.record.undo_recorded.Goals as goal
 
 pub loop-operation-preserved : goal.loop-operation-preserved
 loop-operation-preserved c = λ d light way.

@@ -3,8 +3,8 @@ use mathlib.Core.List.{reverse}
 use Rattle.serde_json.specs.View.{view}
 use Rattle.json_patch.specs.Operation.{operations}
 use Rattle.json_patch.specs.Undoing.{LeadsBack}
-use Rattle.json_patch.proofs.Logged.{reverse_take}
-use Rattle.json_patch.proofs.undoing.take_back.Goals as goal
+use Rattle.json_patch.proofs.Logs.{reverse_take}
+use Rattle.json_patch.proofs.undoing.undo_all.Goals as goal
 
 pub loop-number-preserved : goal.loop-number-preserved
 loop-number-preserved c =

@@ -5,7 +5,7 @@ use Rattle.serde_json.specs.View.{view}
 use Rattle.json_patch.specs.Operation.{operations}
 use Rattle.json_patch.specs.RunComputed.{ran}
 use Rattle.json_patch.specs.Undoing.{AreUndos}
-use Rattle.json_patch.proofs.record.run_back.Given as goal
+use Rattle.json_patch.proofs.record.undo_recorded.Given as goal
 
 abbrev pub invariant-loop-operation : goal.invariant-loop-operation
 invariant-loop-operation l = (d : Data) → AreUndos (operations l.fn.undo.items) → ran (view l.fn.doc) (reverse (operations l.fn.undo.items)) ≡ Ok d

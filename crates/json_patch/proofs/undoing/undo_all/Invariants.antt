@@ -4,7 +4,7 @@ use Rattle.serde_json.specs.Data.{Data}
 use Rattle.serde_json.specs.View.{view}
 use Rattle.json_patch.specs.Operation.{operations}
 use Rattle.json_patch.specs.Undoing.{LeadsBack}
-use Rattle.json_patch.proofs.undoing.take_back.Given as goal
+use Rattle.json_patch.proofs.undoing.undo_all.Given as goal
 
 abbrev pub invariant-loop-number : goal.invariant-loop-number
 invariant-loop-number l = record {

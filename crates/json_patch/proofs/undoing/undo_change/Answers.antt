@@ -1,7 +1,7 @@
 use Rattle.serde_json.specs.View.{view}
 use Rattle.jsonptr.specs.Pointers.{token_of, tokens_of}
-use Rattle.json_patch.proofs.Logged.{later_undone}
-use Rattle.json_patch.proofs.undoing.put_back.Goals as goal
+use Rattle.json_patch.proofs.Logs.{later_undone}
+use Rattle.json_patch.proofs.undoing.undo_change.Goals as goal
 
 pub returns-in-Some : goal.returns-in-Some
 returns-in-Some c = λ d.

@@ -1,0 +1,222 @@
+-- A recorded run, undone.
+use Rattle.std.proofs.Common.{◌≡◌, ◌+◌, ◌<◌, ◌≤◌, ℕ, zero, suc, List, [], ◌∷◌, ◌++◌, length, take, map, Bool, true, false, bytes_eq, if◌then◌else◌, Vec, vec_len, Global, Option, Some, None, Result, Ok, Err, IfOk, refl, sym, ap, ◌∙◌, subst, append_assoc, arith}
+use Rattle.std.specs.Int.Digits.{AllBelowBase, digits_of}
+use Rattle.std.specs.declared.alloc.AllocError.{AllocError}
+use Rattle.std.proofs.lemmas.Int.Digits.{all_below_base_digits_of}
+use Rattle.std.proofs.lemmas.List.{map-append, reverse-append}
+use mathlib.Core.List.{reverse}
+use Rattle.serde_json.specs.Data.{Data, null, boolean, number, string, array, object}
+use Rattle.serde_json.specs.Events.{items_len}
+use Rattle.serde_json.specs.View.{view}
+use Rattle.serde_json.specs.declared.value.Value.{Value, Array}
+use Rattle.serde_json.proofs.Views.{items_len-items_view, view-Array}
+use Rattle.jsonptr.specs.Text.{Pointer, ReplacesLast, encoded}
+use Rattle.jsonptr.specs.Places.{next_token, token_of}
+use Rattle.std.proofs.lemmas.Bool.{ne_eqb}
+use Rattle.json_patch.specs.Attempt.{TakesOut}
+use Rattle.json_patch.specs.ChangeComputed.{found, front_of, last_of}
+use Rattle.json_patch.specs.Edits.{undo_from, undo_at_place}
+use Rattle.json_patch.specs.InPlace.{AreUnescaped, IsUnescaped}
+use Rattle.json_patch.specs.InverseComputed.{block, settled_token, undo_add, undo_at, undo_in, with_found}
+use Rattle.json_patch.specs.Operation.{Operation, add, remove, replace, move, copy, test, operation_of, operations, path_of}
+use Rattle.json_patch.specs.RunComputed.{Outcome, fault, counted, ran, ran_on, stepped}
+use Rattle.json_patch.specs.Undoing.{AreUndos, IsPut, IsUndo, IsUndoable, count_in, place_to_undo}
+use Rattle.json_patch.specs.declared.error.PatchErrorKind.{PatchErrorKind}
+use Rattle.json_patch.specs.declared.operation.PatchOperation.{PatchOperation}
+use Rattle.json_patch.specs.declared.walk.Displaced.{Displaced}
+use Rattle.json_patch.specs.declared.walk.Displaced.TheVariants.{Nothing, LaterItems, Former}
+use Rattle.json_patch.proofs.Indices.{not_next}
+use Rattle.json_patch.proofs.Parents.{no_last}
+use Rattle.json_patch.proofs.Resolved.{split_is, split_whole}
+
+-- ---- where what undoes an operation works
+
+settled_other : (o : Option Data) (t : List ℕ) → (t ≡ next_token → ⊥) → settled_token o t ≡ t
+settled_other None t other = refl
+settled_other (Some null) t other = refl
+settled_other (Some (boolean b)) t other = refl
+settled_other (Some (number n)) t other = refl
+settled_other (Some (string s)) t other = refl
+settled_other (Some (array ds)) t other = rw (not_next (bytes_eq t next_token) t refl other)
+settled_other (Some (object ms)) t other = refl
+
+settled_last : (o : Option Data) → count_in o ≡ None → settled_token o next_token ≡ next_token
+settled_last None h = refl
+settled_last (Some null) h = refl
+settled_last (Some (boolean b)) h = refl
+settled_last (Some (number n)) h = refl
+settled_last (Some (string s)) h = refl
+settled_last (Some (array ds)) h = cc
+settled_last (Some (object ms)) h = refl
+
+settled_next : (o : Option Data) (n : ℕ) → count_in o ≡ Some n → settled_token o next_token ≡ token_of n
+settled_next None n h = cc
+settled_next (Some null) n h = cc
+settled_next (Some (boolean b)) n h = cc
+settled_next (Some (number x)) n h = cc
+settled_next (Some (string s)) n h = cc
+settled_next (Some (array ds)) n h = let same : items_len ds ≡ n = cc in ap token_of same
+settled_next (Some (object ms)) n h = cc
+
+at_path : (P : Pointer) (o : Option Data) → path_of (undo_at P o) ≡ P
+at_path P None = refl
+at_path P (Some w) = refl
+
+place_in : (d : Data) (F : Pointer) (t : List ℕ) (P : Pointer) (o : Option Data) → P ≡ F ++ t ∷ [] → path_of (undo_in d F t P o) ≡ F ++ settled_token o t ∷ []
+place_in d F t P None is = at_path P (found d P) ∙ is
+place_in d F t P (Some null) is = at_path P (found d P) ∙ is
+place_in d F t P (Some (boolean b)) is = at_path P (found d P) ∙ is
+place_in d F t P (Some (number n)) is = at_path P (found d P) ∙ is
+place_in d F t P (Some (string s)) is = at_path P (found d P) ∙ is
+place_in d F t P (Some (array ds)) is = refl
+place_in d F t P (Some (object ms)) is = at_path P (found d P) ∙ is
+
+-- the last token is settled by what stands before it
+place_settled : (d : Data) (P F : Pointer) (t : List ℕ) → P ≡ F ++ t ∷ [] → path_of (undo_add d P) ≡ F ++ settled_token (found d F) t ∷ []
+place_settled d [] F t is = absurd (no_last F t is)
+place_settled d (s ∷ P) F t is =
+    let h = split_is s P F t is in
+    place_in d (front_of s P) (last_of s P) (s ∷ P) (found d (front_of s P)) (split_whole s P) ∙ rw (h.0, h.1) refl
+
+pub place_root : (d : Data) (P : Pointer) → P ≡ [] → P ≡ path_of (undo_add d P)
+place_root d P is = rw is refl
+
+pub place_other : (d : Data) (P F : Pointer) (t : List ℕ) → P ≡ F ++ t ∷ [] → (t ≡ next_token → ⊥) → P ≡ path_of (undo_add d P)
+place_other d P F t is other = is ∙ ap (λ u. F ++ u ∷ []) (sym (settled_other (found d F) t other)) ∙ sym (place_settled d P F t is)
+
+pub place_no_list : (d : Data) (P F : Pointer) (t : List ℕ) → P ≡ F ++ t ∷ [] → t ≡ next_token → None ≡ count_in (found d F) → P ≡ path_of (undo_add d P)
+place_no_list d P F t is next none =
+    is ∙ ap (λ u. F ++ u ∷ []) (next ∙ sym (settled_last (found d F) (sym none)) ∙ ap (settled_token (found d F)) (sym next)) ∙ sym (place_settled d P F t is)
+
+pub place_numbered : (r : Result Pointer AllocError) (d : Data) (P F : Pointer) (t u : List ℕ) (n : ℕ) → P ≡ F ++ t ∷ [] → t ≡ next_token → Some n ≡ count_in (found d F) → u ≡ token_of n → IfOk r (ReplacesLast P u) → IfOk r (λ Q. Q ≡ path_of (undo_add d P))
+place_numbered (Ok Q) d P F t u n is next count named at =
+    at F t is ∙ ap (λ x. F ++ x ∷ []) (named ∙ sym (settled_next (found d F) n (sym count)) ∙ ap (settled_token (found d F)) (sym next)) ∙ sym (place_settled d P F t is)
+place_numbered (Err e) d P F t u n is next count named at = at
+
+pub place_kept : (r : Result Pointer AllocError) (P Q : Pointer) → P ≡ Q → IfOk r (λ b. b ≡ P) → IfOk r (λ b. b ≡ Q)
+place_kept (Ok b) P Q same h = h ∙ same
+place_kept (Err e) P Q same h = h
+
+pub count_here : (n : ℕ) (v : Value) (m : Vec Value Global) → n ≡ vec_len m → v ≡ Array m → Some n ≡ count_in (Some (view v))
+count_here n v m len is = let same : n ≡ length m.items = omega arith in rw (is, view-Array m) (ap Some (same ∙ sym (items_len-items_view m.items)))
+
+-- ---- what undoes an operation, at that place
+
+placed : (P : Pointer) (was : Displaced) → undo_at_place (path_of (undo_from P was)) was ≡ undo_from P was
+placed P Nothing = refl
+placed P (LaterItems i) = refl
+placed P (Former w) = refl
+
+pub undo_placed : (d : Data) (P place : Pointer) (was : Displaced) → place ≡ path_of (undo_add d P) → undo_from P was ≡ undo_add d P → undo_at_place place was ≡ undo_add d P
+undo_placed d P place was at is = ap (λ Q. undo_at_place Q was) (at ∙ sym (ap path_of is)) ∙ placed P was ∙ is
+
+-- ---- what is recorded
+
+one_more : (olds news : List PatchOperation) (u : PatchOperation) (op : Operation) → news ≡ olds ++ u ∷ [] → operation_of u ≡ op → operations news ≡ operations olds ++ op ∷ []
+one_more olds news u op is same = ap operations is ∙ map-append operation_of olds (u ∷ []) ∙ ap (λ o. operations olds ++ o ∷ []) same
+
+pub records_move : (olds held mids news : List PatchOperation) (a u : PatchOperation) (d m : Data) (v : Value) (F P place : Pointer) (was : Displaced) → held ≡ olds → mids ≡ held ++ a ∷ [] → news ≡ mids ++ u ∷ []
+    → operation_of a ≡ add F (view v) → operation_of u ≡ undo_at_place place was → TakesOut d m F P v → place ≡ path_of (undo_add m P) → undo_from P was ≡ undo_add m P → operations news ≡ operations olds ++ reverse (block d (move F P))
+records_move olds held mids news a u d m v F P place was room first second puts takes out at is =
+    one_more mids news u (undo_add m P) second (takes ∙ undo_placed m P place was at is) ∙ ap (λ B. B ++ undo_add m P ∷ []) (one_more olds mids a (add F (view v)) (first ∙ ap (λ us. us ++ a ∷ []) room) puts)
+    ∙ append_assoc (operations olds) (add F (view v) ∷ []) (undo_add m P ∷ []) ∙ rw (out.1, out.2) refl
+
+-- ---- without memory
+
+-- a digit stands as it is
+encoded_digit : (x : ℕ) → 48 ≤ x → x ≤ 57 → encoded_byte x ≡ x ∷ []
+encoded_digit x l h = let n = ne_eqb x 47 (λ e. omega arith) in let m = ne_eqb x 126 (λ e. omega arith) in rw (n, m, encoded_byte) refl
+
+encoded_digits : (ds : List ℕ) → AllBelowBase 10 ds → encoded (map (λ x. 48 + x) ds) ≡ map (λ x. 48 + x) ds
+encoded_digits [] h = refl
+encoded_digits (x ∷ ds) h =
+    let less : x < 10 = h.0 in
+    ap (λ b. b ++ encoded (map (λ y. 48 + y) ds)) (encoded_digit (48 + x) (omega arith) (omega arith)) ∙ ap (λ r. (48 + x) ∷ r) (encoded_digits ds h.1)
+
+place_unescaped : (i : ℕ) → IsUnescaped (token_of i)
+place_unescaped zero = refl
+place_unescaped (suc n) = encoded_digits (digits_of 10 (suc n)) (all_below_base_digits_of 10 (suc n) (omega arith))
+
+unescaped_joined : (F : Pointer) (t : List ℕ) → AreUnescaped F → IsUnescaped t → AreUnescaped (F ++ t ∷ [])
+unescaped_joined [] t h g = (g, tt)
+unescaped_joined (s ∷ F) t h g = (h.0, unescaped_joined F t h.1 g)
+
+unescaped_front : (t : List ℕ) (P : Pointer) → AreUnescaped (t ∷ P) → AreUnescaped (front_of t P)
+unescaped_front t [] h = tt
+unescaped_front t (u ∷ P) h = (h.0, unescaped_front u P h.1)
+
+settled_unescaped : (b : Bool) (i : ℕ) (t : List ℕ) → IsUnescaped t → IsUnescaped (if b then token_of i else t)
+settled_unescaped true i t h = place_unescaped i
+settled_unescaped false i t h = h
+
+at_light : (P : Pointer) (o : Option Data) → AreUnescaped P → IsUndo (undo_at P o)
+at_light P None h = h
+at_light P (Some w) h = h
+
+in_light : (d : Data) (front : Pointer) (last : List ℕ) (P : Pointer) (o : Option Data) → AreUnescaped front → IsUnescaped last → AreUnescaped P → IsUndo (undo_in d front last P o)
+in_light d front last P (Some (array ds)) f l h = unescaped_joined front _ f (settled_unescaped (bytes_eq last next_token) (items_len ds) last l)
+in_light d front last P o f l h = at_light P (found d P) h
+
+unescaped_last : (t : List ℕ) (P : Pointer) → AreUnescaped (t ∷ P) → IsUnescaped (last_of t P)
+unescaped_last t [] h = h.0
+unescaped_last t (u ∷ P) h = unescaped_last u P h.1
+
+undo_light : (d : Data) (P : Pointer) → AreUnescaped P → IsUndo (undo_add d P)
+undo_light d [] h = tt
+undo_light d (t ∷ P) h = in_light d (front_of t P) (last_of t P) (t ∷ P) (found d (front_of t P)) (unescaped_front t P h) (unescaped_last t P h) h
+
+found_light : (o : Option Data) (P : Pointer) → AreUnescaped P → AreUndos (with_found o (λ w. replace P w ∷ []))
+found_light None P h = tt
+found_light (Some w) P h = (h, tt)
+
+pub block_light : (d : Data) (op : Operation) → IsUndoable op → AreUndos (block d op)
+block_light d (add P v) h = (undo_light d P h, tt)
+block_light d (remove P) h = absurd h
+block_light d (replace P v) h = found_light (found d P) P h
+block_light d (move F P) h = absurd h
+block_light d (copy F P) h = (undo_light d P h, tt)
+block_light d (test P v) h = tt
+
+undos_joined : (xs ys : List Operation) → AreUndos xs → AreUndos ys → AreUndos (xs ++ ys)
+undos_joined [] ys h g = g
+undos_joined (x ∷ xs) ys h g = (h.0, undos_joined xs ys h.1 g)
+
+undos_reverse : (xs : List Operation) → AreUndos xs → AreUndos (reverse xs)
+undos_reverse [] h = tt
+undos_reverse (x ∷ xs) h = subst AreUndos (sym (reverse-append (x ∷ []) xs)) (undos_joined (reverse xs) (x ∷ []) (undos_reverse xs h.1) (h.0, tt))
+
+undos_parts : (xs : List Operation) (u : Operation) → AreUndos (xs ++ u ∷ []) → AreUndos xs × IsUndo u
+undos_parts [] u h = (tt, h.0)
+undos_parts (x ∷ xs) u h = let more = undos_parts xs u h.1 in ((h.0, more.0), more.1)
+
+pub light_more : (olds news B : List Operation) → news ≡ olds ++ reverse B → AreUndos B → AreUndos olds → AreUndos news
+light_more olds news B wrote h before = subst AreUndos (sym wrote) (undos_joined olds (reverse B) before (undos_reverse B h))
+
+counted_ok : (o : Outcome) (d : Data) → counted o ≡ Ok d → o ≡ Ok d
+counted_ok (Ok e) d is = is
+counted_ok (Err (fault k kind)) d is = cc
+
+first_on : (r : Result Data PatchErrorKind) (ops : List Operation) (d : Data) → ran_on r (λ m. ran m ops) ≡ Ok d → (m : Data) × (r ≡ Ok m) × (ran m ops ≡ Ok d)
+first_on (Ok m) ops d is = (m, refl, counted_ok (ran m ops) d is)
+first_on (Err kind) ops d is = cc
+
+last_first : (us rest : List PatchOperation) (u : PatchOperation) → us ≡ rest ++ u ∷ [] → operations us ≡ operations rest ++ operation_of u ∷ []
+last_first us rest u is = ap operations is ∙ map-append operation_of rest (u ∷ [])
+
+pub undo_last : (us rest : List PatchOperation) (u : PatchOperation) (e new d : Data) → us ≡ rest ++ u ∷ [] → ((m : Data) → IsUndo (operation_of u) → stepped e (operation_of u) ≡ Ok m → new ≡ m)
+    → AreUndos (operations us) × (ran e (reverse (operations us)) ≡ Ok d) → AreUndos (operations rest) × (ran new (reverse (operations rest)) ≡ Ok d)
+undo_last us rest u e new d is made h =
+    let parts = undos_parts (operations rest) (operation_of u) (subst AreUndos (last_first us rest u is) h.0) in
+    let way : ran e (operation_of u ∷ reverse (operations rest)) ≡ Ok d = ap (ran e) (sym (ap reverse (last_first us rest u is) ∙ reverse-append (operations rest) (operation_of u ∷ []))) ∙ h.1 in
+    let first = first_on (stepped e (operation_of u)) (reverse (operations rest)) d way in
+    (parts.0, ap (λ x. ran x (reverse (operations rest))) (made first.0 parts.1 first.1) ∙ first.2)
+
+pub take_more : (k : ℕ) (xs ys zs : List Operation) → take k xs ≡ zs → length zs ≡ k → take k (xs ++ ys) ≡ zs
+take_more zero xs ys zs is n = is
+take_more (suc k) [] ys zs is n = let z : 0 ≡ length zs = ap length is in absurd (omega arith)
+take_more (suc k) (x ∷ xs) ys zs is n =
+    let l : length (x ∷ take k xs) ≡ length zs = ap length is in
+    ap (λ r. x ∷ r) (take_more k xs ys (take k xs) refl (omega arith)) ∙ is
+
+pub same_count : (m : Vec PatchOperation Global) (len : ℕ) → len ≡ vec_len m → length m.items ≡ len
+same_count m len e = omega arith

@@ -1,0 +1,8 @@
+use Rattle.std.proofs.Common.{◌≡◌}
+use Rattle.serde_json.specs.Find.{get_member}
+use Rattle.serde_json.specs.View.{members_view}
+use Rattle.jsonptr.specs.Pointers.{token_of}
+use Rattle.json_patch.proofs.walk.member_of.Given as goal
+
+abbrev pub invariant-loop-key : goal.invariant-loop-key
+invariant-loop-key l = get_member (token_of l.token) (members_view l.members.entries) ≡ get_member (token_of l.token) (members_view l.key-iterator)
