@@ -9,8 +9,9 @@ from patches import (
 MEMORY = "out of memory"
 NOT_FOUND = "path is invalid"
 
-# A call of the program json_patch_memory: its line in the table that is printed, its arguments, what the program writes with ample memory, and each thing that it may write where a request was
-# refused. `requests` is the number of requests, where it is known.
+# A call of the program json_patch_memory: its line in the table that is printed, its arguments, what
+# the program writes with ample memory, and each thing that it may write where a request was refused.
+# `requests` is the number of requests, where it is known.
 Call = namedtuple("Call", "line arguments answer short requests", defaults=[None])
 
 # A run of json_patch_tool: its mode, its input, and its status, line and fault with ample memory.
@@ -146,13 +147,12 @@ def run_calls():
     """`patch` and `apply_patches` leave the document as it was; `patch_unsafe` leaves a state."""
     for name, run in RUNS.items():
         first, last = run.states[0], run.states[-1]
-        accepted, recorded = left("done", last), None
         if run.refusal:
-            accepted = recorded = left(run.refusal, first)
+            patched = recorded = left(run.refusal, first)
         else:
-            recorded = left(printed_patch(run.inverse), last)
+            patched, recorded = left("done", last), left(printed_patch(run.inverse), last)
         unchanged = [left(MEMORY, first)]
-        yield Call(f"patch: {name}", run.arguments("patch"), accepted, unchanged)
+        yield Call(f"patch: {name}", run.arguments("patch"), patched, unchanged)
         yield Call(f"apply_patches: {name}", run.arguments("apply_patches"), recorded, unchanged)
     for name, run in {**RUNS, **IN_PLACE}.items():
         answer = left(run.refusal or "done", run.states[-1])

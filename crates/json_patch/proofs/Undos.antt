@@ -10,7 +10,7 @@ use Rattle.serde_json.specs.Events.{items_len}
 use Rattle.serde_json.specs.View.{view}
 use Rattle.serde_json.specs.declared.value.Value.{Value, Array}
 use Rattle.serde_json.proofs.Views.{items_len-items_view, view-Array}
-use Rattle.jsonptr.specs.Text.{Pointer, ReplacesLast, encoded}
+use Rattle.jsonptr.specs.Text.{Pointer, ReplacesLast, encoded, encoded_byte}
 use Rattle.jsonptr.specs.Places.{next_token, token_of}
 use Rattle.std.proofs.lemmas.Bool.{ne_eqb}
 use Rattle.json_patch.specs.Attempt.{TakesOut}

@@ -3,6 +3,8 @@
 
 ghost use Rattle.std.specs.Prelude.{◌<◌, Some, []};
 
+mod hostile;
+
 use crate::answer::respond;
 use crate::fault::{ToolFault, status};
 use crate::mode::{Mode, mode_of, usage};
