@@ -11,6 +11,8 @@ mod documentation;
 #[cfg(test)]
 mod examples;
 #[cfg(test)]
+mod hostile;
+#[cfg(test)]
 mod merges;
 #[cfg(test)]
 mod refusals;
