@@ -15,6 +15,8 @@ mod equality;
 #[cfg(test)]
 mod examples;
 #[cfg(test)]
+mod hostile;
+#[cfg(test)]
 mod merges;
 #[cfg(test)]
 mod printing;
