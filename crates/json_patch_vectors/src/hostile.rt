@@ -15,7 +15,7 @@ macro_rules! lost {
                 operation: 0,
                 path: $path,
                 kind: "InvalidPointer",
-                left: Some($document),
+                left: $document,
             },
         }
     };
