@@ -7,7 +7,8 @@ ghost use Rattle.json_patch.specs.Attempt.{Steps};
 ghost use Rattle.json_patch.specs.Document.{IsDocument};
 ghost use Rattle.json_patch.specs.InPlace.{AreInPlace, IsInPlace, NeverShort};
 ghost use Rattle.json_patch.specs.Inverse.{ArePlain, IsInverse};
-ghost use Rattle.json_patch.specs.Operation.{AreWhole, operation_of, operations, path_of};
+ghost use Rattle.json_patch.specs.Operation.{AreWhole, IsWholeOp, operation_of, operations, path_of};
+ghost use Rattle.json_patch.specs.PartRun.{IsIn, NamesIn, StopsAlone};
 ghost use Rattle.json_patch.specs.Refusal.{IfRefused, NamesFirst, OnMemory};
 ghost use Rattle.json_patch.specs.Run.{Accepts, IsAccepted};
 ghost use Rattle.json_patch.specs.RunComputed.{stepped};
@@ -16,11 +17,14 @@ ghost use Rattle.json_patch.specs.Faulting.{Reports};
 use crate::error::{PatchError, PatchFault};
 use crate::operation::{Patch, PatchOperation};
 use crate::record::record_step;
+use crate::shared::{RunFault, run_on_copy};
 use crate::step::step;
 use crate::walk::StepFault;
+use jsonptr::Pointer;
 use serde_json::Value;
 use std::alloc::Global;
 use std::mem;
+use std::slice;
 
 /// Applies the operations one after another, or none of them: they are made on a copy of the
 /// document, which takes its place at the end. A refused patch leaves the document as it was, and
@@ -30,21 +34,17 @@ pub fn patch(alloc: Global, doc: &mut Value, patch: &[PatchOperation]) -> Result
     requires whole { AreWhole (operations patch.now) }
     ensures accepted { OnOk result (Accepts (view doc.old) (operations patch.now) (view doc.new)) }
     ensures refused { IfRefused result (NamesFirst (view doc.old) (operations patch.now)) }
-    ensures unchanged { OnErr result (doc.new ≡ doc.old) }
+    ensures unchanged { OnErr result (view doc.new ≡ view doc.old) }
     ensures document { IsDocument (view doc.new) }
     ensures empty { patch.now ≡ [] → IsOk result }
 {
     if patch.is_empty() {
         return Ok(());
     }
-    let mut work = doc.clone()?;
-    for (number, operation) in patch.iter().enumerate() {
-        if let Err(fault) = step(alloc, &mut work, operation) {
-            return Err(reported(alloc, number, operation, fault));
-        }
+    match run_on_copy(alloc, doc, patch) {
+        Ok(()) => Ok(()),
+        Err(fault) => Err(named(alloc, patch, fault)),
     }
-    mem::swap(doc, &mut work);
-    Ok(())
 }
 
 /// Applies the operations one after another, in place. A refused operation leaves what the ones
@@ -118,17 +118,42 @@ fn step_in_place(
     doc: &mut Value,
     operation: &PatchOperation,
 ) -> Result<(), StepFault>
+    requires document { IsDocument (view doc.old) }
+    requires whole { IsWholeOp (operation_of operation.now) }
     ensures leaves { Steps result (stepped (view doc.old) (operation_of operation.now)) (view doc.new) }
     ensures unchanged { OnErr result (view doc.new ≡ view doc.old) }
     ensures in_place { IsInPlace (operation_of operation.now) → NeverShort result }
 {
     if let PatchOperation::Move(_) = operation {
-        let mut work = doc.clone()?;
-        step(alloc, &mut work, operation)?;
-        mem::swap(doc, &mut work);
-        return Ok(());
+        return match run_on_copy(alloc, doc, slice::from_ref(operation)) {
+            Ok(()) => Ok(()),
+            Err(fault) => Err(fault_alone(fault)),
+        };
     }
-    step(alloc, doc, operation)
+    step(alloc, doc, Pointer::root(), operation)
+}
+
+/// The fault of the only step of a run.
+fn fault_alone(fault: RunFault) -> StepFault
+    ensures { StopsAlone fault result }
+{
+    match fault {
+        RunFault::Refused(_number, kind) => StepFault::Refused(kind),
+        RunFault::Memory(error) => StepFault::Memory(error),
+    }
+}
+
+/// The fault of a run of this patch.
+fn named(alloc: Global, patch: &[PatchOperation], fault: RunFault) -> PatchFault
+    requires { IsIn fault patch.now }
+    ensures { NamesIn patch.now fault result }
+{
+    match fault {
+        RunFault::Refused(number, kind) => {
+            reported(alloc, number, &patch[number], StepFault::Refused(kind))
+        }
+        RunFault::Memory(error) => PatchFault::Memory(error),
+    }
 }
 
 /// The fault of a run in which the operation of this number was the first that wasn't made.
