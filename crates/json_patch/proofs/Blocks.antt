@@ -18,7 +18,7 @@ use Rattle.json_patch.proofs.Slots.{PutsIn, put_in_puts}
 use Rattle.json_patch.proofs.Exact.{added_exact, removed_exact}
 use Rattle.json_patch.proofs.Stepped.{stands_found, stands_document, removed_document, found_never, never_found, leaves_document}
 use Rattle.json_patch.proofs.Undone.{settled_place}
-use Rattle.jsonptr.proofs.PlaceTokens.{place_token}
+use Rattle.jsonptr.specs.PlaceLaws.{place_is_token}
 use Rattle.json_patch.proofs.Inverted.{inverse_step}
 
 -- ---- a last token as a number
@@ -27,7 +27,7 @@ settled : (t : List ℕ) (ds : Items) (i : ℕ) → Aims (array ds) t (place i) 
 settled t ds i h = settled_place (bytes_eq t next_token) t ds i refl h
 
 pub settled_only : (t : List ℕ) (ds : Items) (i : ℕ) (u : List ℕ) → Aims (array ds) t (place i) → place_of u ≡ Some i → u ≡ settled_token (Some (array ds)) t
-settled_only t ds i u h is = place_token u i is ∙ sym (place_token (settled_token (Some (array ds)) t) i (settled t ds i h))
+settled_only t ds i u h is = (place_is_token u i).0 is ∙ sym ((place_is_token (settled_token (Some (array ds)) t) i).0 (settled t ds i h))
 
 -- ---- what undoes an add
 

@@ -4,6 +4,7 @@ use Rattle.std.proofs.lemmas.Bool.Decides.{nat_tests}
 use Rattle.std.proofs.lemmas.Slice.Eq.{bytes_eq-Decides}
 use Rattle.std.specs.Result.{IsErr, IsErrAnd}
 use Rattle.jsonptr.specs.Indexes.{IsIndexText, IsNoIndexText, place_in}
+use Rattle.jsonptr.specs.PlaceLaws.{next_is_no_place}
 use Rattle.jsonptr.specs.Places.{place_of, next_token}
 use Rattle.jsonptr.specs.declared.index.Index.{Index}
 use Rattle.jsonptr.specs.declared.index.Index.TheVariants.{Num, Next}
@@ -24,7 +25,7 @@ no_item t len h fits = λ i is. let past : 2 ^ 64 ≤ i = h.past i is in omega a
 
 pub item_outside : (t : List ℕ) (index : Index) (len : ℕ) → IsIndexText t index → len ≤ place_in index len → IsNoItem t len
 item_outside t (Num n) len h out = λ i is. let a : place_of t ≡ Some n = h.0 in let e : n ≡ i = cc in omega arith
-item_outside t Next len h out = λ i is. let a : place_of t ≡ None = h.1 in cc
+item_outside t Next len h out = λ i is. let a : place_of t ≡ None = ap place_of h ∙ next_is_no_place in cc
 
 pub item_within : (t : List ℕ) (index : Index) (len n : ℕ) → IsIndexText t index → n ≡ place_in index len → n < len → IsItem t len n
 item_within t (Num m) len n h is less = (less, h.0 ∙ ap Some (sym is))
@@ -35,6 +36,9 @@ item_within t Next len n h is less = absurd (omega arith)
 not_next : (b : Bool) (t : List ℕ) → bytes_eq t next_token ≡ b → t ≢ next_token → b ≡ false
 not_next true t is other = absurd (other ((bytes_eq-Decides t next_token).0 is))
 not_next false t is other = refl
+
+place_is_not_next : (t : List ℕ) (i : ℕ) → place_of t ≡ Some i → t ≢ next_token
+place_is_not_next t i h is = let none : place_of t ≡ None = ap place_of is ∙ next_is_no_place in cc
 
 is_next : (t : List ℕ) → t ≡ next_token → bytes_eq t next_token ≡ true
 is_next t is = (bytes_eq-Decides t next_token).1 is
@@ -53,9 +57,9 @@ pub no_slot : (t : List ℕ) (len : ℕ) → IsNoIndexText t → len < 2 ^ 64 �
 no_slot t len h fits = no_slot_past t len h.other (λ i is. let past : 2 ^ 64 ≤ i = h.past i is in omega arith)
 
 pub slot_outside : (t : List ℕ) (index : Index) (len : ℕ) → IsIndexText t index → len < place_in index len → slot_in t len ≡ None
-slot_outside t (Num n) len h out = no_slot_past t len h.2 (λ i is. let a : place_of t ≡ Some n = h.0 in let e : n ≡ i = cc in omega arith)
+slot_outside t (Num n) len h out = no_slot_past t len (place_is_not_next t n h.0) (λ i is. let a : place_of t ≡ Some n = h.0 in let e : n ≡ i = cc in omega arith)
 slot_outside t Next len h out = absurd (omega arith)
 
 pub slot_within : (t : List ℕ) (index : Index) (len n : ℕ) → IsIndexText t index → n ≡ place_in index len → n ≤ len → (n ≤ len) × (slot_in t len ≡ Some n)
-slot_within t (Num m) len n h is le = (le, rw (not_next (bytes_eq t next_token) t refl h.2, h.0, fits m len (omega arith)) (ap Some (sym is)))
-slot_within t Next len n h is le = (le, rw (is_next t h.0) (ap Some (sym is)))
+slot_within t (Num m) len n h is le = (le, rw (not_next (bytes_eq t next_token) t refl (place_is_not_next t m h.0), h.0, fits m len (omega arith)) (ap Some (sym is)))
+slot_within t Next len n h is le = (le, rw (is_next t h) (ap Some (sym is)))

@@ -15,7 +15,6 @@ pub mod Added
 pub mod Removed
 pub mod Replaced
 pub mod Found
-pub mod PlaceLaws
 pub mod Texts
 pub mod Exact
 pub mod Floats
@@ -32,7 +31,6 @@ pub mod Blocks
 pub mod Parents
 pub mod Plain
 pub mod Applied
-pub mod PointerTexts
 pub mod PatchFaults
 pub mod PatchValues
 pub mod ReadStages

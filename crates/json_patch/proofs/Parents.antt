@@ -9,7 +9,7 @@ use Rattle.serde_json.specs.View.{view}
 use Rattle.serde_json.specs.declared.value.Value.{Value}
 use Rattle.jsonptr.specs.Text.{Pointer, IsProperPrefix, ReplacesLast}
 use Rattle.jsonptr.specs.Places.{token_of}
-use Rattle.jsonptr.proofs.PlaceTokens.{token_decimal, token_place}
+use Rattle.jsonptr.specs.PlaceLaws.{place_is_token, token_is_decimal}
 use Rattle.json_patch.specs.Attempt.{Attempts, Excuses, Steps, TakesOut}
 use Rattle.json_patch.specs.Document.{child}
 use Rattle.json_patch.specs.Operation.{move, remove}
@@ -70,7 +70,7 @@ undo_later [] F t i is = absurd (no_last F t is)
 undo_later (s ∷ P) F t i is = let e = split_is s P F t is in rw e.0 refl
 
 settles : (t : List ℕ) (ds : Items) (i : ℕ) → slot_of t ds ≡ Some i → token_of i ≡ settled_token (Some (array ds)) t
-settles t ds i is = settled_only t ds i (token_of i) (slot_aims t ds i is) (token_place i)
+settles t ds i is = settled_only t ds i (token_of i) (slot_aims t ds i is) ((place_is_token (token_of i) i).1 refl)
 
 undo_found : (was : Displaced) (v : Value) (d c : Data) (P F : Pointer) (t : List ℕ) → P ≡ F ++ t ∷ [] → found d F ≡ Some c → Displaces (Insert v) t c was → undo_from P was ≡ undo_in d F t P (Some c)
 undo_found (LaterItems i) v d (array ds) P F t is at h = undo_later P F t i is ∙ ap (λ x. remove (F ++ x ∷ [])) (settles t ds i h)
@@ -126,7 +126,7 @@ move_ends d m e v F P out h = moves {T = Unit {0}} (Ok tt) d m e (view v) F P ou
 -- ---- a place by its number
 
 pub place_text : (r : Result (String Global) AllocError) (i : ℕ) → i < 2 ^ 64 → IfOk r (λ s. string_bytes s ≡ decimal i) → IfOk r (λ s. string_bytes s ≡ token_of i)
-place_text (Ok s) i fits h = h ∙ sym (token_decimal i fits)
+place_text (Ok s) i fits h = h ∙ sym (token_is_decimal i fits)
 place_text (Err e) i fits h = h
 
 pub numbered : (P Q : Pointer) (n : List ℕ) (i : ℕ) (d : Data) → undo_from P (LaterItems i) ≡ undo_add d P → n ≡ token_of i → ReplacesLast P n Q → remove Q ≡ undo_from P (LaterItems i)

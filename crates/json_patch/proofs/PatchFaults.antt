@@ -1,5 +1,5 @@
 -- The faults of an operation value, in their order.
-use Rattle.std.proofs.Common.{◌≡◌, ◌<◌, ◌≤◌, ◌^◌, ℕ, pos, negsuc, List, ◌⊎◌, Option, Some, None, Ordering, Less, Equal, Greater, nat_cmp, refl, ap, ◌∙◌, subst, inl, inr, arith, ⊎_elim, codes}
+use Rattle.std.proofs.Common.{◌≡◌, ◌<◌, ◌≤◌, ◌^◌, ℕ, pos, negsuc, List, ◌⊎◌, Option, Some, None, Ordering, Less, Equal, Greater, nat_cmp, refl, sym, ap, ◌∙◌, subst, inl, inr, arith, ⊎_elim, codes}
 use Rattle.std.proofs.lemmas.Bool.{cases_lt}
 use Rattle.std.specs.Cmp.Lexicographic.{slice_cmp}
 use Rattle.serde_json.specs.Data.{Num, unsigned, negative, float, Data, null, boolean, number, string, array, object, Items, no_items, item, Members, no_members, member}
@@ -11,7 +11,7 @@ use Rattle.json_patch.specs.Document.{IsDocument, AreDocuments, AreMembers, IsBe
 use Rattle.json_patch.specs.PatchValue.{IsObject, Lacks, HasNoText, HasNoPointer, HasNoDocument, IsOneOf, IsFieldFault, NoneBelow, IsFirst, rank}
 use Rattle.json_patch.specs.declared.error.ReadKind.{ReadKind}
 use Rattle.json_patch.specs.declared.error.ReadKind.TheVariants.{NotAList, NotAnObject, MissingOp, OpNotText, UnknownOp, MissingFrom, FromNotText, BadFrom, MissingPath, PathNotText, BadPath, MissingValue, ValueNotWhole}
-use Rattle.json_patch.proofs.PointerTexts.{pointer_or_fault, pointer_has_no_fault, fault_one}
+use Rattle.jsonptr.specs.TextLaws.{pointer_or_fault, pointer_has_no_fault, one_fault}
 
 -- ---- a value is a document, or it isn't
 
@@ -95,7 +95,7 @@ pub data Text (v : Data) (k : List ℕ) : Type 0 where
 
 pub text_at : (v : Data) (k : List ℕ) → IsObject v → Text v k
 text_at v k o =
-    ⊎_elim (λ found. ⊎_elim (λ text. ⊎_elim (λ P. pointer P.0 (found.1 ∙ ap Some (text.1 ∙ ap string P.1)))
+    ⊎_elim (λ found. ⊎_elim (λ text. ⊎_elim (λ P. pointer P.0 (found.1 ∙ ap Some (text.1 ∙ ap string (sym P.1))))
     (λ f. no_pointer f.0 (text.0, (found.1 ∙ ap Some text.1), f.1)) (pointer_or_fault text.0))
     (λ other. no_text (found.0, found.1, other)) (text_or_not found.0))
     (λ none. lacks (o, none)) (some_or_none (get k v))
@@ -133,7 +133,7 @@ pub found_document : (v : Data) (k : List ℕ) (d : Data) → get k v ≡ Some d
 found_document v k d e doc h = h.2 (subst IsDocument (same_found v k d h.0 e h.1) doc)
 
 pub no_pointer_one : (v : Data) (k : List ℕ) (e f : ParseError) → HasNoPointer v k e → HasNoPointer v k f → e ≡ f
-no_pointer_one v k e f h g = fault_one g.0 e f (subst (λ t. IsFault t e) (same_text v k h.0 g.0 h.1 g.1) h.2) g.2
+no_pointer_one v k e f h g = one_fault g.0 e f (subst (λ t. IsFault t e) (same_text v k h.0 g.0 h.1 g.1) h.2) g.2
 
 -- ---- the faults by their ranks
 

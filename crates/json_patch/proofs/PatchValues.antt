@@ -13,13 +13,13 @@ use Rattle.json_patch.specs.PatchValue.{name_of, field_names, ReadsFields, Reads
 use Rattle.json_patch.specs.ReadLaws.{IsRead, IsUnread, IsReadAlone, IsUnreadAlone, IsReadLike, IsUnreadLike}
 use Rattle.json_patch.specs.declared.error.ReadKind.{ReadKind}
 use Rattle.json_patch.specs.declared.error.ReadKind.TheVariants.{NotAList, NotAnObject, MissingOp, OpNotText, UnknownOp, MissingFrom, FromNotText, BadFrom, MissingPath, PathNotText, BadPath, MissingValue, ValueNotWhole}
-use Rattle.json_patch.proofs.PointerTexts.{pointer_one}
+use Rattle.jsonptr.specs.TextLaws.{one_pointer}
 use Rattle.json_patch.proofs.PatchFaults.{Text, pointer, lacks, no_text, no_pointer, text_at, Held, document, lacks_it, no_document, held_at, object_or_not, object_found, found_lacks, found_text, found_pointer, found_document, same_text, same_found, no_pointer_one, object_clears, not_object, no_from_clears, from_clears, from_missing, from_no_text, from_no_pointer, path_clears, path_missing, path_no_text, path_no_pointer, value_missing, value_no_document, first_one}
 
 -- ---- what is read
 
 same_pointer : (v : Data) (k : List ℕ) (P Q : Pointer) → get k v ≡ Some (string (text_of P)) → get k v ≡ Some (string (text_of Q)) → P ≡ Q
-same_pointer v k P Q e f = pointer_one P Q (same_text v k _ _ e f)
+same_pointer v k P Q e f = one_pointer P Q (same_text v k _ _ e f)
 
 reads_from : (v : Data) (op : Operation) → ReadsFields v op → IsOneOf (field_names op) (codes "from") → (F : Pointer) × (get (codes "from") v ≡ Some (string (text_of F)))
 reads_from v (move F P) h n = (F, h.0.0)

@@ -21,7 +21,7 @@ use Rattle.json_patch.proofs.Level.{step_of_set}
 use Rattle.json_patch.proofs.Parents.{removed_in}
 use Rattle.json_patch.proofs.Resolved.{option_map_some, split_whole}
 use Rattle.json_patch.proofs.Runs.{accepted, accepts_document, accepts_ran}
-use Rattle.json_patch.proofs.Slots.{no_place}
+use Rattle.jsonptr.specs.PlaceLaws.{next_is_no_place}
 use Rattle.json_patch.proofs.Stepped.{leaves_document, leaves_stepped, removed_document, stands_document, stands_found}
 use Rattle.json_patch.proofs.Undone.{found_append, undo_added}
 
@@ -46,11 +46,11 @@ next_nowhere : (d : Data) (F R : Pointer) (ds : Items) → found d F ≡ Some (a
 next_nowhere d F R ds at = found_append d F (next_token ∷ R) ∙ ap (option_and_then (λ p. found p (next_token ∷ R))) at ∙ none
   where
     none : found (array ds) (next_token ∷ R) ≡ None
-    none = rw no_place refl
+    none = rw next_is_no_place refl
 
 -- and nothing is taken there
 next_untaken : (p : Data) (ds : Items) → take_from next_token p ≡ Some (array ds) → ⊥
-next_untaken (array es) ds is = let none : take_from next_token (array es) ≡ None = rw no_place refl in cc
+next_untaken (array es) ds is = let none : take_from next_token (array es) ≡ None = rw next_is_no_place refl in cc
 next_untaken (object ms) ds is = option_map_some _ (get_member next_token ms) (array ds) is (λ c at whole. cc)
 next_untaken p ds is = cc
 

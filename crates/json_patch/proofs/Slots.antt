@@ -6,6 +6,7 @@ use Rattle.std.proofs.lemmas.Slice.Eq.{bytes_eq-Decides}
 use Rattle.serde_json.specs.Data.{Data, array, object, Items, Members, put}
 use Rattle.serde_json.specs.Events.{items_len}
 use Rattle.serde_json.proofs.Views.{get_member-put, get_member-put_other}
+use Rattle.jsonptr.specs.PlaceLaws.{next_is_no_place}
 use Rattle.jsonptr.specs.Places.{place_of, next_token}
 use Rattle.json_patch.specs.Document.{IsDocument, Step, key, place, look, sight, standing}
 use Rattle.json_patch.specs.Resolve.{Aims}
@@ -34,12 +35,8 @@ slot_aims t ds i h = slot_at (bytes_eq t next_token) (place_of t) t ds i refl re
 fits : (i n : ℕ) → i ≤ n → leb i n ≡ true
 fits i n le = grind (arith, nat_tests)
 
-pub no_place : place_of next_token ≡ None
-unfolding place_of
-no_place = refl
-
 not_next : (b : Bool) (t : List ℕ) (i : ℕ) → bytes_eq t next_token ≡ b → place_of t ≡ Some i → b ≡ false
-not_next true t i is h = let e : t ≡ next_token = (bytes_eq-Decides t next_token).0 is in let p : place_of t ≡ None = ap place_of e ∙ no_place in cc
+not_next true t i is h = let e : t ≡ next_token = (bytes_eq-Decides t next_token).0 is in let p : place_of t ≡ None = ap place_of e ∙ next_is_no_place in cc
 not_next false t i is h = refl
 
 pub slot_some : (t : List ℕ) (ds : Items) (i : ℕ) → Aims (array ds) t (place i) → slot_of t ds ≡ Some i

@@ -19,10 +19,10 @@ use Rattle.json_patch.proofs.Resolved.{option_map_some, resolves_document, split
 use Rattle.json_patch.proofs.Altered.{IsAltered, altered_is}
 use Rattle.json_patch.proofs.Found.{found_resolves, resolves_found}
 use Rattle.json_patch.proofs.Removed.{TakesIn, take_from_takes, drop_document}
-use Rattle.json_patch.proofs.Slots.{no_place, put_in_puts, slot_aims, aims_within}
+use Rattle.json_patch.proofs.Slots.{put_in_puts, slot_aims, aims_within}
 use Rattle.json_patch.proofs.Walked.{front_append, last_append}
 use Rattle.json_patch.proofs.Level.{set_back, step_of_set, take_item, take_member, stands_one, put_taken}
-use Rattle.jsonptr.proofs.PlaceTokens.{token_place}
+use Rattle.jsonptr.specs.PlaceLaws.{place_is_token, next_is_no_place}
 
 -- ---- pointers in two parts
 
@@ -87,7 +87,7 @@ altered_back f g d (t ∷ P) e hd back is =
 pub settled_place : (b : Bool) (t : List ℕ) (ds : Items) (i : ℕ) → bytes_eq t next_token ≡ b → Aims (array ds) t (place i) → place_of (if b then token_of (items_len ds) else t) ≡ Some i
 settled_place true t ds i is h =
     let e : t ≡ next_token = (bytes_eq-Decides t next_token).0 is in
-    ⊎_elim (λ a. (let x : place_of t ≡ None = ap place_of e ∙ no_place in let y : place_of t ≡ Some i = a.0 in cc)) (λ a. token_place (items_len ds) ∙ ap Some (sym a.1)) h
+    ⊎_elim (λ a. (let x : place_of t ≡ None = ap place_of e ∙ next_is_no_place in let y : place_of t ≡ Some i = a.0 in cc)) (λ a. (place_is_token (token_of (items_len ds)) (items_len ds)).1 refl ∙ ap Some (sym a.1)) h
 settled_place false t ds i is h =
     ⊎_elim (λ a. a.0) (λ a. (let x : bytes_eq t next_token ≡ true = (bytes_eq-Decides t next_token).1 a.0 in cc)) h
 

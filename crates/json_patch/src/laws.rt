@@ -7,6 +7,5 @@ pub mod equality;
 pub mod inverse;
 pub mod locality;
 pub mod merging;
-pub mod places;
 pub mod runs;
 pub mod values;

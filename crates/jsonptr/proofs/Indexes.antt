@@ -14,8 +14,9 @@ use Rattle.jsonptr.specs.declared.index.Index.TheVariants.{Num, Next}
 use Rattle.jsonptr.specs.declared.index.Index.{Index}
 use Rattle.jsonptr.specs.declared.index.ParseIndexError.TheVariants.{InvalidInteger, LeadingZeros, InvalidCharacter}
 use Rattle.jsonptr.specs.declared.index.ParseIndexError.{ParseIndexError}
-use Rattle.jsonptr.proofs.PlaceTexts.{Tells, tells, tells_back}
-use Rattle.jsonptr.proofs.Texts.{NoTilde-from, decoded-NoTilde, decoded-encoded, encoded-digit}
+use Rattle.jsonptr.specs.PlaceLaws.{Tells, tells, tells_back, next_is_no_place}
+use Rattle.jsonptr.specs.TextLaws.{decoded-encoded}
+use Rattle.jsonptr.proofs.Texts.{NoTilde-from, decoded-NoTilde, encoded-digit}
 
 abbrev IsDigits : List ℕ → Type 0
 IsDigits ds = (i : ℕ) → i < length ds → IsInRange 48 57 (get_or ds i 0)
@@ -40,21 +41,16 @@ place_of-digits t d some z = tells_back t (digits_value 10 t) (record {
 place_digits : (t : List ℕ) (i : ℕ) → place_of t ≡ Some i → IsDigits t
 place_digits t i h = let w : Tells t i = tells t i h in numerals.from t (by_test.to t w.digits)
 
-pub place_of-next : place_of next_token ≡ None
-unfolding place_of
-place_of-next = refl
-
 -- a place is written otherwise than `-`
 pub place_other : (t : List ℕ) (i : ℕ) → place_of t ≡ Some i → t ≢ next_token
-place_other t i h is = let none : place_of t ≡ None = ap place_of is ∙ place_of-next in cc
+place_other t i h is = let none : place_of t ≡ None = ap place_of is ∙ next_is_no_place in cc
 
 -- ---- a text of digits
 
 pub index_ok : (t : List ℕ) (n : ℕ) → IsDigits t → ¬ HasLeadingZero t → ParsesUnsigned {E = ℕ} 64 10 t (Ok n) → IsIndexText t (Num n)
 index_ok t n d z h =
     let r = parse_digits numerals {E = ℕ} 64 t (Ok n) h d in
-    let place : place_of t ≡ Some n = place_of-digits t d r.0.0 z ∙ ap Some (sym r.1) in
-    (place, omega (arith, r.0.1, r.1), place_other t n place)
+    (place_of-digits t d r.0.0 z ∙ ap Some (sym r.1), omega (arith, r.0.1, r.1))
 
 empty : (t : List ℕ) → length t ≡ 0 → t ≡ []
 empty [] h = refl
@@ -99,7 +95,7 @@ token_index d (Num n) h =
     let same : encoded d ≡ d = sym (decoded-digits (encoded d) (place_digits (encoded d) n h.0)) ∙ decoded-encoded d in
     subst (λ t. IsIndexText t (Num n)) same h
 token_index d Next h =
-    let same : encoded d ≡ d = h.0 ∙ sym (ap decoded h.0) ∙ decoded-encoded d in subst (λ t. IsIndexText t Next) same h
+    sym (decoded-encoded d) ∙ ap decoded h
 
 token_none : (d : List ℕ) → IsNoIndexText (encoded d) → IsNoIndexText d
 token_none d h = record {

@@ -5,7 +5,8 @@ use Rattle.std.specs.declared.alloc.Global.{Global}
 use Rattle.jsonptr.specs.Text.{encoded, text_of}
 use Rattle.jsonptr.specs.Scanning.{tokens_of_text, ReadsBack}
 use Rattle.jsonptr.specs.Owned.{owned_text}
-use Rattle.jsonptr.proofs.Texts.{push_valid, push_tokens, tokens_of_text-text_of}
+use Rattle.jsonptr.specs.TextLaws.{tokens_of_text-text_of}
+use Rattle.jsonptr.proofs.Texts.{push_valid, push_tokens}
 
 pub pushed_valid : (o : Option (String Global)) (t raw s' : List ℕ) → owned_text o ≡ t → s' ≡ t ++ 47 ∷ encoded raw → ReadsBack (owned_text o) → ReadsBack s'
 pushed_valid o t raw s' a e v = subst ReadsBack (sym e) (push_valid t raw (subst ReadsBack a v))

@@ -1,7 +1,6 @@
 -- The texts of pointers and their tokens.
-use Rattle.std.proofs.Common.{take_all, length-append, take-append-drop, ◌≡◌, ℕ, ◌+◌, ◌<◌, ◌≤◌, Bool, true, false, cond, eqb, List, [], ◌∷◌, ◌++◌, length, get_or, take, drop, refl, sym, ap, ◌∙◌, subst, inl, inr, ⊎_elim, append_assoc, append-nil, add-one, suc, zero, arith}
-use Rattle.std.specs.Prelude.{◌⊎◌}
-use Rattle.std.proofs.lemmas.Bool.{cases_eq, ne_eqb, eqb-false}
+use Rattle.std.proofs.Common.{take_all, length-append, take-append-drop, ◌≡◌, ℕ, ◌+◌, ◌<◌, ◌≤◌, Bool, true, false, cond, eqb, List, [], ◌∷◌, ◌++◌, length, get_or, take, drop, refl, sym, ap, ◌∙◌, subst, ⊎_elim, append_assoc, append-nil, suc, zero, arith}
+use Rattle.std.proofs.lemmas.Bool.{cases_eq, ne_eqb}
 use Rattle.std.specs.Prelude.{MatchOption, Option, Some, None, IfNone, Result, Ok, Err, OnErr}
 use Rattle.std.specs.List.{count_by}
 use Rattle.std.proofs.lemmas.Slice.Eq.{bytes_eq-Decides}
@@ -13,11 +12,11 @@ use Rattle.std.proofs.lemmas.List.Recursion.{is_count_by}
 use Rattle.std.specs.Str.{bytes_eq, NoCharPasses, IsCharBoundary}
 use Rattle.std.specs.Str.Pattern.{FindsChar, RFindsChar, SplitsAroundMatch, StripsPrefix, FindsTextPrefix}
 use Rattle.std.proofs.lemmas.Str.Pattern.{find_char, NoCharPasses-char, drop_at_char}
-use Rattle.jsonptr.specs.Faults.{IsBareTilde, BeginsWell, IsFault}
+use Rattle.jsonptr.specs.Faults.{IsFault}
 use Rattle.jsonptr.specs.declared.error.ParseError.{ParseError}
-use Rattle.jsonptr.specs.declared.error.ParseError.TheVariants.{NoLeadingSlash, InvalidEncoding}
 use Rattle.jsonptr.specs.Text.{encoded_byte, encoded, text_of, IsPrefix, IsNoPointerText}
-use Rattle.jsonptr.specs.Scanning.{after_tilde, put, decoded, scan, scanned, tokens_of_text, ReadsBack, IsEncoded, Starts, NoSlash, StartsEscape, Escaped}
+use Rattle.jsonptr.specs.TextLaws.{by_byte, tokens_of_text-append, scanned-NoSlash, tokens_of_text-one, Starts-text_of, NoSlash-encoded, decoded-encoded, unscanned-scanned, text_of-tokens_of_text, Escaped-append, Escaped-encoded, Escaped-text_of, one_pointer, pointer_has_no_fault}
+use Rattle.jsonptr.specs.Scanning.{after_tilde, put, decoded, tokens_of_text, ReadsBack, IsEncoded, Starts, NoSlash, StartsEscape, Escaped}
 
 pub if_none : {A : Type 0} {P : Type 0} (o : Option A) → P → IfNone o P
 if_none None p = p
@@ -27,101 +26,13 @@ pub on_err : {A E P : Type 0} (r : Result A E) → P → OnErr r P
 on_err (Ok x) p = tt
 on_err (Err e) p = p
 
--- ---- one byte: a byte is /, ~ or another
-
-by_byte : (P : ℕ → Type 0) → P 47 → P 126 → ((x : ℕ) → eqb x 47 ≡ false → eqb x 126 ≡ false → P x) → (x : ℕ) → P x
-by_byte P slash tilde other x =
-    ⊎_elim (λ e. subst P (sym e) slash)
-    (λ n. ⊎_elim (λ e. subst P (sym e) tilde) (λ m. other x (ne_eqb x 47 n) (ne_eqb x 126 m)) (cases_eq x 126))
-    (cases_eq x 47)
-
-by_escape : (P : ℕ → Type 0) → P 48 → P 49 → ((x : ℕ) → eqb x 49 ≡ false → eqb x 48 ≡ false → P x) → (x : ℕ) → P x
-by_escape P zero_ one other x =
-    ⊎_elim (λ e. subst P (sym e) zero_)
-    (λ n. ⊎_elim (λ e. subst P (sym e) one) (λ m. other x (ne_eqb x 49 m) (ne_eqb x 48 n)) (cases_eq x 49))
-    (cases_eq x 48)
-
--- ---- the tokens of a text in two parts
-
-scanned-Starts : (r : List ℕ) → Starts r → (scanned r).0 ≡ []
-scanned-Starts [] h = refl
-scanned-Starts (x ∷ t) h = rw h refl
-
-pub scanned-append : (a r : List ℕ) → Starts r → scanned (a ++ r) ≡ ((scanned a).0, (scanned a).1 ++ (scanned r).1)
-scanned-append [] r h = let e : (scanned r).0 ≡ [] = scanned-Starts r h in ap (λ c. (c, (scanned r).1)) e
-scanned-append (x ∷ a) r h = rw (scanned-append a r h) (by_byte
-    (λ y. scan y ((scanned a).0, (scanned a).1 ++ (scanned r).1) ≡ ((scan y (scanned a)).0, (scan y (scanned a)).1 ++ (scanned r).1))
-    refl refl (λ y n m. rw (n, m) refl) x)
-
-pub tokens_of_text-append : (a r : List ℕ) → Starts r → tokens_of_text (a ++ r) ≡ tokens_of_text a ++ tokens_of_text r
-tokens_of_text-append a r h = ap (λ s. s.1) (scanned-append a r h)
-
-pub scanned-NoSlash : (e : List ℕ) → NoSlash e → scanned e ≡ (decoded e, [])
-scanned-NoSlash [] h = refl
-scanned-NoSlash (x ∷ e) h = rw (scanned-NoSlash e h.1, ne_eqb x 47 h.0) refl
-
-pub tokens_of_text-one : (e : List ℕ) → NoSlash e → tokens_of_text (47 ∷ e) ≡ decoded e ∷ []
-tokens_of_text-one e h = rw (scanned-NoSlash e h) refl
-
--- ---- a text of tokens
-
-pub Starts-text_of : (P : List (List ℕ)) → Starts (text_of P)
-Starts-text_of [] = tt
-Starts-text_of (t ∷ P) = refl
-
-NoSlash-append : (a b : List ℕ) → NoSlash a → NoSlash b → NoSlash (a ++ b)
-NoSlash-append [] b h k = k
-NoSlash-append (x ∷ a) b h k = (h.0, NoSlash-append a b h.1 k)
-
-NoSlash-encoded_byte : (x : ℕ) → NoSlash (encoded_byte x)
-NoSlash-encoded_byte = by_byte (λ x. NoSlash (encoded_byte x))
-    (omega arith, (omega arith, tt)) (omega arith, (omega arith, tt))
-    (λ x n m. rw (n, m) (eqb-false x 47 n, tt))
-
-pub NoSlash-encoded : (t : List ℕ) → NoSlash (encoded t)
-NoSlash-encoded [] = tt
-NoSlash-encoded (x ∷ t) = NoSlash-append (encoded_byte x) (encoded t) (NoSlash-encoded_byte x) (NoSlash-encoded t)
-
-decoded-byte : (r : List ℕ) (x : ℕ) → decoded (encoded_byte x ++ r) ≡ x ∷ decoded r
-decoded-byte r = by_byte (λ x. decoded (encoded_byte x ++ r) ≡ x ∷ decoded r)
-    refl refl (λ x n m. rw (n, m, m) refl)
-
-pub decoded-encoded : (t : List ℕ) → decoded (encoded t) ≡ t
-decoded-encoded [] = refl
-decoded-encoded (x ∷ t) = decoded-byte (encoded t) x ∙ ap (λ r. x ∷ r) (decoded-encoded t)
-
--- the tokens of a text give the text, and the text gives the tokens
-pub tokens_of_text-text_of : (P : List (List ℕ)) → tokens_of_text (text_of P) ≡ P
-tokens_of_text-text_of [] = refl
-tokens_of_text-text_of (t ∷ P) =
-    tokens_of_text-append (47 ∷ encoded t) (text_of P) (Starts-text_of P)
-    ∙ ap (λ a. a ++ tokens_of_text (text_of P)) (tokens_of_text-one (encoded t) (NoSlash-encoded t))
-    ∙ rw (decoded-encoded t, tokens_of_text-text_of P) refl
+-- a text with a fault is no pointer's
+pub no_pointer : (t : List ℕ) (e : ParseError) → IsFault t e → IsNoPointerText t
+no_pointer t e f P is = pointer_has_no_fault P e (subst (λ s. IsFault s e) (sym is) f)
 
 pub text_of-append : (P Q : List (List ℕ)) → text_of (P ++ Q) ≡ text_of P ++ text_of Q
 text_of-append [] Q = refl
 text_of-append (t ∷ P) Q = rw (text_of-append P Q, append_assoc (encoded t) (text_of P) (text_of Q)) refl
-
--- ---- a text with its escapes
-
--- a text is what it was scanned to
-abbrev pub unscanned : List ℕ × List (List ℕ) → List ℕ
-unscanned s = encoded s.0 ++ text_of s.1
-
-unscanned-tilde : (t : List ℕ) → StartsEscape t → unscanned (scan 126 (scanned t)) ≡ 126 ∷ unscanned (scanned t)
-unscanned-tilde [] h = absurd h
-unscanned-tilde (y ∷ t) h = ⊎_elim (λ e. rw e refl) (λ e. rw e refl) h
-
-pub unscanned-scanned : (t : List ℕ) → Escaped t → unscanned (scanned t) ≡ t
-unscanned-scanned [] h = refl
-unscanned-scanned (x ∷ t) h =
-    let P : ℕ → Type 0 = λ y. (y ≡ 126 → StartsEscape t) → unscanned (scan y (scanned t)) ≡ y ∷ unscanned (scanned t) in
-    by_byte P (λ k. refl) (λ k. unscanned-tilde t (k refl)) (λ y n m k. rw (n, m, n, m) refl) x h.0
-    ∙ ap (λ r. x ∷ r) (unscanned-scanned t h.1)
-
-pub text_of-tokens_of_text : (t : List ℕ) → Starts t → Escaped t → text_of (tokens_of_text t) ≡ t
-text_of-tokens_of_text t s h =
-    (let e : (scanned t).0 ≡ [] = scanned-Starts t s in ap (λ c. encoded c ++ text_of (scanned t).1) (sym e)) ∙ unscanned-scanned t h
 
 pub encoded-decoded : (e : List ℕ) → NoSlash e → Escaped e → encoded (decoded e) ≡ e
 encoded-decoded e n h = rw (scanned-NoSlash e n, append-nil (encoded (decoded e))) at (unscanned-scanned e h)
@@ -140,73 +51,6 @@ Escaped-left (x ∷ a) r s h = (λ e. StartsEscape-left a r s (h.0 e), Escaped-l
 pub Escaped-right : (a r : List ℕ) → Escaped (a ++ r) → Escaped r
 Escaped-right [] r h = h
 Escaped-right (x ∷ a) r h = Escaped-right a r h.1
-
-StartsEscape-more : (a r : List ℕ) → StartsEscape a → StartsEscape (a ++ r)
-StartsEscape-more [] r h = absurd h
-StartsEscape-more (y ∷ a) r h = h
-
-pub Escaped-append : (a r : List ℕ) → Escaped a → Escaped r → Escaped (a ++ r)
-Escaped-append [] r h k = k
-Escaped-append (x ∷ a) r h k = (λ e. StartsEscape-more a r (h.0 e), Escaped-append a r h.1 k)
-
-Escaped-encoded_byte : (x : ℕ) → Escaped (encoded_byte x)
-Escaped-encoded_byte = by_byte (λ x. Escaped (encoded_byte x))
-    (λ e. inr refl, (λ e. absurd (omega arith), tt)) (λ e. inl refl, (λ e. absurd (omega arith), tt))
-    (λ x n m. rw (n, m) (λ e. absurd (eqb-false x 126 m e), tt))
-
-pub Escaped-encoded : (t : List ℕ) → Escaped (encoded t)
-Escaped-encoded [] = tt
-Escaped-encoded (x ∷ t) = Escaped-append (encoded_byte x) (encoded t) (Escaped-encoded_byte x) (Escaped-encoded t)
-
-pub Escaped-text_of : (P : List (List ℕ)) → Escaped (text_of P)
-Escaped-text_of [] = tt
-Escaped-text_of (t ∷ P) = (λ e. absurd (omega arith), Escaped-append (encoded t) (text_of P) (Escaped-encoded t) (Escaped-text_of P))
-
--- ---- the same by the index
-
-bare_at_next : (x k : ℕ) (t : List ℕ) → IsBareTilde t k → IsBareTilde (x ∷ t) (suc k)
-bare_at_next x k t h = rw (add-one (suc k)) (omega arith, h.1, rw (add-one k) at h.2, rw (add-one k) at h.3)
-
-StartsEscape-from : (t : List ℕ) → (get_or t 0 0 ≡ 48) ⊎ (get_or t 0 0 ≡ 49) → StartsEscape t
-StartsEscape-from [] h = ⊎_elim (λ e. absurd (omega arith)) (λ e. absurd (omega arith)) h
-StartsEscape-from (y ∷ t) h = h
-
-StartsEscape-reads : (t : List ℕ) → StartsEscape t → (get_or t 0 0 ≡ 48) ⊎ (get_or t 0 0 ≡ 49)
-StartsEscape-reads [] h = absurd h
-StartsEscape-reads (y ∷ t) h = h
-
-Escaped-from_none : (t : List ℕ) → ((k : ℕ) → k < length t → ¬ IsBareTilde t k) → Escaped t
-Escaped-from_none [] h = tt
-Escaped-from_none (x ∷ t) h = (
-  (λ e. StartsEscape-from t (⊎_elim inl (λ n. ⊎_elim inr (λ m. absurd (h 0 (omega arith) (omega arith, e, n, m))) (cases_eq (get_or t 0 0) 49)) (cases_eq (get_or t 0 0) 48))),
-  Escaped-from_none t (λ k l b. h (suc k) (omega arith) (bare_at_next x k t b)),
-)
-
-pub Escaped-not_bare : (t : List ℕ) (k : ℕ) → Escaped t → ¬ IsBareTilde t k
-Escaped-not_bare [] k h b = absurd (omega arith)
-Escaped-not_bare (x ∷ t) zero h b = ⊎_elim b.2 b.3 (StartsEscape-reads t (h.0 b.1))
-Escaped-not_bare (x ∷ t) (suc k) h b =
-    Escaped-not_bare t k h.1 (omega arith, b.1, rw (add-one k) (rw (add-one (suc k)) at b.2), rw (add-one k) (rw (add-one (suc k)) at b.3))
-
-pub Starts-from : (t : List ℕ) → BeginsWell t → Starts t
-Starts-from [] h = tt
-Starts-from (x ∷ t) h = h (omega arith)
-
-pub BeginsWell-from : (t : List ℕ) → Starts t → BeginsWell t
-BeginsWell-from [] h l = absurd (omega arith)
-BeginsWell-from (x ∷ t) h l = h
-
-pub text_of-none : (t : List ℕ) → BeginsWell t → ((k : ℕ) → k < length t → ¬ IsBareTilde t k) → text_of (tokens_of_text t) ≡ t
-text_of-none t b h = text_of-tokens_of_text t (Starts-from t b) (Escaped-from_none t h)
-
--- the text of a list of tokens has no fault
-pub text_of-has_no_fault : (P : List (List ℕ)) (e : ParseError) → ¬ IsFault (text_of P) e
-text_of-has_no_fault P NoLeadingSlash f = f.1 (BeginsWell-from (text_of P) (Starts-text_of P) f.0)
-text_of-has_no_fault P (InvalidEncoding i) f = Escaped-not_bare (text_of P) i (Escaped-text_of P) f.1
-
--- a text with a fault is no pointer's
-pub no_pointer : (t : List ℕ) (e : ParseError) → IsFault t e → IsNoPointerText t
-no_pointer t e f P is = text_of-has_no_fault P e (subst (λ s. IsFault s e) (sym is) f)
 
 -- ---- the parts of a pointer's text
 
@@ -366,6 +210,12 @@ tilde_cuts t f e (i, j, finds, front, back, le, flen, blen) = record {
   none = NoTilde-from f (λ k l. NoCharPasses-char 126 f k (subst (NoCharPasses (λ d. eqb d 126)) (sym front) finds.0) (omega arith) l);
 }
 
+by_escape : (P : ℕ → Type 0) → P 48 → P 49 → ((x : ℕ) → eqb x 49 ≡ false → eqb x 48 ≡ false → P x) → (x : ℕ) → P x
+by_escape P zero_ one other x =
+    ⊎_elim (λ e. subst P (sym e) zero_)
+    (λ n. ⊎_elim (λ e. subst P (sym e) one) (λ m. other x (ne_eqb x 49 m) (ne_eqb x 48 n)) (cases_eq x 49))
+    (cases_eq x 48)
+
 put-other : (x : ℕ) (t : List ℕ) → eqb x 126 ≡ false → put x t ≡ x ∷ t
 put-other x t m = rw (m, put) refl
 
@@ -468,11 +318,7 @@ pub push_tokens : (t raw : List ℕ) → tokens_of_text (t ++ 47 ∷ encoded raw
 push_tokens t raw = tokens_of_text-append t (47 ∷ encoded raw) refl
     ∙ ap (λ a. tokens_of_text t ++ a) (tokens_of_text-one (encoded raw) (NoSlash-encoded raw) ∙ ap (λ d. d ∷ []) (decoded-encoded raw))
 
--- a text has one list of tokens
-pub text_of-injective : (P Q : List (List ℕ)) → text_of P ≡ text_of Q → P ≡ Q
-text_of-injective P Q e = sym (tokens_of_text-text_of P) ∙ ap tokens_of_text e ∙ tokens_of_text-text_of Q
-
 pub same_tokens : (P Q : List (List ℕ)) (r : Bool) → r ≡ bytes_eq (text_of P) (text_of Q) → (r ≡ true → P ≡ Q) × (P ≡ Q → r ≡ true)
 same_tokens P Q r e =
     let d = bytes_eq-Decides (text_of P) (text_of Q) in
-    ((λ h. text_of-injective P Q (d.0 (sym e ∙ h))), (λ h. e ∙ d.1 (ap text_of h)))
+    ((λ h. one_pointer P Q (d.0 (sym e ∙ h))), (λ h. e ∙ d.1 (ap text_of h)))

@@ -1,5 +1,5 @@
 -- The index that a text names in an array (RFC 6901, section 4).
-use Rattle.std.specs.Prelude.{◌≡◌, ℕ, List, [], ◌<◌, ◌≤◌, ◌^◌, ◌⊎◌, ◌≢◌, length, slice_index, Some, None}
+use Rattle.std.specs.Prelude.{◌≡◌, ℕ, List, [], ◌<◌, ◌≤◌, ◌^◌, ◌⊎◌, ◌≢◌, length, slice_index, Some}
 use Rattle.std.specs.Int.{IsInRange}
 use Rattle.jsonptr.specs.declared.index.Index.{Index}
 use Rattle.jsonptr.specs.declared.index.Index.TheVariants.{Num, Next}
@@ -10,8 +10,8 @@ use Rattle.jsonptr.specs.Places.{place_of, next_token}
 
 -- t names i: a place that a machine's number holds, or the place after the last
 abbrev pub IsIndexText : List ℕ → Index → Type 0
-IsIndexText t (Num n) = (place_of t ≡ Some n) × (n < 2 ^ 64) × (t ≢ next_token)
-IsIndexText t Next = (t ≡ next_token) × (place_of t ≡ None)
+IsIndexText t (Num n) = (place_of t ≡ Some n) × (n < 2 ^ 64)
+IsIndexText t Next = t ≡ next_token
 
 -- t names no index: it is not `-`, and no place that a machine's number holds
 pub record IsNoIndexText (t : List ℕ) : Type 0 where

@@ -5,3 +5,5 @@ pub mod Faults
 pub mod Pointers
 pub mod Scanning
 pub mod Owned
+pub mod PlaceLaws
+pub mod TextLaws

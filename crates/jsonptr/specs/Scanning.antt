@@ -63,3 +63,13 @@ StartsEscape (y ∷ t) = (y ≡ 48) ⊎ (y ≡ 49)
 abbrev pub Escaped : List ℕ → Type 0
 Escaped [] = Unit {0}
 Escaped (x ∷ t) = (x ≡ 126 → StartsEscape t) × Escaped t
+
+-- ---- the tokens of two pointers
+
+-- P and Q begin with the same token, and A and B are what follows
+abbrev pub BeginSame : List (List ℕ) → List (List ℕ) → List (List ℕ) → List (List ℕ) → Type 0
+BeginSame P Q A B = (t : List ℕ) × (P ≡ t ∷ A) × (Q ≡ t ∷ B)
+
+-- they don't begin with the same token
+abbrev pub AreApart : List (List ℕ) → List (List ℕ) → Type 0
+AreApart P Q = (A B : List (List ℕ)) → ¬ BeginSame P Q A B

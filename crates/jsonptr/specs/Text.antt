@@ -36,6 +36,11 @@ IsPrefix P Q = (R : Pointer) × (Q ≡ P ++ R)
 abbrev pub IsProperPrefix : Pointer → Pointer → Type 0
 IsProperPrefix P Q = (t : List ℕ) × (R : Pointer) × (Q ≡ P ++ t ∷ R)
 
+-- S is the longest pointer whose tokens begin both those of P and those of Q
+abbrev pub IsLongestShared : Pointer → Pointer → Pointer → Type 0
+IsLongestShared P Q S =
+    IsPrefix S P × IsPrefix S Q × ((R : Pointer) → IsPrefix R P → IsPrefix R Q → IsPrefix R S)
+
 -- Q is P with t in place of its last token
 abbrev pub ReplacesLast : Pointer → List ℕ → Pointer → Type 0
 ReplacesLast P t Q =

@@ -1,6 +1,6 @@
 //! Tokens that name a place in an array (RFC 6901, section 4).
 
-ghost use Rattle.std.specs.Prelude.{◌≡◌, ◌≢◌, ℕ, ◌<◌, ◌≤◌, length, slice_index, IfOk, IfErr, OnOk, OnErr};
+ghost use Rattle.std.specs.Prelude.{◌≡◌, ◌≢◌, ℕ, ◌<◌, ◌≤◌, length, slice_index, IfOk, IfErr, OnOk, OnErr, IsTrue, ◌↔◌};
 ghost use Rattle.std.specs.Int.{IsInRange};
 ghost use Rattle.jsonptr.specs.Places.{next_token};
 ghost use Rattle.jsonptr.specs.Indexes.{IsIndexText, IsIndexFault, IsNoIndexText, HasLeadingZero, place_in, IsOutOfBounds};
@@ -101,7 +101,7 @@ fn check_digits(text: &str) -> Result<(), ParseIndexError>
     ensures fault { IfErr result (IsIndexFault text.now) }
 {
     let bytes = text.as_bytes();
-    if bytes.len() >= 2 && bytes[0] == b'0' {
+    if has_leading_zero(bytes) {
         return Err(ParseIndexError::LeadingZeros);
     }
     for (offset, byte) in bytes.iter().enumerate() {
@@ -110,4 +110,11 @@ fn check_digits(text: &str) -> Result<(), ParseIndexError>
         }
     }
     Ok(())
+}
+
+/// Whether two or more bytes stand there and the first is `0`.
+fn has_leading_zero(bytes: &[u8]) -> bool
+    ensures { IsTrue result ↔ HasLeadingZero bytes.now }
+{
+    bytes.len() >= 2 && bytes[0] == b'0'
 }

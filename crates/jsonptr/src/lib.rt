@@ -8,6 +8,7 @@
 mod buf;
 mod error;
 pub mod index;
+pub mod laws;
 mod pointer;
 mod token;
 

@@ -1,9 +1,9 @@
 //! A pointer that borrows its text.
 
 ghost use Rattle.std.specs.Prelude.{◌≡◌, ◌<◌, ◌^◌, length, slice_index, [], ◌∷◌, ◌++◌, IfOk, IfErr, OnErr, OnOk, IfSome, IfNone, IsTrue, ◌↔◌, ◌⊎◌};
-ghost use Rattle.jsonptr.specs.Text.{text_of, IsPrefix, IsNoPointerText};
+ghost use Rattle.jsonptr.specs.Text.{text_of, IsPrefix, IsLongestShared, IsNoPointerText};
 ghost use Rattle.jsonptr.specs.Faults.{IsFault};
-ghost use Rattle.jsonptr.specs.Scanning.{tokens_of_text, ReadsBack, NoSlash, Starts};
+ghost use Rattle.jsonptr.specs.Scanning.{tokens_of_text, ReadsBack, NoSlash, Starts, BeginSame, AreApart};
 
 use crate::{ParseError, PointerBuf, Token, Tokens};
 use std::alloc::{AllocError, Global};
@@ -172,6 +172,37 @@ impl<'a> Pointer<'a> {
         } else {
             None
         }
+    }
+
+    /// The longest pointer with which this one and `other` both start. It goes by tokens: `/ab` and
+    /// `/a` share the root alone.
+    pub fn shared_with(&self, other: Pointer) -> Pointer<'a>
+        ensures { IsLongestShared (tokens_of self.now) (tokens_of other.entry) (tokens_of result) }
+    {
+        let mut rest = *self;
+        let mut others = other;
+        while let Some((left, right)) = rest.skip_same(&others) {
+            rest = left;
+            others = right;
+        }
+        let Some(text) = self.text.strip_suffix(rest.text) else {
+            unreachable!()
+        };
+        Pointer { text }
+    }
+
+    /// What is left of both pointers after their first token, where that is the same.
+    fn skip_same<'b>(&self, other: &Pointer<'b>) -> Option<(Pointer<'a>, Pointer<'b>)>
+        ensures same { IfSome result
+            (λ x. BeginSame (tokens_of self.now) (tokens_of other.now) (tokens_of x.0) (tokens_of x.1)) }
+        ensures apart { IfNone result (AreApart (tokens_of self.now) (tokens_of other.now)) }
+    {
+        let (first, rest) = self.split_front()?;
+        let (second, others) = other.split_front()?;
+        if first.encoded() != second.encoded() {
+            return None;
+        }
+        Some((rest, others))
     }
 }
 

@@ -189,6 +189,23 @@ fn prefixes_go_by_tokens(rt: HostRuntime) -> Result<(), Fail> {
 }
 
 #[test]
+fn the_longest_shared_pointer(rt: HostRuntime) -> Result<(), Fail> {
+    let cases = [
+        ("/a/b/c", "/a/b/d", "/a/b"),
+        ("/ab", "/a", ""),
+        ("/a", "/a", "/a"),
+        ("/a", "/a/b", "/a"),
+        ("//a", "//b", "/"),
+        ("/~1/a", "/~0/a", ""),
+    ];
+    for (text, other, shared) in cases {
+        let longest = Pointer::parse(text)?.shared_with(Pointer::parse(other)?);
+        assert_eq!(rt; longest.as_str(), shared, "{text} with {other}");
+    }
+    Ok(())
+}
+
+#[test]
 fn the_last_token_splits_off(rt: HostRuntime) -> Result<(), Fail> {
     for (text, front, last) in [("/a/b", "/a", "b"), ("/", "", ""), ("/a~1b", "", "a~1b")] {
         let (pointer, token) = Pointer::parse(text)?.split_back().ok_or("the root")?;

@@ -1,13 +1,7 @@
-use Rattle.std.proofs.Common.{rules, ◌≡◌, ◌∙◌, ap}
-use Rattle.jsonptr.specs.Places.{place_of, next_token}
 use Rattle.jsonptr.specs.declared.index.ParseIndexError.TheVariants.{InvalidInteger}
-use Rattle.jsonptr.proofs.Indexes.{index_ok, index_err, place_of-next, fault_names_none}
+use Rattle.jsonptr.proofs.Indexes.{index_ok, index_err, fault_names_none}
 use Rattle.jsonptr.proofs.Texts.{on_err}
 use Rattle.jsonptr.proofs.index.Index.parse.Goals as goal
-
-pub returns-then-eq-clause-index : goal.returns-then-eq-clause-index
-returns-then-eq-clause-index c =
-    let is : c.args.text.now ≡ next_token = search rules in (is, ap place_of is ∙ place_of-next)
 
 pub returns-in_err-check_digits-clause-no_index : goal.returns-in_err-check_digits-clause-no_index
 returns-in_err-check_digits-clause-no_index c = on_err _ (fault_names_none _ _ c.in_err-check_digits.ensures.fault)

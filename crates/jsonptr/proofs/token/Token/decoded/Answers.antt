@@ -2,7 +2,8 @@ use Rattle.std.proofs.Common.{◌++◌, sym, ap, ◌∙◌, refl, rules}
 use Rattle.std.specs.String.{string_bytes}
 use Rattle.jsonptr.specs.Pointers.{token_of}
 use Rattle.jsonptr.specs.Scanning.{decoded}
-use Rattle.jsonptr.proofs.Texts.{Escaped-encoded, decoded-encoded, tilde_cuts, tilde_none, escaped_after, Escaped-others, decoded_step, decoded-NoTilde, pushed}
+use Rattle.jsonptr.specs.TextLaws.{Escaped-encoded, decoded-encoded}
+use Rattle.jsonptr.proofs.Texts.{tilde_cuts, tilde_none, escaped_after, Escaped-others, decoded_step, decoded-NoTilde, pushed}
 use Rattle.jsonptr.proofs.token.Token.decoded.Goals as goal
 
 pub loop-plain-init : goal.loop-plain-init

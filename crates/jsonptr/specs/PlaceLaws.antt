@@ -1,14 +1,57 @@
--- The token of a place names it.
-use Rattle.std.proofs.Common.{◌≡◌, ℕ, zero, suc, ◌+◌, ◌*◌, ◌/◌, ◌%◌, ◌<◌, ◌≤◌, ◌^◌, ⊎_elim, ◌++◌, append-nil, append_assoc, List, [], ◌∷◌, map, length, get_or, true, Some, decimal, refl, sym, ap, ap₂, ◌∙◌, arith, lt-ltb, le-ltb}
+-- Laws of the places that tokens name, for the proofs above this crate to cite: the last section,
+-- which the module `laws` has as contracts.
+use Rattle.std.proofs.Common.{◌≡◌, ℕ, zero, suc, ◌+◌, ◌*◌, ◌/◌, ◌%◌, ◌<◌, ◌≤◌, ◌^◌, ⊎_elim, ◌++◌, append-nil, append_assoc, List, [], ◌∷◌, map, length, get_or, Bool, true, false, not, ◌&&◌, ◌||◌, ◌==◌, nat_lt, if◌then◌else◌, Some, None, decimal, refl, sym, ap, ap₂, ◌∙◌, arith, lt-ltb, le-ltb}
+use Rattle.std.specs.Prelude.{◌↔◌}
 use Rattle.std.proofs.lemmas.Bool.{cases_eq, and_parts}
 use Rattle.std.proofs.lemmas.Bool.Decides.{nat_tests}
+use Rattle.std.proofs.lemmas.Fmt.{decimal-digits_of, decimal_digit}
 use Rattle.std.proofs.lemmas.Int.Digits.{digits_value_is, all_below_base_digits_of, first_digits_of, number_digits_of, digits_of_step}
 use Rattle.std.specs.Char.{digit_value, is_ascii_digit}
 use Rattle.std.specs.Int.Digits.{AllBelowBase, number_from_digits, number_from_digits_after, digits_of}
 use Rattle.std.specs.Str.{all_ascii_digits}
 use Rattle.std.specs.Str.Parse.{digits_value}
-use Rattle.jsonptr.specs.Places.{place_of, token_of}
-use Rattle.jsonptr.proofs.PlaceTexts.{Tells, tells, tells_back, place_decimal}
+use Rattle.jsonptr.specs.Places.{place_of, token_of, next_token}
+
+-- ---- what is told by a place
+
+pub record Tells (t : List ℕ) (i : ℕ) : Type 0 where
+  pub digits : all_ascii_digits t ≡ true
+  pub nonempty : 0 < length t
+  pub first : get_or t 0 0 ≡ 48 → length t ≡ 1
+  pub value : digits_value 10 t ≡ i
+
+test : (b : Bool) (v i : ℕ) → (if b then Some v else None) ≡ Some i → (b ≡ true) × (v ≡ i)
+test true v i h = (refl, cc)
+test false v i h = cc
+
+both : (a b : Bool) → a && b ≡ true → (a ≡ true) × (b ≡ true)
+both true b h = (refl, h)
+both false b h = cc
+
+above : (n : ℕ) → nat_lt 0 n ≡ true → 0 < n
+above n h = grind (arith, nat_tests)
+
+first_of : (n x : ℕ) → (n == 1 || not (x == 48)) ≡ true → x ≡ 48 → n ≡ 1
+first_of n x h e = grind (arith, nat_tests)
+
+told : (n x : ℕ) → 0 < n → (x ≡ 48 → n ≡ 1) → (nat_lt 0 n ≡ true) × ((n == 1 || not (x == 48)) ≡ true)
+told n x h k = (grind (arith, nat_tests), grind (arith, nat_tests))
+
+pub tells : (t : List ℕ) (i : ℕ) → place_of t ≡ Some i → Tells t i
+unfolding place_of
+tells t i h =
+    let a = test _ _ _ h in
+    let b = both _ _ a.0 in
+    let c = both _ _ b.0 in
+    record { digits = c.0; nonempty = above (length t) c.1; first = first_of (length t) (get_or t 0 0) b.1; value = a.1 }
+
+pub tells_back : (t : List ℕ) (i : ℕ) → Tells t i → place_of t ≡ Some i
+unfolding place_of
+tells_back t i h =
+    let k : (nat_lt 0 (length t) ≡ true) × ((length t == 1 || not (get_or t 0 0 == 48)) ≡ true) = told (length t) (get_or t 0 0) h.nonempty h.first in
+    rw (h.digits, k.0, k.1) (ap Some h.value)
+
+-- ---- the token of a place names it
 
 glyph : (x : ℕ) → x < 10 → digit_value (48 + x) ≡ x
 glyph x h = rw (le-ltb (48 + x) 48 (omega arith), lt-ltb (48 + x) 58 (omega arith)) (omega arith)
@@ -37,7 +80,7 @@ value n =
     digits_value_is 10 (map (λ x. 48 + x) (digits_of 10 n)) ∙ ap (number_from_digits 10) (glyphs (digits_of 10 n) (all_below_base_digits_of 10 n (omega arith)))
     ∙ number_digits_of 10 n (omega arith)
 
-pub token_place : (i : ℕ) → place_of (token_of i) ≡ Some i
+token_place : (i : ℕ) → place_of (token_of i) ≡ Some i
 unfolding place_of
 token_place zero = refl
 token_place (suc n) =
@@ -45,10 +88,6 @@ token_place (suc n) =
     let first : 0 < get_or ds 0 0 = first_digits_of 10 (suc n) (omega arith) (omega arith) in
     tells_back (map (λ x. 48 + x) ds) (suc n)
     (record { digits = are_glyphs ds (all_below_base_digits_of 10 (suc n) (omega arith)); nonempty = some ds first; first = begin ds first; value = value (suc n) })
-
--- it is what is printed for a machine's number
-pub token_decimal : (i : ℕ) → i < 2 ^ 64 → token_of i ≡ decimal i
-token_decimal i small = place_decimal (token_of i) i small (token_place i)
 
 -- ---- no other token names it
 
@@ -112,5 +151,21 @@ token_value (c ∷ t) d some first =
     let above : 0 < digits_value 10 (c ∷ t) = above_zero (digits_value 10 (c ∷ t)) _ _ same in
     token_some (digits_value 10 (c ∷ t)) above ∙ ap (map (λ x. 48 + x)) same ∙ ap₂ (λ x xs. x ∷ xs) g.1 i.1)) (cases_eq c 48)
 
-pub place_token : (t : List ℕ) (i : ℕ) → place_of t ≡ Some i → t ≡ token_of i
+place_token : (t : List ℕ) (i : ℕ) → place_of t ≡ Some i → t ≡ token_of i
 place_token t i h = let w : Tells t i = tells t i h in sym (token_value t w.digits w.nonempty w.first) ∙ ap token_of w.value
+
+-- ---- the laws
+
+-- a token names a place exactly where it is that place's token
+pub place_is_token : (t : List ℕ) (i : ℕ) → (place_of t ≡ Some i) ↔ (t ≡ token_of i)
+place_is_token t i = (place_token t i, λ is. ap place_of is ∙ token_place i)
+
+-- the token of a machine's number is what is printed for it
+pub token_is_decimal : (i : ℕ) → i < 2 ^ 64 → token_of i ≡ decimal i
+token_is_decimal zero small = sym (decimal_digit 0 (omega arith))
+token_is_decimal (suc n) small = sym (decimal-digits_of (suc n) (omega arith) small)
+
+-- `-` names no place
+pub next_is_no_place : place_of next_token ≡ None
+unfolding place_of
+next_is_no_place = refl
