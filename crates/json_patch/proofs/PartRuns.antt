@@ -143,6 +143,12 @@ stripped_root (move F P) = refl
 stripped_root (copy F P) = refl
 stripped_root (test P v) = refl
 
+pub stripped_whole : (S : Pointer) (op : Operation) → S ≡ [] → stripped S op ≡ op
+stripped_whole S op root = ap (λ X. stripped X op) root ∙ stripped_root op
+
+pub step_whole : {T : Type 0} (r : Result T StepFault) (d new : Data) (S : Pointer) (op : Operation) → S ≡ [] → Steps r (stepped d (stripped S op)) new → Steps r (stepped d op) new
+step_whole r d new S op root h = subst (λ o. Steps r (stepped d o) new) (stripped_whole S op root) h
+
 all_stripped_root : (ops : List Operation) → stripped_all [] ops ≡ ops
 all_stripped_root [] = refl
 all_stripped_root (op ∷ ops) = ap (λ x. x ∷ stripped_all [] ops) (stripped_root op) ∙ ap (λ xs. op ∷ xs) (all_stripped_root ops)
@@ -163,6 +169,9 @@ root_begins (test P v) = (P, refl)
 root_begins_all : (ops : List Operation) → AreBegun [] ops
 root_begins_all [] = tt
 root_begins_all (op ∷ ops) = (root_begins op, root_begins_all ops)
+
+pub begun_whole : (S : Pointer) (op : Operation) → S ≡ [] → IsBegun S op
+begun_whole S op root = subst (λ X. IsBegun X op) (sym root) (root_begins op)
 
 pub whole_begun : (S : Pointer) (ops : List Operation) → S ≡ [] → AreBegun S ops
 whole_begun S ops root = subst (λ X. AreBegun X ops) (sym root) (root_begins_all ops)
@@ -222,7 +231,7 @@ whole_at (x ∷ os) (suc k) o less is h = whole_at os k o (omega arith) is h.1
 -- ---- a run of one operation
 
 one_made : (r : Result Data PatchErrorKind) (e : Data) → ran_on r (λ m. Ok m) ≡ Ok e → r ≡ Ok e
-one_made (Ok m) e h = h
+one_made (Ok m) e h = let same : m ≡ e = cc in ap Ok same
 one_made (Err kind) e h = cc
 
 one_refused : (r : Result Data PatchErrorKind) (k : ℕ) (kind : PatchErrorKind) → ran_on r (λ m. Ok m) ≡ Err (fault k kind) → r ≡ Err kind

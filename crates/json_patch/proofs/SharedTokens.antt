@@ -1,7 +1,7 @@
 -- The tokens that a list shares are those that are computed.
 use Rattle.std.proofs.Common.{◌≡◌, ◌↔◌, ◌+◌, ◌<◌, ◌≤◌, ℕ, zero, suc, List, [], ◌∷◌, ◌++◌, length, drop, add-one, arith, append_assoc, append-nil, Bool, true, false, bytes_eq, if◌then◌else◌, Option, Some, None, IfNone, refl, sym, ap, ◌∙◌, subst}
 use Rattle.std.proofs.lemmas.Slice.Eq.{bytes_eq-Decides}
-use Rattle.jsonptr.specs.Text.{Pointer, IsPrefix, IsProperPrefix}
+use Rattle.jsonptr.specs.Text.{Pointer, IsPrefix, IsProperPrefix, IsLongestShared}
 use Rattle.json_patch.specs.Operation.{Operation, add, remove, replace, move, copy, test, operation_of, operations, path_of}
 use Rattle.json_patch.specs.PartRun.{IsLongest, from_of}
 use Rattle.json_patch.specs.declared.operation.PatchOperation.{PatchOperation}
@@ -203,17 +203,11 @@ parent_longest op A a none is = λ T.
     let w = alone_within T op none in
     (λ h. proper_prefix T A a (subst (IsProperPrefix T) is (w.0 h)), λ h. w.1 (subst (IsProperPrefix T) (sym is) (prefix_proper T A a h)))
 
--- C is the longest beginning of both
-pub record IsMeet (A B C : Pointer) : Type 0 where
-  pub first : IsPrefix C A
-  pub second : IsPrefix C B
-  pub longest : (T : Pointer) → IsPrefix T A → IsPrefix T B → IsPrefix T C
-
-pub both_longest : (op : Operation) (F A B C : Pointer) (a b : List ℕ) → from_of op ≡ Some F → path_of op ≡ A ++ a ∷ [] → F ≡ B ++ b ∷ [] → IsMeet A B C → IsLongest (λ T. IsWithin T op) C
+pub both_longest : (op : Operation) (F A B C : Pointer) (a b : List ℕ) → from_of op ≡ Some F → path_of op ≡ A ++ a ∷ [] → F ≡ B ++ b ∷ [] → IsLongestShared A B C → IsLongest (λ T. IsWithin T op) C
 both_longest op F A B C a b some is at m = λ T.
     let w = both_within T F op some in (
-      λ h. m.longest T (proper_prefix T A a (subst (IsProperPrefix T) is (w.0 h).1)) (proper_prefix T B b (subst (IsProperPrefix T) at (w.0 h).0)),
-      λ h. w.1 (subst (IsProperPrefix T) (sym at) (prefix_proper T B b (prefix_trans T C B h m.second)), subst (IsProperPrefix T) (sym is) (prefix_proper T A a (prefix_trans T C A h m.first))),
+      λ h. m.2 T (proper_prefix T A a (subst (IsProperPrefix T) is (w.0 h).1)) (proper_prefix T B b (subst (IsProperPrefix T) at (w.0 h).0)),
+      λ h. w.1 (subst (IsProperPrefix T) (sym at) (prefix_proper T B b (prefix_trans T C B h m.1)), subst (IsProperPrefix T) (sym is) (prefix_proper T A a (prefix_trans T C A h m.0))),
     )
 
 -- ---- over a list of operations of the program: the first, and of the rest those before k, are gone over
@@ -231,12 +225,12 @@ within_at T (x ∷ os) zero o less is = (λ h. (subst (λ y. IsWithin T (operati
 within_at T (x ∷ os) (suc k) o less is = within_at T os k o (omega arith) is
 
 pub shares_more : (os rest : List PatchOperation) (k : ℕ) (o : PatchOperation) (S P C : Pointer) → k < length rest → IsAt rest k o → Shares os rest k S
-    → IsLongest (λ T. IsWithin T (operation_of o)) P → IsMeet S P C → Shares os rest (k + 1) C
+    → IsLongest (λ T. IsWithin T (operation_of o)) P → IsLongestShared S P C → Shares os rest (k + 1) C
 shares_more os rest k o S P C less is h p m =
     subst (λ n. Shares os rest n C) (sym (add-one k)) (λ T.
     let w = within_at T rest k o less is in (
-      λ a. let l = (h T).0 a in let i = w.0 l.1 in (m.longest T l.0 ((p T).0 i.0), i.1),
-      λ a. (h T).1 (prefix_trans T C S a.0 m.first, w.1 ((p T).1 (prefix_trans T C P a.0 m.second), a.1)),
+      λ a. let l = (h T).0 a in let i = w.0 l.1 in (m.2 T l.0 ((p T).0 i.0), i.1),
+      λ a. (h T).1 (prefix_trans T C S a.0 m.0, w.1 ((p T).1 (prefix_trans T C P a.0 m.1), a.1)),
     ))
 
 none_left : (T : Pointer) (os : List PatchOperation) (k : ℕ) → length os ≤ k → AreWithin T (drop k (operations os))

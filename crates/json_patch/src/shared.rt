@@ -3,7 +3,6 @@
 ghost use Rattle.std.specs.Prelude.{◌≡◌, ℕ, List, IfNone, IfSome, OnErr, alloc_error, option_map};
 ghost use Rattle.serde_json.specs.View.{view};
 ghost use Rattle.jsonptr.specs.Pointers.{tokens_left, tokens_of};
-ghost use Rattle.jsonptr.specs.Text.{IsPrefix};
 ghost use Rattle.json_patch.specs.Document.{IsDocument};
 ghost use Rattle.json_patch.specs.Operation.{AreWhole, operation_of, operations};
 ghost use Rattle.json_patch.specs.PartRun.{AreBegun, IsLongest, Runs, RunsAt, Stops, from_of};
@@ -143,7 +142,7 @@ fn shared_pointer(patch: &[PatchOperation]) -> Option<Pointer<'_>>
     let (first, rest) = patch.split_first()?;
     let mut shared = parent_of(first)?;
     for operation in rest {
-        shared = shared_with(shared, parent_of(operation)?);
+        shared = shared.shared_with(parent_of(operation)?);
     }
     Some(shared)
 }
@@ -159,7 +158,7 @@ fn parent_of(operation: &PatchOperation) -> Option<Pointer<'_>>
     match source_of(operation) {
         Some(from) => {
             let (source, _last) = from.split_back()?;
-            Some(shared_with(parent, source))
+            Some(parent.shared_with(source))
         }
         None => Some(parent),
     }
@@ -177,14 +176,4 @@ fn source_of(operation: &PatchOperation) -> Option<Pointer<'_>>
         | PatchOperation::Replace(_)
         | PatchOperation::Test(_) => None,
     }
-}
-
-fn shared_with<'a>(pointer: Pointer<'a>, other: Pointer<'_>) -> Pointer<'a>
-    ensures first { IsPrefix (tokens_of result) (tokens_of pointer.entry) }
-    ensures second { IsPrefix (tokens_of result) (tokens_of other.entry) }
-    ensures longest { (P : List (List ℕ)) → IsPrefix P (tokens_of pointer.entry)
-        → IsPrefix P (tokens_of other.entry) → IsPrefix P (tokens_of result) }
-{
-    let _other = other;
-    pointer
 }

@@ -21,4 +21,6 @@ mod rfc6902;
 #[cfg(test)]
 mod runner;
 #[cfg(test)]
+mod shared;
+#[cfg(test)]
 mod worked;

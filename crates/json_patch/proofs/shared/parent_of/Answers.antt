@@ -16,7 +16,7 @@ pub returns-in_ok-source-in-Some-clause-shared : goal.returns-in_ok-source-in-So
 returns-in_ok-source-in-Some-clause-shared c =
     let m = c.shared_with.ensures in
     both_longest (operation_of c.args.operation.now) (tokens_of c.in-Some.from) (tokens_of c.in_ok-parent.parent) (tokens_of c.in_ok-source-in-Some.source) (tokens_of c.shared_with.result) (token_of c.in_ok-parent._last) (token_of c.in_ok-source-in-Some._last)
-    (sym c.in-Some.ensures) (sym c.path.ensures ∙ c.in_ok-parent.ensures.last) c.in_ok-source-in-Some.ensures.last (record { first = m.first; second = m.second; longest = m.longest })
+    (sym c.in-Some.ensures) (sym c.path.ensures ∙ c.in_ok-parent.ensures.last) c.in_ok-source-in-Some.ensures.last m
 
 pub returns-in-None-clause-shared : goal.returns-in-None-clause-shared
 returns-in-None-clause-shared c =

@@ -18,7 +18,7 @@ pub loop-operation-preserved : goal.loop-operation-preserved
 loop-operation-preserved c =
     let m = c.shared_with-shared.ensures in
     shares_more c.args.patch.now c.in_ok-first.rest.now c.loop-operation.operation-index c.operation-item.result (tokens_of c.loop-operation.shared) (tokens_of c.in_ok-parent_of.field-0) (tokens_of c.shared_with-shared.result)
-    c.loop-operation-test.true c.operation-item.is c.loop-operation.invariant c.in_ok-parent_of.ensures.shared (record { first = m.first; second = m.second; longest = m.longest })
+    c.loop-operation-test.true c.operation-item.is c.loop-operation.invariant c.in_ok-parent_of.ensures.shared m
 
 pub returns-clause-shared : goal.returns-clause-shared
 returns-clause-shared c =
