@@ -23,8 +23,7 @@ use crate::walk::StepFault;
 use jsonptr::Pointer;
 use serde_json::Value;
 use std::alloc::Global;
-use std::mem;
-use std::slice;
+use std::{mem, slice};
 
 /// Applies the operations one after another, or none of them: they are made on a copy of the
 /// document, which takes its place at the end. A refused patch leaves the document as it was, and
