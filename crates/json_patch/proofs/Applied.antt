@@ -74,7 +74,7 @@ state_document d m (x ∷ os) (suc k) hd hv h = state_document h.0 m os k (leave
 
 -- ---- a refusal
 
-path_at : (os : List PatchOperation) (k : ℕ) (o : PatchOperation) → k < length os → IsAt os k o → option_map path_of (slice_get (operations os) k) ≡ Some (path_of (operation_of o))
+pub path_at : (os : List PatchOperation) (k : ℕ) (o : PatchOperation) → k < length os → IsAt os k o → option_map path_of (slice_get (operations os) k) ≡ Some (path_of (operation_of o))
 path_at [] k o less is = absurd (omega arith)
 path_at (x ∷ os) zero o less is = ap (λ y. Some (path_of (operation_of y))) (sym is)
 path_at (x ∷ os) (suc k) o less is = path_at os k o (omega arith) is

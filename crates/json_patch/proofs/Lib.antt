@@ -43,4 +43,5 @@ pub mod Merges
 pub mod MergeSteps
 pub mod Below
 pub mod Locality
-pub mod Shared
+pub mod SharedTokens
+pub mod PartRuns

@@ -9,7 +9,7 @@ use Rattle.serde_json.specs.View.{view}
 use Rattle.serde_json.specs.declared.value.Value.{Value}
 use Rattle.jsonptr.specs.Text.{Pointer}
 use Rattle.json_patch.specs.Attempt.{Attempts}
-use Rattle.json_patch.specs.ChangeComputed.{added, removed, replaced, put_in, slot_of, insert_item, found, altered, front_of}
+use Rattle.json_patch.specs.ChangeComputed.{added, removed, replaced, put_in, slot_of, insert_item, found, altered}
 use Rattle.json_patch.specs.Document.{IsDocument}
 use Rattle.json_patch.specs.Edits.{Displaces, DisplacesAt, item_gone, undo_from, undone}
 use Rattle.json_patch.specs.InPlace.{AreInPlace, AreTestsThenRemove, AreUnescaped, IsUnescaped, NeverShort}

@@ -7,13 +7,13 @@ use Rattle.std.proofs.lemmas.List.{append_cancel_left}
 use Rattle.serde_json.specs.Data.{Data, array, object, Items}
 use Rattle.serde_json.specs.View.{view}
 use Rattle.serde_json.specs.declared.value.Value.{Value}
-use Rattle.jsonptr.specs.Text.{Pointer, IsProperPrefix, ReplacesLast}
+use Rattle.jsonptr.specs.Text.{Pointer, IsProperPrefix}
 use Rattle.jsonptr.specs.Places.{token_of}
 use Rattle.jsonptr.specs.PlaceLaws.{place_is_token, token_is_decimal}
 use Rattle.json_patch.specs.Attempt.{Attempts, Excuses, Steps, TakesOut}
 use Rattle.json_patch.specs.Document.{child}
 use Rattle.json_patch.specs.Operation.{move, remove}
-use Rattle.json_patch.specs.ChangeComputed.{step_of, set_child, slot_of, put_in, take_from, found, altered, front_of, last_of, added, removed, replaced}
+use Rattle.json_patch.specs.ChangeComputed.{step_of, set_child, slot_of, put_in, take_from, found, altered, added, removed, replaced}
 use Rattle.json_patch.specs.Edits.{Displaces, DisplacesAt, undo_from}
 use Rattle.json_patch.specs.InPlace.{AreUnescaped, IsUnescaped, NeverShort}
 use Rattle.json_patch.specs.InverseComputed.{settled_token, undo_at, undo_in, undo_add}
@@ -25,7 +25,7 @@ use Rattle.json_patch.specs.declared.walk.Edit.TheVariants.{Insert}
 use Rattle.json_patch.specs.declared.walk.StepFault.{StepFault}
 use Rattle.json_patch.specs.declared.walk.StepFault.TheVariants.{Refused, Memory}
 use Rattle.json_patch.proofs.Blocks.{settled_only}
-use Rattle.json_patch.proofs.Resolved.{split_is, split_whole}
+use Rattle.json_patch.proofs.Resolved.{split_is}
 use Rattle.json_patch.proofs.Slots.{slot_aims}
 use Rattle.json_patch.proofs.Stepped.{prefix_begins, not_begins}
 use Rattle.json_patch.proofs.Undone.{found_append}

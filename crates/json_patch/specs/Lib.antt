@@ -13,6 +13,7 @@ pub mod Merged
 pub mod Shared
 pub mod Attempt
 pub mod Faulting
+pub mod PartRun
 pub mod InPlace
 pub mod PatchValue
 pub mod Printed

@@ -1,5 +1,5 @@
 -- Operations without the tokens that all their pointers begin with, and those tokens, computed.
-use Rattle.std.specs.Prelude.{List, [], ◌∷◌, ◌++◌, length, drop, map, bytes_eq, Option, Some, None, if◌then◌else◌}
+use Rattle.std.specs.Prelude.{List, [], ◌∷◌, ◌++◌, length, drop, bytes_eq, Option, Some, None, if◌then◌else◌}
 use Rattle.jsonptr.specs.Text.{Pointer}
 use Rattle.json_patch.specs.Operation.{Operation, add, remove, replace, move, copy, test}
 use Rattle.json_patch.specs.ChangeComputed.{front_of}

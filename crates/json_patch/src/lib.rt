@@ -11,6 +11,7 @@ mod printing;
 mod reading;
 mod record;
 mod run;
+mod shared;
 mod step;
 mod undoing;
 mod walk;

@@ -10,7 +10,8 @@ ghost use Rattle.json_patch.specs.Faulting.{Reports};
 ghost use Rattle.json_patch.specs.InPlace.{AreInPlace, AreTestsThenRemove, IsInPlace, NeverShort};
 ghost use Rattle.json_patch.specs.Inverse.{ArePlain, IsInverse};
 ghost use Rattle.json_patch.specs.InverseComputed.{block, inverse};
-ghost use Rattle.json_patch.specs.Operation.{AreWhole, operation_of, operations, path_of};
+ghost use Rattle.json_patch.specs.Operation.{AreWhole, IsWholeOp, operation_of, operations, path_of};
+ghost use Rattle.json_patch.specs.PartRun.{IsIn, NamesIn, StopsAlone, counted_from};
 ghost use Rattle.json_patch.specs.Refusal.{IfRefused, NamesFirst, OnMemory};
 ghost use Rattle.json_patch.specs.Run.{Accepts, IsAccepted};
 ghost use Rattle.json_patch.specs.RunComputed.{stepped};
@@ -19,21 +20,23 @@ ghost use Rattle.json_patch.specs.Undoing.{From};
 use crate::error::{PatchError, PatchFault};
 use crate::operation::{Patch, PatchOperation};
 use crate::record::{record_step, undo_recorded};
+use crate::shared::{RunFault, run_on_copy};
 use crate::step::step;
 use crate::undoing::{is_undoable, log_step, undo_all};
 use crate::walk::StepFault;
+use jsonptr::Pointer;
 use serde_json::Value;
 use std::alloc::Global;
-use std::mem;
+use std::{mem, slice};
 
 /// Applies the operations one after another, or none of them. A refused patch leaves the document
 /// as it was, and so does one for which memory was short.
 ///
 /// The first operations are made in place, as far as they can be undone with no memory: each
 /// `test`, and each `add`, `replace` and `copy` at a path with no `~`. If one more is left, it is
-/// made in place too, but for a `move`. If more are left, they are made on a copy of the document,
-/// which takes its place at the end. The empty list takes no memory, and neither does an accepted
-/// list of `test`s and then at most one `remove` at a path with no `~`.
+/// made in place too, but for a `move`. If more are left, they are made on a copy of the part of the
+/// document that they share, which takes its place at the end. The empty list takes no memory, and
+/// neither does an accepted list of `test`s and then at most one `remove` at a path with no `~`.
 pub fn patch(alloc: Global, doc: &mut Value, patch: &[PatchOperation]) -> Result<(), PatchFault>
     requires document { IsDocument (view doc.old) }
     requires whole { AreWhole (operations patch.now) }
@@ -69,6 +72,7 @@ fn run_rest(
     patch: &[PatchOperation],
     start: usize,
 ) -> Result<(), PatchFault>
+    requires document { IsDocument (view doc.old) }
     requires whole { AreWhole (operations patch.now) }
     requires within { start ≤ length patch.now }
     ensures accepted { OnOk result (From (view doc.old) (operations patch.now) start
@@ -91,17 +95,18 @@ fn run_rest(
             Err(fault) => Err(reported(alloc, start, operation, fault)),
         };
     }
-    run_on_copy(alloc, doc, patch, start)
+    run_from(alloc, doc, patch, start)
 }
 
-/// Makes the operations from this number on, or none of them: they are made on a copy of the
-/// document, which takes its place at the end.
-fn run_on_copy(
+/// Makes the operations from this number on, or none of them: they are made on a copy of the part
+/// that they share.
+fn run_from(
     alloc: Global,
     doc: &mut Value,
     patch: &[PatchOperation],
     start: usize,
 ) -> Result<(), PatchFault>
+    requires document { IsDocument (view doc.old) }
     requires whole { AreWhole (operations patch.now) }
     requires within { start ≤ length patch.now }
     ensures accepted { OnOk result (From (view doc.old) (operations patch.now) start
@@ -110,20 +115,17 @@ fn run_on_copy(
         (λ d. IfRefused result (NamesFirst d (operations patch.now))) }
     ensures unchanged { OnErr result (view doc.new ≡ view doc.old) }
 {
-    let mut work = doc.clone()?;
-    for number in start..patch.len() {
-        let operation = &patch[number];
-        if let Err(fault) = step(alloc, &mut work, operation) {
-            return Err(reported(alloc, number, operation, fault));
-        }
+    let rest = &patch[start..];
+    match run_on_copy(alloc, doc, rest) {
+        Ok(()) => Ok(()),
+        Err(fault) => Err(named(alloc, patch, start, fault)),
     }
-    mem::swap(doc, &mut work);
-    Ok(())
 }
 
 /// Applies the operations one after another, in place. A refused operation leaves what the ones
 /// before it made of the document; where memory is short, what some of the first ones made of it
-/// is left. A `move` is made on a copy of the document, so that none loses its value. An accepted
+/// is left. A `move` is made on a copy of the part where both its places stand, so that none loses
+/// its value. An accepted
 /// list of `test`s and of `remove`s at paths with no `~` takes no memory.
 pub fn patch_unsafe(
     alloc: Global,
@@ -266,17 +268,43 @@ fn step_in_place(
     doc: &mut Value,
     operation: &PatchOperation,
 ) -> Result<(), StepFault>
+    requires document { IsDocument (view doc.old) }
+    requires whole { IsWholeOp (operation_of operation.now) }
     ensures leaves { Steps result (stepped (view doc.old) (operation_of operation.now)) (view doc.new) }
     ensures unchanged { OnErr result (view doc.new ≡ view doc.old) }
     ensures in_place { IsInPlace (operation_of operation.now) → NeverShort result }
 {
     if let PatchOperation::Move(_) = operation {
-        let mut work = doc.clone()?;
-        step(alloc, &mut work, operation)?;
-        mem::swap(doc, &mut work);
-        return Ok(());
+        return match run_on_copy(alloc, doc, slice::from_ref(operation)) {
+            Ok(()) => Ok(()),
+            Err(fault) => Err(fault_alone(fault)),
+        };
     }
-    step(alloc, doc, operation)
+    step(alloc, doc, Pointer::root(), operation)
+}
+
+/// The fault of the only step of a run.
+fn fault_alone(fault: RunFault) -> StepFault
+    ensures { StopsAlone fault result }
+{
+    match fault {
+        RunFault::Refused(_number, kind) => StepFault::Refused(kind),
+        RunFault::Memory(error) => StepFault::Memory(error),
+    }
+}
+
+/// The fault of a run of the operations from this number on.
+fn named(alloc: Global, patch: &[PatchOperation], start: usize, fault: RunFault) -> PatchFault
+    requires { IsIn (counted_from start fault) patch.now }
+    ensures { NamesIn patch.now (counted_from start fault) result }
+{
+    match fault {
+        RunFault::Refused(number, kind) => {
+            let at = start + number;
+            reported(alloc, at, &patch[at], StepFault::Refused(kind))
+        }
+        RunFault::Memory(error) => PatchFault::Memory(error),
+    }
 }
 
 /// Makes the operation and records what undoes it, or leaves both as they were.

@@ -1,10 +1,10 @@
 //! One operation on a document (RFC 6902, section 4).
 
-ghost use Rattle.std.specs.Prelude.{◌≡◌, IfOk, IfErr, OnErr, IsTrue, ◌↔◌, Some};
+ghost use Rattle.std.specs.Prelude.{◌≡◌, IfOk, IfErr, OnErr, IsTrue, ◌↔◌, Some, drop, length};
 ghost use Rattle.serde_json.specs.Data.{Data};
 ghost use Rattle.serde_json.specs.View.{view};
 ghost use Rattle.jsonptr.specs.Pointers.{tokens_of};
-ghost use Rattle.jsonptr.specs.Text.{IsProperPrefix};
+ghost use Rattle.jsonptr.specs.Text.{IsPrefix, IsProperPrefix};
 ghost use Rattle.json_patch.specs.Attempt.{Attempts, Refuses, Steps, TakesOut};
 ghost use Rattle.json_patch.specs.ChangeComputed.{added, removed, replaced, found};
 ghost use Rattle.json_patch.specs.Document.{IsDocument};
@@ -12,54 +12,72 @@ ghost use Rattle.json_patch.specs.Edits.{undo_from, undone};
 ghost use Rattle.json_patch.specs.InPlace.{AreUnescaped, IsInPlace, NeverShort};
 ghost use Rattle.json_patch.specs.InverseComputed.{undo_add};
 ghost use Rattle.json_patch.specs.Operation.{IsMove, operation_of, copy as copy_at, move as move_at, test as test_at};
+ghost use Rattle.json_patch.specs.PartRun.{IsBegun};
 ghost use Rattle.json_patch.specs.RunComputed.{stepped};
+ghost use Rattle.json_patch.specs.SharedComputed.{stripped};
 
 use crate::equality::same_values;
 use crate::error::PatchErrorKind;
 use crate::operation::PatchOperation;
 use crate::walk::{Displaced, Edit, StepFault, edit_at, find};
-use jsonptr::Pointer;
+use jsonptr::{Pointer, PointerBuf};
 use serde_json::Value;
 use std::alloc::Global;
 use std::mem;
 
-/// Makes the operation. A refused one leaves the document as it was, but for a `move`, which may
-/// have lost the value: it is for a copy of the document.
+/// Makes the operation, without the tokens of `base`, on what stands there. A refused one leaves
+/// that as it was, but for a `move`, which may have lost the value: it is for a copy.
 pub(crate) fn step(
     alloc: Global,
     doc: &mut Value,
+    base: Pointer<'_>,
     operation: &PatchOperation,
 ) -> Result<(), StepFault>
-    ensures leaves { Steps result (stepped (view doc.old) (operation_of operation.now)) (view doc.new) }
+    requires { IsBegun (tokens_of base) (operation_of operation.now) }
+    ensures leaves { Steps result
+        (stepped (view doc.old) (stripped (tokens_of base.entry) (operation_of operation.now)))
+        (view doc.new) }
     ensures unchanged { OnErr result
         ((IsMove (operation_of operation.now) → ⊥) → view doc.new ≡ view doc.old) }
-    ensures in_place { IsInPlace (operation_of operation.now) → NeverShort result }
+    ensures in_place { IsInPlace (stripped (tokens_of base.entry) (operation_of operation.now))
+        → NeverShort result }
 {
     match operation {
         PatchOperation::Add(operation) => {
             let value = operation.value.clone()?;
-            add(alloc, doc, operation.path.as_pointer(), value)?;
+            add(alloc, doc, below(&operation.path, base), value)?;
         }
         PatchOperation::Remove(operation) => {
-            remove(alloc, doc, operation.path.as_pointer())?;
+            remove(alloc, doc, below(&operation.path, base))?;
         }
         PatchOperation::Replace(operation) => {
             let value = operation.value.clone()?;
-            replace(alloc, doc, operation.path.as_pointer(), value)?;
+            replace(alloc, doc, below(&operation.path, base), value)?;
         }
         PatchOperation::Move(operation) => {
-            let from = operation.from.as_pointer();
-            move_value(alloc, doc, from, operation.path.as_pointer())?;
+            let from = below(&operation.from, base);
+            move_value(alloc, doc, from, below(&operation.path, base))?;
         }
         PatchOperation::Copy(operation) => {
-            let from = operation.from.as_pointer();
-            copy_value(alloc, doc, from, operation.path.as_pointer())?;
+            let from = below(&operation.from, base);
+            copy_value(alloc, doc, from, below(&operation.path, base))?;
         }
         PatchOperation::Test(operation) => {
-            test(doc, operation.path.as_pointer(), &operation.value)?;
+            test(doc, below(&operation.path, base), &operation.value)?;
         }
     }
     Ok(())
+}
+
+/// The part of the pointer after the tokens of `base`.
+fn below<'a>(pointer: &'a PointerBuf, base: Pointer<'_>) -> Pointer<'a>
+    requires { IsPrefix (tokens_of base) pointer.now }
+    ensures { tokens_of result ≡ drop (length (tokens_of base.entry)) pointer.now }
+{
+    match pointer.as_pointer().strip_prefix(base) {
+        Some(rest) => rest,
+        None => unreachable!(),
+    }
 }
 
 /// `add` (section 4.1).

@@ -238,7 +238,7 @@ fn member_of<'v>(members: &'v Map<String, Value>, token: Token<'_>) -> Option<&'
 }
 
 /// The member's name that a token stands for: its own text where that holds no escape.
-fn name_of<'a>(alloc: Global, token: Token<'a>) -> Result<CowStr<'a>, AllocError>
+pub(crate) fn name_of<'a>(alloc: Global, token: Token<'a>) -> Result<CowStr<'a>, AllocError>
     ensures name { IfOk result (λ name. cow_str_bytes name ≡ token_of token.entry) }
     ensures in_place { IsUnescaped (token_of token.entry) → IsOk result }
 {
@@ -251,7 +251,7 @@ fn name_of<'a>(alloc: Global, token: Token<'a>) -> Result<CowStr<'a>, AllocError
 }
 
 /// The place of the item that a token names, among so many.
-fn item_index(token: Token<'_>, len: usize) -> Result<usize, PatchErrorKind>
+pub(crate) fn item_index(token: Token<'_>, len: usize) -> Result<usize, PatchErrorKind>
     ensures { MatchResult result
         (λ i. (i < len) × (place_of (token_of token.entry) ≡ Some i))
         (λ kind. (kind ≡ InvalidPointer)

@@ -31,6 +31,8 @@ mod rfc6902;
 #[cfg(test)]
 mod runner;
 #[cfg(test)]
+mod shared;
+#[cfg(test)]
 mod worked;
 #[cfg(test)]
 mod writing;

@@ -40,6 +40,10 @@ loop-number-preserved c =
           (c.in_default.ensures.logs (view c.args.doc.now) (reverse (take k (operations c.args.patch.now))) c.loop-number.invariant.back);
     }
 
+pub run_rest-requires-clause-document : goal.run_rest-requires-clause-document
+run_rest-requires-clause-document c =
+    state_document (view c.args.doc.now) (view c.loop-number.doc) c.args.patch.now c.loop-number.number c.requires.document c.requires.whole c.loop-number.invariant.state
+
 pub returns-in-Err-run_rest-clause-in_place : goal.returns-in-Err-run_rest-clause-in_place
 returns-in-Err-run_rest-clause-in_place c = λ light e end.
     let last : length c.args.patch.now ≤ c.loop-number.number + 1 = elim c.loop-number-test.branch [

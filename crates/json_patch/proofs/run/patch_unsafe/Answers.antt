@@ -2,10 +2,18 @@ use Rattle.std.proofs.Common.{refl, sym, subst}
 use Rattle.serde_json.specs.View.{view}
 use Rattle.json_patch.specs.Document.{IsDocument}
 use Rattle.json_patch.proofs.Applied.{not_stopped, reported_names, reported_state, short_state, state_all, state_document, state_more}
+use Rattle.json_patch.proofs.Logs.{whole_at}
 use Rattle.json_patch.proofs.run.patch_unsafe.Goals as goal
 
 pub loop-number-init : goal.loop-number-init
 loop-number-init c = refl
+
+pub step_in_place-requires-clause-document : goal.step_in_place-requires-clause-document
+step_in_place-requires-clause-document c =
+    state_document (view c.args.doc.now) (view c.loop-number.doc) c.args.patch.now c.loop-number.number c.requires.document c.requires.whole c.loop-number.invariant
+
+pub step_in_place-requires-clause-whole : goal.step_in_place-requires-clause-whole
+step_in_place-requires-clause-whole c = whole_at c.args.patch.now c.loop-number.number c.index-patch-number.result c.loop-number-test.true c.index-patch-number.is c.requires.whole
 
 pub returns-in-Err-clause-refused : goal.returns-in-Err-clause-refused
 returns-in-Err-clause-refused c =

@@ -1,7 +1,6 @@
-use Rattle.std.proofs.Common.{◌≡◌, ◌+◌, ◌-◌, length, take, ap, sym, ◌∙◌, arith}
+use Rattle.std.proofs.Common.{◌≡◌, ◌+◌, ◌-◌, length, ap, ◌∙◌, arith}
 use Rattle.serde_json.specs.View.{view}
 use Rattle.json_patch.specs.InverseComputed.{inverse}
-use Rattle.json_patch.specs.Operation.{operations}
 use Rattle.json_patch.proofs.Applied.{recorded_more, reported_names, state_all, state_more, take_past}
 use Rattle.json_patch.proofs.run.record_rest.Goals as goal
 

@@ -1,11 +1,14 @@
 -- The tokens that a list shares are those that are computed.
-use Rattle.std.proofs.Common.{◌≡◌, ◌↔◌, ℕ, List, [], ◌∷◌, ◌++◌, append_assoc, append-nil, Bool, true, false, bytes_eq, if◌then◌else◌, Option, Some, None, refl, sym, ap, ◌∙◌, subst}
+use Rattle.std.proofs.Common.{◌≡◌, ◌↔◌, ◌+◌, ◌<◌, ◌≤◌, ℕ, zero, suc, List, [], ◌∷◌, ◌++◌, length, drop, add-one, arith, append_assoc, append-nil, Bool, true, false, bytes_eq, if◌then◌else◌, Option, Some, None, IfNone, refl, sym, ap, ◌∙◌, subst}
 use Rattle.std.proofs.lemmas.Slice.Eq.{bytes_eq-Decides}
-use Rattle.jsonptr.specs.Text.{Pointer, IsPrefix, IsProperPrefix}
-use Rattle.json_patch.specs.Operation.{Operation, add, remove, replace, move, copy, test}
-use Rattle.json_patch.specs.Shared.{AreWithin, IsNotEmpty, IsShared}
+use Rattle.jsonptr.specs.Text.{Pointer, IsPrefix, IsProperPrefix, IsLongestShared}
+use Rattle.json_patch.specs.Operation.{Operation, add, remove, replace, move, copy, test, operation_of, operations, path_of}
+use Rattle.json_patch.specs.PartRun.{IsLongest, from_of}
+use Rattle.json_patch.specs.declared.operation.PatchOperation.{PatchOperation}
+use Rattle.json_patch.specs.Shared.{IsWithin, AreWithin, IsNotEmpty, IsShared}
 use Rattle.json_patch.specs.ChangeComputed.{front_of, last_of}
 use Rattle.json_patch.specs.SharedComputed.{common, all_pointers, parents_of, shared_of, shared}
+use Rattle.json_patch.proofs.Applied.{IsAt}
 use Rattle.json_patch.proofs.Resolved.{split_whole, split_is}
 
 -- ---- the longest shared beginning
@@ -155,3 +158,104 @@ shared_exactly ops S h = on_shared ops S (shared ops) refl h
 
 pub shared_iff : (ops : List Operation) (S : Pointer) → IsShared ops S ↔ (shared ops ≡ Some S)
 shared_iff ops S = (λ h. shared_exactly ops S h, λ h. shared_is ops S h)
+
+-- ---- by what is looked up of each operation
+
+prefix_proper : (T A : Pointer) (a : List ℕ) → IsPrefix T A → IsProperPrefix T (A ++ a ∷ [])
+prefix_proper T A a h =
+    let y = push_some h.0 a in
+    (y.0, y.1, ap (λ X. X ++ a ∷ []) h.1 ∙ append_assoc T h.0 (a ∷ []) ∙ ap (λ X. T ++ X) y.2)
+
+proper_prefix : (T A : Pointer) (a : List ℕ) → IsProperPrefix T (A ++ a ∷ []) → IsPrefix T A
+proper_prefix T A a h =
+    let y = push_some A a in
+    subst (IsPrefix T) (sym (split_is y.0 y.1 A a (sym y.2)).0) (proper_front T y.0 y.1 (subst (IsProperPrefix T) y.2 h))
+
+alone_within : (T : Pointer) (op : Operation) → from_of op ≡ None → IsWithin T op ↔ IsProperPrefix T (path_of op)
+alone_within T (add P v) none = (λ h. h, λ h. h)
+alone_within T (remove P) none = (λ h. h, λ h. h)
+alone_within T (replace P v) none = (λ h. h, λ h. h)
+alone_within T (move F P) none = cc
+alone_within T (copy F P) none = cc
+alone_within T (test P v) none = (λ h. h, λ h. h)
+
+both_within : (T F : Pointer) (op : Operation) → from_of op ≡ Some F → IsWithin T op ↔ (IsProperPrefix T F × IsProperPrefix T (path_of op))
+both_within T F (add P v) some = cc
+both_within T F (remove P) some = cc
+both_within T F (replace P v) some = cc
+both_within T F (move G P) some = let same : G ≡ F = cc in (λ h. (subst (IsProperPrefix T) same h.0, h.1), λ h. (subst (IsProperPrefix T) (sym same) h.0, h.1))
+both_within T F (copy G P) some = let same : G ≡ F = cc in (λ h. (subst (IsProperPrefix T) same h.0, h.1), λ h. (subst (IsProperPrefix T) (sym same) h.0, h.1))
+both_within T F (test P v) some = cc
+
+pub root_within : (op : Operation) → path_of op ≡ [] → (T : Pointer) → IsWithin T op → ⊥
+root_within (add P v) root T h = no_proper T (subst (IsProperPrefix T) root h)
+root_within (remove P) root T h = no_proper T (subst (IsProperPrefix T) root h)
+root_within (replace P v) root T h = no_proper T (subst (IsProperPrefix T) root h)
+root_within (move F P) root T h = no_proper T (subst (IsProperPrefix T) root h.1)
+root_within (copy F P) root T h = no_proper T (subst (IsProperPrefix T) root h.1)
+root_within (test P v) root T h = no_proper T (subst (IsProperPrefix T) root h)
+
+pub root_source : (F : Pointer) (op : Operation) → from_of op ≡ Some F → F ≡ [] → (T : Pointer) → IsWithin T op → ⊥
+root_source F op some root T h = no_proper T (subst (IsProperPrefix T) root ((both_within T F op some).0 h).0)
+
+pub parent_longest : (op : Operation) (A : Pointer) (a : List ℕ) → from_of op ≡ None → path_of op ≡ A ++ a ∷ [] → IsLongest (λ T. IsWithin T op) A
+parent_longest op A a none is = λ T.
+    let w = alone_within T op none in
+    (λ h. proper_prefix T A a (subst (IsProperPrefix T) is (w.0 h)), λ h. w.1 (subst (IsProperPrefix T) (sym is) (prefix_proper T A a h)))
+
+pub both_longest : (op : Operation) (F A B C : Pointer) (a b : List ℕ) → from_of op ≡ Some F → path_of op ≡ A ++ a ∷ [] → F ≡ B ++ b ∷ [] → IsLongestShared A B C → IsLongest (λ T. IsWithin T op) C
+both_longest op F A B C a b some is at m = λ T.
+    let w = both_within T F op some in (
+      λ h. m.2 T (proper_prefix T A a (subst (IsProperPrefix T) is (w.0 h).1)) (proper_prefix T B b (subst (IsProperPrefix T) at (w.0 h).0)),
+      λ h. w.1 (subst (IsProperPrefix T) (sym at) (prefix_proper T B b (prefix_trans T C B h m.1)), subst (IsProperPrefix T) (sym is) (prefix_proper T A a (prefix_trans T C A h m.0))),
+    )
+
+-- ---- over a list of operations of the program: the first, and of the rest those before k, are gone over
+
+abbrev pub Shares : List PatchOperation → List PatchOperation → ℕ → Pointer → Type 0
+Shares os rest k S = (T : Pointer) → AreWithin T (operations os) ↔ (IsPrefix T S × AreWithin T (drop k (operations rest)))
+
+pub shares_first : (os rest : List PatchOperation) (first : PatchOperation) (S : Pointer) → os ≡ first ∷ rest → IsLongest (λ T. IsWithin T (operation_of first)) S → Shares os rest 0 S
+shares_first os rest first S is h = rw is (λ T. (λ w. ((h T).0 w.0, w.1), λ w. ((h T).1 w.0, w.1)))
+
+within_at : (T : Pointer) (os : List PatchOperation) (k : ℕ) (o : PatchOperation) → k < length os → IsAt os k o
+    → AreWithin T (drop k (operations os)) ↔ (IsWithin T (operation_of o) × AreWithin T (drop (suc k) (operations os)))
+within_at T [] k o less is = absurd (omega arith)
+within_at T (x ∷ os) zero o less is = (λ h. (subst (λ y. IsWithin T (operation_of y)) (sym is) h.0, h.1), λ h. (subst (λ y. IsWithin T (operation_of y)) is h.0, h.1))
+within_at T (x ∷ os) (suc k) o less is = within_at T os k o (omega arith) is
+
+pub shares_more : (os rest : List PatchOperation) (k : ℕ) (o : PatchOperation) (S P C : Pointer) → k < length rest → IsAt rest k o → Shares os rest k S
+    → IsLongest (λ T. IsWithin T (operation_of o)) P → IsLongestShared S P C → Shares os rest (k + 1) C
+shares_more os rest k o S P C less is h p m =
+    subst (λ n. Shares os rest n C) (sym (add-one k)) (λ T.
+    let w = within_at T rest k o less is in (
+      λ a. let l = (h T).0 a in let i = w.0 l.1 in (m.2 T l.0 ((p T).0 i.0), i.1),
+      λ a. (h T).1 (prefix_trans T C S a.0 m.0, w.1 ((p T).1 (prefix_trans T C P a.0 m.1), a.1)),
+    ))
+
+none_left : (T : Pointer) (os : List PatchOperation) (k : ℕ) → length os ≤ k → AreWithin T (drop k (operations os))
+none_left T [] zero le = tt
+none_left T [] (suc k) le = tt
+none_left T (x ∷ os) zero le = absurd (omega arith)
+none_left T (x ∷ os) (suc k) le = none_left T os k (omega arith)
+
+pub shares_all : (os rest : List PatchOperation) (first : PatchOperation) (k : ℕ) (S : Pointer) → os ≡ first ∷ rest → length rest ≤ k → Shares os rest k S → IsShared (operations os) S
+shares_all os rest first k S is le h = record {
+  some = rw is tt;
+  within = (h S).1 (([], sym (append-nil S)), none_left S rest k le);
+  longest = λ T w. ((h T).0 w).0;
+}
+
+pub shares_none : (os rest : List PatchOperation) (k : ℕ) (o : PatchOperation) (S : Pointer) → k < length rest → IsAt rest k o → Shares os rest k S
+    → ((T : Pointer) → IsWithin T (operation_of o) → ⊥) → (T : Pointer) → IsShared (operations os) T → ⊥
+shares_none os rest k o S less is h none T shared = none T ((within_at T rest k o less is).0 ((h T).0 shared.within).1).0
+
+pub first_shares_none : (os rest : List PatchOperation) (first : PatchOperation) → os ≡ first ∷ rest → ((T : Pointer) → IsWithin T (operation_of first) → ⊥) → (T : Pointer) → IsShared (operations os) T → ⊥
+first_shares_none os rest first is none T shared = none T (subst (λ xs. AreWithin T (operations xs)) is shared.within).0
+
+pub empty_shares_none : (os : List PatchOperation) → os ≡ [] → (T : Pointer) → IsShared (operations os) T → ⊥
+empty_shares_none os is T shared = subst (λ xs. IsNotEmpty (operations xs)) is shared.some
+
+pub even_if_none : {T : Type 0} (o : Option T) (P : Type 0) → P → IfNone o P
+even_if_none None P h = h
+even_if_none (Some x) P h = tt
