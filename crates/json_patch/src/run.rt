@@ -125,8 +125,7 @@ fn run_from(
 /// Applies the operations one after another, in place. A refused operation leaves what the ones
 /// before it made of the document; where memory is short, what some of the first ones made of it
 /// is left. A `move` is made on a copy of the part where both its places stand, so that none loses
-/// its value. An accepted
-/// list of `test`s and of `remove`s at paths with no `~` takes no memory.
+/// its value. An accepted list of `test`s and of `remove`s at paths with no `~` takes no memory.
 pub fn patch_unsafe(
     alloc: Global,
     doc: &mut Value,
