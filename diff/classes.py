@@ -116,7 +116,7 @@ CLASSES = [
      lambda at: at.theirs[0] == "refused" and at.op == "copy" and at.source == []),
     (PYTHON, "refuses to replace the member named '-'",
      lambda at: at.theirs[0] == "refused" and at.op == "replace" and at.path[-1:] == ["-"] and isinstance(at.parents()[0], dict)),
-    (PYTHON, "an atom on the way raises TypeError",
+    (PYTHON, "takes from a text by TypeError",
      lambda at: at.raised("TypeError") and at.path and any(map(is_atom, at.parents()))),
     (PYTHON, "takes from the '-' of a list by TypeError",
      lambda at: at.raised("TypeError") and "-" in (at.source or at.path)),
