@@ -1,0 +1,105 @@
+"""Random cases, the same for one seed: a document and a patch, or a document and a merge patch."""
+import random
+
+from model import Model, Refused, copied, pointer
+
+NAMES = ["a", "b", "c", "", "/", "~", "~1", "~01", "m~n", "a/b", "-", "0", "01", "1", "\u00e9", 'k"l', "\\", "\n", " ", "ab"]
+ATOMS = [None, True, False, 0, 1, 2, -1, 18446744073709551615, -9223372036854775808,
+         9223372036854775807, 9223372036854775808, "", "x", "text", "~0", "/", "\u00e9\U0001F600", "\u0001"]
+BAD_TOKENS = ["00", "01", "+1", "-1", "1a", " ", "18446744073709551615", "18446744073709551616", "-", ""]
+OPERATIONS = ["add", "add", "remove", "replace", "move", "move", "copy", "test"]
+LONGEST = 30
+
+
+class Cases:
+    def __init__(self, seed):
+        self.random = random.Random(seed)
+        self.model = Model()
+
+    def value(self, depth=3):
+        roll = self.random.random()
+        if depth == 0 or roll < (0.4 if depth < 3 else 0.05):
+            return self.random.choice(ATOMS)
+        count = self.random.randrange(4)
+        if roll < 0.7:
+            return [self.value(depth - 1) for _ in range(count)]
+        return {self.random.choice(NAMES): self.value(depth - 1) for _ in range(count)}
+
+    def way(self, document):
+        """The tokens of something that stands in the document, mostly not at the root."""
+        tokens = []
+        onwards = 0.99
+        while isinstance(document, (dict, list)) and document and self.random.random() < onwards:
+            onwards = 0.7
+            if isinstance(document, dict):
+                name = self.random.choice(list(document))
+                tokens.append(name)
+                document = document[name]
+            else:
+                place = self.random.randrange(len(document))
+                tokens.append(str(place))
+                document = document[place]
+        return tokens, document
+
+    def target(self, document):
+        """The tokens of a place for a value, or now and then of none."""
+        tokens, found = self.way(document)
+        roll = self.random.random()
+        if roll < 0.1:
+            return tokens
+        if roll < 0.15:
+            return tokens + [self.random.choice(BAD_TOKENS)]
+        if isinstance(found, dict):
+            return tokens + [self.random.choice(NAMES)]
+        if isinstance(found, list):
+            return tokens + [self.random.choice(["-", str(len(found)), str(self.random.randrange(len(found) + 2))])]
+        return tokens
+
+    def source(self, document):
+        tokens, _ = self.way(document)
+        if self.random.random() < 0.05:
+            tokens = tokens + [self.random.choice(BAD_TOKENS)]
+        return tokens
+
+    def operation(self, document):
+        name = self.random.choice(OPERATIONS)
+        if name == "add":
+            return {"op": name, "path": pointer(self.target(document)), "value": self.value(2)}
+        if name in ("move", "copy"):
+            return {"op": name, "from": pointer(self.source(document)), "path": pointer(self.target(document))}
+        tokens = self.source(document)
+        if name == "remove":
+            return {"op": name, "path": pointer(tokens)}
+        if name == "replace":
+            return {"op": name, "path": pointer(tokens), "value": self.value(2)}
+        try:
+            value = self.model.found(document, tokens)
+        except Refused:
+            value = None
+        if self.random.random() < 0.1:
+            value = self.value(1)
+        return {"op": name, "path": pointer(tokens), "value": copied(value)}
+
+    def patch_case(self):
+        """A document and a list of up to thirty operations, of which most are accepted."""
+        document = self.value()
+        state, operations = copied(document), []
+        for _ in range(self.random.randrange(LONGEST + 1)):
+            operation = self.operation(state)
+            ended, after = self.after(state, operation)
+            if ended and self.random.random() < 0.9:
+                continue
+            operations.append(operation)
+            if ended and self.random.random() < 0.9:
+                break
+            state = after
+        return [document, operations]
+
+    def after(self, state, operation):
+        try:
+            return False, self.model.step(copied(state), operation)
+        except Refused:
+            return True, state
+
+    def merge_case(self):
+        return [self.value(), self.value()]
