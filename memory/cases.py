@@ -19,7 +19,7 @@ ToolRun = namedtuple("ToolRun", "line mode input status output fault")
 
 # A bound on the requests that fall into a call on a large document, and whether it is kept yet:
 # those that aren't are left out.
-Bound = namedtuple("Bound", "line arguments answer fewer_than holds")
+Bound = namedtuple("Bound", "line arguments answer fewer_than")
 
 
 def left(answer, state):
@@ -255,14 +255,14 @@ def large_calls():
     items = [{"k": "abcdefghij", "x": {}}] * 1000
     changed = items[:500] + [{**items[500], "x": {"b": 2}}] + items[501:]
     set_to_2 = {**members, "x": 2}
-    for name, first, operation, last, fewer_than, holds in (
-        ("below a member", document, add("/x/b", 2), {**members, "x": {"b": 2}}, 64, False),
-        ("in an item", items, add("/500/x/b", 2), changed, 64, False),
-        ("beside members", members, add("/x", 2), set_to_2, 16, False),
-        ("of a member", document, replace("/x", 2), set_to_2, 16, False),
-        ("of a member", document, remove("/x"), members, 1, False),
-        ("of a member", document, test("/x", {}), document, 1, False),
+    for name, first, operation, last, fewer_than in (
+        ("below a member", document, add("/x/b", 2), {**members, "x": {"b": 2}}, 64),
+        ("in an item", items, add("/500/x/b", 2), changed, 64),
+        ("beside members", members, add("/x", 2), set_to_2, 16),
+        ("of a member", document, replace("/x", 2), set_to_2, 16),
+        ("of a member", document, remove("/x"), members, 1),
+        ("of a member", document, test("/x", {}), document, 1),
     ):
         line = f"patch: {operation['op']} {name}, of 1000"
         arguments = ["patch", compact(first), compact([operation])]
-        yield Bound(line, arguments, left("done", compact(last)), fewer_than, holds)
+        yield Bound(line, arguments, left("done", compact(last)), fewer_than)

@@ -31,7 +31,7 @@ const CASES: &[Case] = &[
             operation: 1,
             path: "/x/l/0",
             kind: "InvalidPointer",
-            left: None,
+            left: r#"{"x":{"l":[]}}"#,
         },
     },
     Case {
@@ -60,7 +60,7 @@ const CASES: &[Case] = &[
             operation: 1,
             path: "/x",
             kind: "TestFailed",
-            left: None,
+            left: r#"{"x":{"a":1,"b":2}}"#,
         },
     },
     Case {
@@ -71,7 +71,7 @@ const CASES: &[Case] = &[
             operation: 0,
             path: "/y/a",
             kind: "InvalidPointer",
-            left: None,
+            left: r#"{"x":1}"#,
         },
     },
     Case {
@@ -82,7 +82,7 @@ const CASES: &[Case] = &[
             operation: 0,
             path: "/-/0",
             kind: "InvalidPointer",
-            left: None,
+            left: "[[1]]",
         },
     },
 ];
