@@ -239,7 +239,7 @@ const CASES: &[Case] = &[
             operation: 7,
             path: "/b/c",
             kind: "TestFailed",
-            left: Some(r#"{"a":[8,1,2,9],"b":{"c":4,"d":5,"e":[8,1,2,9]}}"#),
+            left: r#"{"a":[8,1,2,9],"b":{"c":4,"d":5,"e":[8,1,2,9]}}"#,
         },
     },
     Case {
@@ -256,7 +256,7 @@ const CASES: &[Case] = &[
             operation: 4,
             path: "/a/b",
             kind: "TestFailed",
-            left: Some(r#"{"a":{"b":2,"c":2},"l":[3]}"#),
+            left: r#"{"a":{"b":2,"c":2},"l":[3]}"#,
         },
     },
     Case {
@@ -272,7 +272,7 @@ const CASES: &[Case] = &[
             operation: 3,
             path: "/0/x",
             kind: "CannotMoveInsideItself",
-            left: Some(r#"[{"a~b":2}]"#),
+            left: r#"[{"a~b":2}]"#,
         },
     },
 ];
