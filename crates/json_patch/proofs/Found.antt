@@ -1,10 +1,11 @@
 -- What is found at a pointer stands at the location to which it resolves.
-use Rattle.std.proofs.Common.{◌≡◌, ℕ, List, [], ◌∷◌, Some, ap}
+use Rattle.std.proofs.Common.{◌≡◌, ℕ, List, [], ◌∷◌, Option, Some, None, IfNone, IfSome, ap, sym, ◌∙◌, option_map}
 use Rattle.std.proofs.lemmas.Option.{option_and_then_some}
 use Rattle.std.specs.Prelude.{◌↔◌}
 use Rattle.serde_json.specs.Data.{Data}
 use Rattle.json_patch.specs.Document.{Step, child, standing}
 use Rattle.json_patch.specs.Resolve.{Resolves, StandsAt}
+use Rattle.json_patch.specs.Step.{Never}
 use Rattle.json_patch.specs.ChangeComputed.{step_of, found}
 use Rattle.json_patch.proofs.Resolved.{step_names, names_step}
 
@@ -29,3 +30,11 @@ resolves_standing d (t ∷ P) [] c h = absurd h
 
 pub found_computed : (d : Data) (P : List (List ℕ)) (c : Data) → StandsAt d P c ↔ (found d P ≡ Some c)
 found_computed d P c = (λ h. resolves_found d P h.0 c h.1, found_resolves d P c)
+
+pub some_stands : {A : Type 0} (f : A → Data) (r : Option A) (d : Data) (P : List (List ℕ)) → option_map f r ≡ found d P → IfSome r (λ v. StandsAt d P (f v))
+some_stands f (Some v) d P is = found_resolves d P (f v) (sym is)
+some_stands f None d P is = tt
+
+pub none_stands : {A : Type 0} (f : A → Data) (r : Option A) (d : Data) (P : List (List ℕ)) → option_map f r ≡ found d P → IfNone r (Never (StandsAt d P))
+none_stands f (Some v) d P is = tt
+none_stands f None d P is = λ e h. let wrong : None ≡ Some e = is ∙ resolves_found d P h.0 e h.1 in cc

@@ -10,6 +10,7 @@ mod operation;
 mod printing;
 mod reading;
 mod record;
+mod resolving;
 mod run;
 mod shared;
 mod step;
@@ -26,4 +27,5 @@ pub use operation::{
     ReplaceOperation, TestOperation,
 };
 pub use printing::pretty;
+pub use resolving::lookup;
 pub use run::{apply_patches, patch, patch_unsafe};

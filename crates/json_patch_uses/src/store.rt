@@ -1,0 +1,79 @@
+//! A document that is changed by texts, each a JSON Patch.
+
+ghost use Rattle.std.specs.Prelude.{◌≡◌, IfErr, IfOk, OnErr, OnOk};
+ghost use Rattle.serde_json.specs.View.{view};
+ghost use Rattle.json_patch.specs.Document.{IsDocument};
+ghost use Rattle.json_patch.specs.Operation.{AreWhole, operations};
+ghost use Rattle.json_patch.specs.Propositions.{IsDocument-prop};
+ghost use Rattle.json_patch.specs.Refusal.{IfRefused, NamesFirst};
+ghost use Rattle.json_patch.specs.Run.{Accepts, IsAccepted};
+ghost use Rattle.json_patch_uses.specs.Updates.{IsFault, UnlessShort, Updates};
+
+use crate::fault::UpdateFault;
+use json_patch::{Patch, PatchFault, apply_patches, patch};
+use serde_json::Value;
+use std::alloc::Global;
+
+/// A document whose numbers are whole.
+#[derive(Drop)]
+pub struct Store {
+    document: Value,
+    ghost whole: { IsDocument (view document) } by { IsDocument-prop (view document) },
+}
+
+impl Store {
+    ghost use Rattle.json_patch_uses.specs.Stores.{document_of};
+
+    /// A store of this document.
+    pub fn open(document: Value) -> Store
+        requires { IsDocument (view document) }
+        ensures { document_of result ≡ view document }
+    {
+        Store { document }
+    }
+
+    /// The document.
+    pub fn document(&self) -> &Value
+        ensures value { view result.now ≡ document_of self.now }
+        ensures whole { IsDocument (document_of self.now) }
+    {
+        &self.document
+    }
+
+    /// Makes the changes that a text says, and answers the patch that takes them back.
+    pub fn update(&mut self, alloc: Global, text: &str) -> Result<Patch, UpdateFault>
+        ensures updated { OnOk result
+            (Updates (document_of self.old) text.now (document_of self.new)) }
+        ensures leads_back { IfOk result (λ undo.
+            IsAccepted (document_of self.new) (operations undo.0.items) (document_of self.old)) }
+        ensures undo_whole { IfOk result (λ undo. AreWhole (operations undo.0.items)) }
+        ensures fault { IfErr result (IsFault (document_of self.old) text.now) }
+        ensures unchanged { OnErr result (document_of self.new ≡ document_of self.old) }
+    {
+        let value = Value::from_str(alloc, text)?;
+        let changes = Patch::from_value(alloc, &value)?;
+        let undo = apply_patches(alloc, &mut self.document, changes.as_slice())?;
+        Ok(undo)
+    }
+
+    /// Makes the changes of a patch, as one that `update` answered.
+    pub fn revert(&mut self, alloc: Global, undo: &Patch) -> Result<(), PatchFault>
+        requires { AreWhole (operations undo.now.0.items) }
+        ensures accepted { OnOk result (Accepts (document_of self.old)
+            (operations undo.now.0.items) (document_of self.new)) }
+        ensures refused { IfRefused result
+            (NamesFirst (document_of self.old) (operations undo.now.0.items)) }
+        ensures unchanged { OnErr result (document_of self.new ≡ document_of self.old) }
+    {
+        patch(alloc, &mut self.document, undo.as_slice())
+    }
+    /// Makes the changes that a text says and takes them back: the document is then as before,
+    /// unless memory was short.
+    pub fn rehearse(&mut self, alloc: Global, text: &str) -> Result<(), UpdateFault>
+        ensures { UnlessShort result (document_of self.new ≡ document_of self.old) }
+    {
+        let undo = self.update(alloc, text)?;
+        self.revert(alloc, &undo)?;
+        Ok(())
+    }
+}

@@ -1,0 +1,66 @@
+//! Each program on an example.
+
+use crate::{Store, UpdateFault, patched};
+use json_patch::is_whole;
+use serde_json::Value;
+use std::test::Fail;
+
+#[test]
+fn an_update_is_taken_back(rt: HostRuntime) -> Result<(), Fail> {
+    let alloc = rt.alloc();
+    let document = Value::from_str(alloc, r#"{"a":[1,2]}"#)?;
+    assert!(rt; is_whole(&document));
+    let mut store = Store::open(document);
+    let update = r#"[{"op":"move","from":"/a/0","path":"/b"}]"#;
+    store
+        .rehearse(alloc, update)
+        .expect(&rt, "an accepted patch");
+    assert_eq!(rt;
+        store.document().to_string(alloc)?.as_str(),
+        r#"{"a":[1,2]}"#
+    );
+    let undo = store.update(alloc, update).expect(&rt, "an accepted patch");
+    assert_eq!(rt;
+        store.document().to_string(alloc)?.as_str(),
+        r#"{"a":[2],"b":1}"#
+    );
+    store.revert(alloc, &undo).expect(&rt, "an accepted patch");
+    assert_eq!(rt;
+        store.document().to_string(alloc)?.as_str(),
+        r#"{"a":[1,2]}"#
+    );
+    Ok(())
+}
+
+#[test]
+fn a_fault_leaves_the_store(rt: HostRuntime) -> Result<(), Fail> {
+    let alloc = rt.alloc();
+    let document = Value::from_str(alloc, r#"{"b":1}"#)?;
+    assert!(rt; is_whole(&document));
+    let mut store = Store::open(document);
+    match store.update(
+        alloc,
+        r#"[{"op":"remove","path":"/b"},{"op":"remove","path":"/c"}]"#,
+    ) {
+        Err(UpdateFault::Refused(error)) => assert_eq!(rt; error.operation, 1),
+        _ => panic!(rt; "there is no c"),
+    }
+    match store.update(alloc, r#"[{"op":"remove","path":"/b"},{"op":"remove"}]"#) {
+        Err(UpdateFault::NoPatch(error)) => assert_eq!(rt; error.operation, Some(1)),
+        _ => panic!(rt; "there is no path"),
+    }
+    assert!(rt; matches!(store.update(alloc, "[}"), Err(UpdateFault::Text(_))));
+    assert_eq!(rt; store.document().to_string(alloc)?.as_str(), r#"{"b":1}"#);
+    Ok(())
+}
+
+#[test]
+fn two_texts_make_a_document(rt: HostRuntime) -> Result<(), Fail> {
+    let alloc = rt.alloc();
+    let changes = r#"[{"op":"add","path":"/1","value":true}]"#;
+    let document = patched(alloc, "[1,2]", changes).expect(&rt, "an accepted patch");
+    assert_eq!(rt; document.to_string(alloc)?.as_str(), "[1,true,2]");
+    assert!(rt; matches!(patched(alloc, "[1.5]", changes), Err(UpdateFault::NotWhole)));
+    assert!(rt; matches!(patched(alloc, "[]", changes), Err(UpdateFault::Refused(_))));
+    Ok(())
+}
