@@ -1,5 +1,5 @@
 -- A change, back and on.
-use Rattle.std.proofs.Common.{◌≡◌, ◌<◌, [], ◌∷◌, true, false, length, refl, ap, ◌∙◌, subst, arith}
+use Rattle.std.proofs.Common.{◌≡◌, [], ◌∷◌, true, false, length, refl, ap, ◌∙◌, subst, arith}
 use Rattle.std.specs.Prelude.{◌++◌, List}
 use Rattle.serde_json.specs.Data.{Data}
 use Rattle.json_patch.specs.Operation.{Operation}
@@ -25,7 +25,7 @@ module _ (one_more : OneMore) (d : Data) (ops : List Operation) where
       let n3 : length v3.after ≡ 1 = ap (λ v. length v.after) to3 in
       let s1 : RepliesInTurn (initial 2 d) (apply ops ∷ []) (accepted ∷ []) v1 = one_more (initial 2 d) (initial 2 d) v1 [] [] (apply ops) accepted refl (acc, is1) in
       let s2 : RepliesInTurn (initial 2 d) (apply ops ∷ undo ∷ []) (accepted ∷ moved true ∷ []) v2
-          = one_more (initial 2 d) v1 v2 (apply ops ∷ []) (accepted ∷ []) undo (moved true) s1 (((λ h. omega (arith, n1)), λ h. refl), is2) in
+      = one_more (initial 2 d) v1 v2 (apply ops ∷ []) (accepted ∷ []) undo (moved true) s1 (((λ h. omega (arith, n1)), λ h. refl), is2) in
       let s3 : RepliesInTurn (initial 2 d) (apply ops ∷ undo ∷ undo ∷ []) (accepted ∷ moved true ∷ moved false ∷ []) v3
-          = one_more (initial 2 d) v2 v3 (apply ops ∷ undo ∷ []) (accepted ∷ moved true ∷ []) undo (moved false) s2 (((λ h. cc), λ h. absurd (omega (arith, h, n2))), is3) in
+      = one_more (initial 2 d) v2 v3 (apply ops ∷ undo ∷ []) (accepted ∷ moved true ∷ []) undo (moved false) s2 (((λ h. cc), λ h. absurd (omega (arith, h, n2))), is3) in
       one_more (initial 2 d) v3 v4 (apply ops ∷ undo ∷ undo ∷ []) (accepted ∷ moved true ∷ moved false ∷ []) redo (moved true) s3 (((λ h. omega (arith, n3)), λ h. refl), is4)
