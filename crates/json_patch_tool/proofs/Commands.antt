@@ -100,10 +100,10 @@ pub refused_reply : (vs ws : Versions) (c : Command) (p : Patch) (xs : List Patc
 refused_reply vs ws c p xs e v is same names unchanged written =
     (refused e, subst (λ b. Replies vs (command_of b) (refused e) ws) (sym is) (subst (λ ys. NamesFirst vs.here (operations ys) e) same names, unchanged), written)
 
-pub undo_reply : (vs ws : Versions) (c : Command) (b : Bool) → c ≡ Undo → (IsTrue b ↔ (0 < length vs.before)) → ws ≡ after_undo vs
-    → (r : Reply) × Replies vs (command_of c) r ws × (boolean b ≡ written_reply r)
-undo_reply vs ws c b is took undone = (moved b, subst (λ d. Replies vs (command_of d) (moved b) ws) (sym is) (took, undone), refl)
+pub undo_reply : (vs ws : Versions) (c : Command) (b : Bool) (v : Data) → v ≡ boolean b → c ≡ Undo → (IsTrue b ↔ (0 < length vs.before)) → ws ≡ after_undo vs
+    → (r : Reply) × Replies vs (command_of c) r ws × (v ≡ written_reply r)
+undo_reply vs ws c b v shown is took undone = (moved b, subst (λ d. Replies vs (command_of d) (moved b) ws) (sym is) (took, undone), shown)
 
-pub redo_reply : (vs ws : Versions) (c : Command) (b : Bool) → c ≡ Redo → (IsTrue b ↔ (0 < length vs.after)) → ws ≡ after_redo vs
-    → (r : Reply) × Replies vs (command_of c) r ws × (boolean b ≡ written_reply r)
-redo_reply vs ws c b is took redone = (moved b, subst (λ d. Replies vs (command_of d) (moved b) ws) (sym is) (took, redone), refl)
+pub redo_reply : (vs ws : Versions) (c : Command) (b : Bool) (v : Data) → v ≡ boolean b → c ≡ Redo → (IsTrue b ↔ (0 < length vs.after)) → ws ≡ after_redo vs
+    → (r : Reply) × Replies vs (command_of c) r ws × (v ≡ written_reply r)
+redo_reply vs ws c b v shown is took redone = (moved b, subst (λ d. Replies vs (command_of d) (moved b) ws) (sym is) (took, redone), shown)
