@@ -15,10 +15,11 @@ use Rattle.json_patch_tool.specs.Input.{Says, SaysPair, NoPair, pair_of, line_of
 use Rattle.json_patch_tool.specs.Answer.{IsNotPatched, GivesValue, GivesFault, Answer}
 use Rattle.json_patch_tool.specs.declared.input.TheConstants.{MAX_INPUT}
 use Rattle.json_patch_tool.specs.declared.mode.Mode.{Mode}
-use Rattle.json_patch_tool.specs.declared.mode.Mode.TheVariants.{Patch, Record, Merge}
+use Rattle.json_patch_tool.specs.declared.mode.Mode.TheVariants.{Patch, Record, Merge, Edit}
 use Rattle.json_patch_tool.specs.declared.fault.ToolFault.{ToolFault}
 use Rattle.json_patch_tool.specs.declared.fault.ToolFault.TheVariants.{TooLarge, Syntax, NotAPair, NotWhole, Unreadable, Refused}
 use Rattle.json_patch_tool.proofs.Below.{Below}
+use Rattle.json_patch_tool.proofs.EditOnce.{edited_given}
 
 -- the operation that is refused has a path
 path_at : (d : Data) (ops : List Operation) (k : ℕ) (kind : PatchErrorKind) → RefusesAt d ops k kind
@@ -65,6 +66,7 @@ module _ (below : Below) (document_or_not : (d : Data) → IsDocument d ⊎ (IsD
       | inl patch ↦ let one = below.merged_is_one d p document patch in inl (one.0, (document, patch, one.1, one.2))
     ]
   ]
+  value_or_fault Edit d p = edited_given below d p (document_or_not d)
 
 -- ---- what the bytes say
 

@@ -1,6 +1,8 @@
 pub mod Answered
 pub mod Below
 pub mod Each
+pub mod EditOnce
+pub mod Commands
 pub mod Moved
 pub mod Once
 pub mod Pairs

@@ -16,10 +16,11 @@ use Rattle.json_patch_tool.specs.Input.{Says, SaysPair, NoPair, pair_of, line_of
 use Rattle.json_patch_tool.specs.Answer.{IsPatched, IsRecorded, IsNotPatched, IsMergedWhole, IsNotMerged, GivesValue, GivesFault, Answer}
 use Rattle.json_patch_tool.specs.declared.input.TheConstants.{MAX_INPUT}
 use Rattle.json_patch_tool.specs.declared.mode.Mode.{Mode}
-use Rattle.json_patch_tool.specs.declared.mode.Mode.TheVariants.{Patch, Record, Merge}
+use Rattle.json_patch_tool.specs.declared.mode.Mode.TheVariants.{Patch, Record, Merge, Edit}
 use Rattle.json_patch_tool.specs.declared.fault.ToolFault.{ToolFault}
 use Rattle.json_patch_tool.specs.declared.fault.ToolFault.TheVariants.{TooLarge, Syntax, NotAPair, NotWhole, Unreadable, Refused}
 use Rattle.json_patch_tool.proofs.Below.{Below}
+use Rattle.json_patch_tool.proofs.EditOnce.{edited_once, unedited_once, edited_or_not}
 
 inside : {A : Type 0} {b : A} (a : A) → Some a ≡ Some b → a ≡ b
 inside a same = ap (λ o. unwrap_or o a) same
@@ -137,6 +138,7 @@ module _ (below : Below) where
   value_once Patch d p e f h k = patched_once d p e f h k
   value_once Record d p e f h k = recorded_once d p e f h k
   value_once Merge d p e f h k = merged_once d p e f h k
+  value_once Edit d p e f h k = edited_once below d p e f h k
 
   cause_once : (d p : Data) (f g : ToolFault) → Cause d p f → Cause d p g → f ≡ g
   cause_once d p f g (inl a) (inl b) = a.0 ∙ sym b.0
@@ -156,6 +158,7 @@ module _ (below : Below) where
   fault_once Patch d p f g h k = cause_once d p f g (cause d p f h) (cause d p g k)
   fault_once Record d p f g h k = cause_once d p f g (cause d p f h) (cause d p g k)
   fault_once Merge d p f g h k = (not_merged d p f h).0 ∙ sym (not_merged d p g k).0
+  fault_once Edit d p f g h k = unedited_once below d p f g h k
 
   no_cause : (d p e : Data) (f : ToolFault) → IsPatched d p e → Cause d p f → ⊥
   no_cause d p e f h (inl a) = a.1 h.0
@@ -169,6 +172,7 @@ module _ (below : Below) where
   value_or_fault Patch d p e f h k = no_cause d p e f h (cause d p f k)
   value_or_fault Record d p e f h k = no_cause d p _ f (recorded_patched d p e h) (cause d p f k)
   value_or_fault Merge d p e f h k = merged_or_not d p e h (not_merged d p f k).1
+  value_or_fault Edit d p e f h k = edited_or_not below d p e f h k
 
 -- ---- what the bytes say
 

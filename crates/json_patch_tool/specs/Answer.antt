@@ -10,10 +10,13 @@ use Rattle.json_patch.specs.Run.{Accepts}
 use Rattle.json_patch.specs.Refusal.{NamesFirst}
 use Rattle.json_patch.specs.Inverse.{IsInverse}
 use Rattle.json_patch.specs.Merged.{IsMerged}
+use Rattle.json_patch_editor.specs.Commands.{Command, Reply, RepliesInTurn}
+use Rattle.json_patch_editor.specs.Versions.{Versions, initial}
+use Rattle.json_patch_tool.specs.Editing.{ReadsCommands, RefusesCommands, written_edit}
 use Rattle.json_patch_tool.specs.Input.{SaysPair, NoPair, line_of}
 use Rattle.json_patch_tool.specs.declared.input.TheConstants.{MAX_INPUT}
 use Rattle.json_patch_tool.specs.declared.mode.Mode.{Mode}
-use Rattle.json_patch_tool.specs.declared.mode.Mode.TheVariants.{Patch, Record, Merge}
+use Rattle.json_patch_tool.specs.declared.mode.Mode.TheVariants.{Patch, Record, Merge, Edit}
 use Rattle.json_patch_tool.specs.declared.fault.ToolFault.{ToolFault}
 use Rattle.json_patch_tool.specs.declared.fault.ToolFault.TheVariants.{NotWhole, Unreadable, Refused}
 
@@ -42,17 +45,31 @@ abbrev pub IsNotMerged : Data → Data → ToolFault → Type 0
 IsNotMerged d p NotWhole = (IsDocument d → ⊥) ⊎ (IsDocument p → ⊥)
 IsNotMerged d p _ = ⊥
 
+-- p is a list of commands, and `whole` is the array of the document that an editor of d leaves after them and its
+-- replies
+abbrev pub IsEdited : Data → Data → Data → Type 0
+IsEdited d p whole = IsDocument d × ((cs : List Command) × (rs : List Reply) × (ws : Versions) × ReadsCommands p cs
+    × RepliesInTurn (initial 65536 d) cs rs ws × (whole ≡ written_edit ws rs))
+
+-- why d isn't edited: d is no document, or else p is no list of commands; and for no other fault
+abbrev pub IsNotEdited : Data → Data → ToolFault → Type 0
+IsNotEdited d p NotWhole = IsDocument d → ⊥
+IsNotEdited d p (Unreadable e) = IsDocument d × RefusesCommands p e.operation e.kind
+IsNotEdited d p _ = ⊥
+
 -- the value that a mode gives for two values
 abbrev pub GivesValue : Mode → Data → Data → Data → Type 0
 GivesValue Patch d p e = IsPatched d p e
 GivesValue Record d p e = IsRecorded d p e
 GivesValue Merge d p e = IsMergedWhole d p e
+GivesValue Edit d p e = IsEdited d p e
 
 -- why it gives none
 abbrev pub GivesFault : Mode → Data → Data → ToolFault → Type 0
 GivesFault Patch d p fault = IsNotPatched d p fault
 GivesFault Record d p fault = IsNotPatched d p fault
 GivesFault Merge d p fault = IsNotMerged d p fault
+GivesFault Edit d p fault = IsNotEdited d p fault
 
 -- what a mode answers to the bytes of an input, want of memory aside: the line of the value that it gives for the two
 -- values that they say, or why they say no two, or why it gives none for these

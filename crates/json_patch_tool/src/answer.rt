@@ -12,6 +12,7 @@ ghost use Rattle.json_patch_tool.specs.Recording.{IsRecordLine, LeadsTo};
 ghost use Rattle.json_patch_tool.specs.declared.fault.ToolFault.TheVariants.{Memory};
 ghost use Rattle.json_patch_tool.specs.declared.mode.Mode.TheVariants.{Record};
 
+use crate::editing::edited;
 use crate::fault::ToolFault;
 use crate::input::{line_of, read_pair};
 use crate::mode::Mode;
@@ -22,7 +23,8 @@ use std::alloc::{AllocError, Global};
 /// The line for an input of at most 16777216 bytes: one JSON text, an array of a document and a
 /// patch. The line is one compact JSON text and a line feed: the new document or, in mode `Record`,
 /// the array of it and the patch that leads back. Such a line is again an input, where it keeps the
-/// limits.
+/// limits. In mode `Edit` the second value is a list of commands, and the line the array of the new
+/// document and the replies.
 pub fn respond(alloc: Global, mode: Mode, input: &[u8]) -> Result<String, ToolFault>
     ensures line { IfOk result (λ line. Answer mode input.now (Ok (string_bytes line))) }
     ensures fault { IfErr result (λ fault. fault ≢ Memory → Answer mode input.now (Err fault)) }
@@ -34,6 +36,7 @@ pub fn respond(alloc: Global, mode: Mode, input: &[u8]) -> Result<String, ToolFa
         Mode::Patch => patched(alloc, document, &patch),
         Mode::Record => recorded(alloc, document, &patch),
         Mode::Merge => merged(alloc, document, &patch),
+        Mode::Edit => edited(alloc, document, &patch),
     }
 }
 
@@ -101,7 +104,8 @@ fn read_patch(alloc: Global, document: &Value, value: &Value) -> Result<Patch, T
     Ok(Patch::from_value(alloc, value)?)
 }
 
-fn pair(alloc: Global, first: Value, second: Value) -> Result<Value, AllocError>
+/// The array of two values.
+pub(crate) fn pair(alloc: Global, first: Value, second: Value) -> Result<Value, AllocError>
     ensures { IfOk result (λ v. view v ≡ array (item (view first) (item (view second) no_items))) }
 {
     Ok(Value::Array(vec![in alloc; first, second]?))

@@ -27,10 +27,11 @@ pub enum ToolFault {
     /// exponent, minus zero, or one past 64 bits.
     #[error("a number is not whole")]
     NotWhole,
-    /// The second value is not read as a patch. Not in mode `Merge`.
+    /// The second value is not read as a patch or, in mode `Edit`, as a list of commands. Not in
+    /// mode `Merge`.
     #[error(transparent)]
     Unreadable(ReadError),
-    /// An operation of the patch is refused. Not in mode `Merge`.
+    /// An operation of the patch is refused. Not in the modes `Merge` and `Edit`.
     #[error(transparent)]
     Refused(PatchError),
     #[error("out of memory")]

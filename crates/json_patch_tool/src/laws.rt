@@ -8,6 +8,7 @@ ghost use Rattle.json_patch_tool.specs.declared.fault.ToolFault.TheVariants.{Mem
 ghost use Rattle.json_patch_tool.specs.declared.mode.Mode.{Mode};
 
 use json_patch::laws::{documents, inverse, merging, runs, values};
+use json_patch_editor::laws;
 
 /// In each mode an input has one answer at most: one line, or one fault.
 pub fn answered_once()
@@ -19,6 +20,8 @@ pub fn answered_once()
     runs::run_ends();
     inverse::inverse_is_computed();
     merging::merged_is_one();
+    laws::replied_once();
+    laws::always_replied();
 }
 
 /// In each mode each input has an answer.
@@ -32,6 +35,8 @@ pub fn each_input_has_an_answer()
     runs::run_ends();
     inverse::inverse_is_computed();
     merging::merged_is_one();
+    laws::replied_once();
+    laws::always_replied();
 }
 
 /// The answer is no fault of memory, of the reader or of the writer.

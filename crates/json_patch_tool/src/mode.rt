@@ -15,6 +15,9 @@ pub enum Mode {
     /// Merges the second value, a merge patch (RFC 7396), into the first, and answers the new
     /// document.
     Merge,
+    /// Has an editor of the first value do the commands of the second: a list of patches and of the
+    /// words `undo` and `redo`. Answers an array of the new document and of an answer to each.
+    Edit,
 }
 
 /// The mode that a word on the command line names, in exactly these letters.
@@ -25,13 +28,14 @@ pub fn mode_of(word: &str) -> Option<Mode>
         "patch" => Some(Mode::Patch),
         "record" => Some(Mode::Record),
         "merge" => Some(Mode::Merge),
+        "edit" => Some(Mode::Edit),
         _ => None,
     }
 }
 
 /// How the program is called, without a line feed.
 pub fn usage() -> &'static str
-    ensures { result.now ≡ codes "usage: json_patch_tool patch|record|merge" }
+    ensures { result.now ≡ codes "usage: json_patch_tool patch|record|merge|edit" }
 {
-    "usage: json_patch_tool patch|record|merge"
+    "usage: json_patch_tool patch|record|merge|edit"
 }

@@ -203,6 +203,17 @@ const TITLED_LINE: &[u8] = b"{\"author\":{\"givenName\":\"John\"},\
     \"content\":\"This will be unchanged\",\"phoneNumber\":\"+01-123-456-7890\",\
     \"tags\":[\"example\"],\"title\":\"Hello!\"}\n";
 
+/// A change taken back, looked for once more and made again, and a change that is refused.
+const EDITED: &[u8] = b"[{\"a\":1},[[{\"op\":\"replace\",\"path\":\"/a\",\"value\":2}],\
+    \"undo\",\"undo\",\"redo\",[{\"op\":\"remove\",\"path\":\"/b\"}]]]";
+
+const EDITED_LINE: &[u8] =
+    b"[{\"a\":2},[true,true,false,true,{\"kind\":\"InvalidPointer\",\"operation\":0}]]\n";
+
+/// The same move as above, taken back and made again.
+const OVER_AND_BACK: &[u8] = b"[{\"a\":{\"b\":1,\"c\":2}},\
+    [[{\"op\":\"move\",\"from\":\"/a/b\",\"path\":\"/a\"}],\"undo\",\"redo\"]]";
+
 const LIMIT: usize = 16_777_216;
 
 #[test]
@@ -210,12 +221,13 @@ fn names_modes_and_usage(rt: HostRuntime) {
     assert_eq!(rt; mode_of("patch"), Some(Mode::Patch));
     assert_eq!(rt; mode_of("record"), Some(Mode::Record));
     assert_eq!(rt; mode_of("merge"), Some(Mode::Merge));
+    assert_eq!(rt; mode_of("edit"), Some(Mode::Edit));
     for word in [
-        "", "Patch", "PATCH", "patch ", "patc", "patches", "Record", "recorded", "Merge", "edit",
+        "", "Patch", "PATCH", "patch ", "patc", "patches", "Record", "recorded", "Merge", "Edit",
     ] {
         assert_eq!(rt; mode_of(word), None, "at {word}");
     }
-    assert_eq!(rt; usage(), "usage: json_patch_tool patch|record|merge");
+    assert_eq!(rt; usage(), "usage: json_patch_tool patch|record|merge|edit");
 }
 
 fn refused(rt: &HostRuntime) -> Result<ToolFault, Fail> {
@@ -258,7 +270,7 @@ fn tells_faults_and_statuses(rt: HostRuntime) -> Result<(), Fail> {
 }
 
 /// An input of a mode, and its line.
-const ANSWERS: [(Mode, &[u8], &[u8]); 11] = [
+const ANSWERS: [(Mode, &[u8], &[u8]); 17] = [
     (Mode::Patch, HAPPY, HAPPY_LINE),
     (
         Mode::Patch,
@@ -290,6 +302,26 @@ const ANSWERS: [(Mode, &[u8], &[u8]); 11] = [
         b"{\"a\":{\"b\":{\"d\":2}}}\n",
     ),
     (Mode::Merge, b"[{\"a\":1},{\"b\":null}]", b"{\"a\":1}\n"),
+    (Mode::Edit, b"[7,[]]", b"[7,[]]\n"),
+    (
+        Mode::Edit,
+        b"[7,[\"undo\",\"redo\"]]",
+        b"[7,[false,false]]\n",
+    ),
+    (Mode::Edit, EDITED, EDITED_LINE),
+    (Mode::Edit, OVER_AND_BACK, b"[{\"a\":1},[true,true,true]]\n"),
+    (
+        Mode::Edit,
+        b"[{\"a\":1},[[{\"op\":\"move\",\"from\":\"/a\",\"path\":\"/a/b\"}],\"undo\"]]",
+        b"[{\"a\":1},[{\"kind\":\"CannotMoveInsideItself\",\"operation\":0},false]]\n",
+    ),
+    (
+        Mode::Edit,
+        b"[1,[[{\"op\":\"test\",\"path\":\"\",\"value\":2}],\
+            [{\"op\":\"copy\",\"from\":\"/a\",\"path\":\"\"}]]]",
+        b"[1,[{\"kind\":\"TestFailed\",\"operation\":0},\
+            {\"kind\":\"InvalidFromPointer\",\"operation\":0}]]\n",
+    ),
 ];
 
 #[test]
@@ -409,7 +441,7 @@ fn refuses_what_is_no_pair(rt: HostRuntime) -> Result<(), Fail> {
     }
     let inputs: [&[u8]; 3] = [b"[1]", b"[1,[],2]", b"{}"];
     for input in inputs {
-        for mode in [Mode::Patch, Mode::Record, Mode::Merge] {
+        for mode in [Mode::Patch, Mode::Record, Mode::Merge, Mode::Edit] {
             refuse(&rt, mode, input, 2, "input is not a list of two values")?;
         }
     }
@@ -428,7 +460,7 @@ fn refuses_numbers_that_are_not_whole(rt: HostRuntime) -> Result<(), Fail> {
         b"[1e2,[]]",
     ];
     for input in inputs {
-        for mode in [Mode::Patch, Mode::Record] {
+        for mode in [Mode::Patch, Mode::Record, Mode::Edit] {
             refuse(&rt, mode, input, 2, "a number is not whole")?;
         }
     }
@@ -458,6 +490,25 @@ fn refuses_patches(rt: HostRuntime) -> Result<(), Fail> {
         for mode in [Mode::Patch, Mode::Record] {
             refuse(&rt, mode, input, number, text)?;
         }
+    }
+    Ok(())
+}
+
+/// All items are read before the first command is done.
+#[test]
+fn refuses_lists_of_commands(rt: HostRuntime) -> Result<(), Fail> {
+    let cases: [(&[u8], &str); 4] = [
+        (b"[7,{}]", "patch is not a list"),
+        (b"[7,\"undo\"]", "patch is not a list"),
+        (b"[7,[[],\"Undo\"]]", "patch is not a list"),
+        (
+            b"[7,[[{\"op\":\"replace\",\"path\":\"\",\"value\":8}],\
+                [{\"op\":\"add\",\"path\":\"/a\"}]]]",
+            "operation '/0': member \"value\" is missing",
+        ),
+    ];
+    for (input, text) in cases {
+        refuse(&rt, Mode::Edit, input, 2, text)?;
     }
     Ok(())
 }
@@ -630,10 +681,10 @@ fn ended<R: Read + Drop>(
     (number, writer.taken, errors.taken)
 }
 
-const MODES: [Mode; 3] = [Mode::Patch, Mode::Record, Mode::Merge];
+const MODES: [Mode; 4] = [Mode::Patch, Mode::Record, Mode::Merge, Mode::Edit];
 
 /// An input of a mode, the status, what is written, and what is told.
-const ENDINGS: [(Mode, &[u8], u8, &[u8], &[u8]); 9] = [
+const ENDINGS: [(Mode, &[u8], u8, &[u8], &[u8]); 12] = [
     (Mode::Patch, HAPPY, 0, HAPPY_LINE, b""),
     (Mode::Record, OVER, 0, OVER_BACK, b""),
     (Mode::Merge, TITLED, 0, TITLED_LINE, b""),
@@ -649,6 +700,9 @@ const ENDINGS: [(Mode, &[u8], u8, &[u8], &[u8]); 9] = [
     (Mode::Record, b"[1,{}]", 2, b"", b"patch is not a list\n"),
     (Mode::Merge, b"[1.5,1]", 2, b"", b"a number is not whole\n"),
     (Mode::Merge, b"[1,", 2, b"", b"input is not JSON\n"),
+    (Mode::Edit, EDITED, 0, EDITED_LINE, b""),
+    (Mode::Edit, b"[1.5,[]]", 2, b"", b"a number is not whole\n"),
+    (Mode::Edit, b"[1,[7]]", 2, b"", b"patch is not a list\n"),
 ];
 
 const NO_SUCH_ITEM: &[u8] = b"[[1],[{\"op\":\"remove\",\"path\":\"/-\"}]]";
@@ -690,10 +744,11 @@ fn ends_with_4_where_reading_fails(rt: HostRuntime) {
 
 #[test]
 fn ends_with_4_where_writing_fails(rt: HostRuntime) {
-    let cases: [(Mode, &[u8], &[u8]); 3] = [
+    let cases: [(Mode, &[u8], &[u8]); 4] = [
         (Mode::Patch, HAPPY, HAPPY_LINE),
         (Mode::Record, OVER, OVER_BACK),
         (Mode::Merge, TITLED, TITLED_LINE),
+        (Mode::Edit, EDITED, EDITED_LINE),
     ];
     for (mode, input, line) in cases {
         let broken = Trouble::At(1, ErrorKind::BrokenPipe);
@@ -716,7 +771,7 @@ fn ends_with_4_where_writing_fails(rt: HostRuntime) {
 
 #[test]
 fn ends_where_no_mode_is_asked_for(rt: HostRuntime) {
-    let usage: &[u8] = b"usage: json_patch_tool patch|record|merge\n";
+    let usage: &[u8] = b"usage: json_patch_tool patch|record|merge|edit\n";
     let cases = [
         (Ok(None), 64, usage),
         (Err(ToolFault::Memory), 3, b"out of memory\n"),

@@ -32,12 +32,19 @@ const INPUTS: [(&str, &str); 3] = [
     (OPERATIONS, OPERATIONS_LINE),
 ];
 
+/// Changes taken back and made again, and one that is refused.
+const COMMANDS: &str =
+    r#"[{"a":1},[[{"op":"replace","path":"/a","value":2}],"undo","undo","redo",[{"op":"remove","path":"/b"}]]]"#;
+
+/// The modes of the inputs above.
+const OTHERS: [Mode; 3] = [Mode::Patch, Mode::Record, Mode::Merge];
+
 /// Asserts that the input is answered with a line, or refused with nothing written.
-fn end_well(rt: &(impl Abort + AllocGlobal), input: &[u8]) {
-    for mode in [Mode::Patch, Mode::Record, Mode::Merge] {
+fn end_well(rt: &(impl Abort + AllocGlobal), modes: &[Mode], input: &[u8]) {
+    for mode in modes {
         let mut reader = input;
         let mut writer = writer_with(rt.alloc(), Trouble::None);
-        match run(rt.alloc(), mode, &mut reader, &mut writer) {
+        match run(rt.alloc(), *mode, &mut reader, &mut writer) {
             Ok(()) => assert!(rt; writer.taken.last() == Some(&b'\n'), "at {input:?}"),
             Err(fault) => {
                 assert!(rt; matches!(status(&fault), 1 | 2), "{fault} at {input:?}");
@@ -45,6 +52,30 @@ fn end_well(rt: &(impl Abort + AllocGlobal), input: &[u8]) {
             }
         }
     }
+}
+
+fn end_well_where_cut(rt: &(impl Abort + AllocGlobal), modes: &[Mode], text: &str) {
+    let input = text.as_bytes();
+    for end in 0..input.len() {
+        end_well(rt, modes, &input[..end]);
+    }
+}
+
+fn end_well_where_changed(
+    rt: &(impl Abort + AllocGlobal),
+    modes: &[Mode],
+    text: &str,
+) -> Result<(), Fail> {
+    let mut input = Vec::from_slice(rt.alloc(), text.as_bytes())?;
+    for place in 0..input.len() {
+        let was = input[place];
+        for byte in 0..=u8::MAX {
+            input[place] = byte;
+            end_well(rt, modes, &input);
+        }
+        input[place] = was;
+    }
+    Ok(())
 }
 
 #[test]
@@ -63,25 +94,20 @@ fn answers_what_is_cut_and_changed_below(rt: HostRuntime) {
 #[test]
 fn ends_where_input_is_cut(rt: HostRuntime) {
     for (text, _) in INPUTS {
-        let input = text.as_bytes();
-        for end in 0..input.len() {
-            end_well(&rt, &input[..end]);
-        }
+        end_well_where_cut(&rt, &OTHERS, text);
     }
+    end_well_where_cut(&rt, &[Mode::Edit], COMMANDS);
 }
 
 #[test]
 fn ends_where_a_byte_is_changed(rt: HostRuntime) -> Result<(), Fail> {
     for (text, _) in INPUTS {
-        let mut input = Vec::from_slice(rt.alloc(), text.as_bytes())?;
-        for place in 0..input.len() {
-            let was = input[place];
-            for byte in 0..=u8::MAX {
-                input[place] = byte;
-                end_well(&rt, &input);
-            }
-            input[place] = was;
-        }
+        end_well_where_changed(&rt, &OTHERS, text)?;
     }
     Ok(())
+}
+
+#[test]
+fn ends_where_a_byte_of_commands_is_changed(rt: HostRuntime) -> Result<(), Fail> {
+    end_well_where_changed(&rt, &[Mode::Edit], COMMANDS)
 }

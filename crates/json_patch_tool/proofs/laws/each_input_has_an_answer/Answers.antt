@@ -10,5 +10,7 @@ returns c =
       run_ends = c.run_ends.ensures;
       inverse_is_computed = c.inverse_is_computed.ensures;
       merged_is_one = c.merged_is_one.ensures;
+      replied_once = c.replied_once.ensures;
+      always_replied = c.always_replied.ensures;
     } in
     each_has_an_answer below c.document_or_not.ensures
