@@ -3,7 +3,7 @@
 
     diff/run.py [--seed S] [--cases N] [--ours PROGRAM] [--rust PROGRAM]
 
-`--ours` is the driver of diff/driver, built by diff/build; `--rust` a program round the Rust crate
+`--ours` is the program of diff/driver.rt.txt, built by diff/build; `--rust` a program round the Rust crate
 json-patch 5.0.0 that answers lines as that driver does (diff/rust/main.rs). nlohmann/json
 (Debian's nlohmann-json3-dev, with g++) and Python's jsonpatch (Debian's python3-jsonpatch) are
 taken where they are installed. Each disagreement is put into a class of diff/classes.py; the run fails
