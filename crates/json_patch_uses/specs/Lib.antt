@@ -1,2 +1,3 @@
 pub mod Updates
 pub mod Stores
+pub mod Versioned

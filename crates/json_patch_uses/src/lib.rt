@@ -6,7 +6,9 @@ mod store;
 #[cfg(test)]
 mod tests;
 mod texts;
+mod versioned;
 
 pub use fault::UpdateFault;
 pub use store::Store;
 pub use texts::patched;
+pub use versioned::{VersionFault, update_version};

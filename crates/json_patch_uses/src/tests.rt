@@ -1,7 +1,7 @@
 //! Each program on an example.
 
-use crate::{Store, UpdateFault, patched};
-use json_patch::is_whole;
+use crate::{Store, UpdateFault, VersionFault, patched, update_version};
+use json_patch::{Patch, is_whole};
 use serde_json::Value;
 use std::test::Fail;
 
@@ -62,5 +62,34 @@ fn two_texts_make_a_document(rt: HostRuntime) -> Result<(), Fail> {
     assert_eq!(rt; document.to_string(alloc)?.as_str(), "[1,true,2]");
     assert!(rt; matches!(patched(alloc, "[1.5]", changes), Err(UpdateFault::NotWhole)));
     assert!(rt; matches!(patched(alloc, "[]", changes), Err(UpdateFault::Refused(_))));
+    Ok(())
+}
+
+#[test]
+fn a_change_is_for_one_version(rt: HostRuntime) -> Result<(), Fail> {
+    let alloc = rt.alloc();
+    let mut document = Value::from_str(alloc, r#"{"title":"a","version":3}"#)?;
+    assert!(rt; is_whole(&document));
+    let next = Value::from_str(
+        alloc,
+        r#"[{"op":"replace","path":"/title","value":"b"},{"op":"replace","path":"/version","value":4}]"#,
+    )?;
+    let first = Patch::from_value(alloc, &next).expect(&rt, "a patch");
+    update_version(alloc, &mut document, 3, first).expect(&rt, "the version is 3");
+    let text = r#"{"title":"b","version":4}"#;
+    assert_eq!(rt; document.to_string(alloc)?.as_str(), text);
+    let second = Patch::from_value(alloc, &next).expect(&rt, "a patch");
+    let stale = update_version(alloc, &mut document, 3, second);
+    assert!(rt; matches!(stale, Err(VersionFault::Stale)));
+    let value = Value::from_str(
+        alloc,
+        r#"[{"op":"remove","path":"/title"},{"op":"remove","path":"/x"}]"#,
+    )?;
+    let third = Patch::from_value(alloc, &value).expect(&rt, "a patch");
+    match update_version(alloc, &mut document, 4, third) {
+        Err(VersionFault::Refused(error)) => assert_eq!(rt; error.operation, 1),
+        _ => panic!(rt; "there is no x"),
+    }
+    assert_eq!(rt; document.to_string(alloc)?.as_str(), text);
     Ok(())
 }
