@@ -233,10 +233,15 @@ def tool_runs():
         '[{"a":1},[{"op":"replace","path":"/a","value":{"c":2}},'
         '{"op":"add","path":"/a/b","value":1}]]'
     )
+    moved = [[move("/a/b", "/a")], "undo", "redo"]
+    changes = [[replace("/a", 2)], "undo", "undo", "redo", [remove("/b")]]
+    replies = '[{"a":2},[true,true,false,true,{"kind":"InvalidPointer","operation":0}]]'
     for name, mode, pair, line in (
         ("a test and an add", "patch", [NAMES, NAMES_PATCH], patched),
         ("a member moved over its parent", "record", [over, [move("/a/b", "/a")]], recorded),
         ("an article", "merge", [ARTICLE, ARTICLE_MERGE], compact(ARTICLE_MERGED)),
+        ("a member moved, back and again", "edit", [over, moved], '[{"a":1},[true,true,true]]'),
+        ("nothing to take, and a refusal", "edit", [{"a": 1}, changes], replies),
     ):
         yield ToolRun(f"json_patch_tool {mode}: {name}", mode, compact(pair), 0, line + "\n", "")
     absent = refusal(0, "/-", NOT_FOUND)
@@ -244,6 +249,7 @@ def tool_runs():
         ("an item that isn't there", "patch", [[1], [remove("/-")]], 1, absent),
         ("no patch", "record", [1, {}], 2, "patch is not a list"),
         ("a fraction", "merge", [1.5, {}], 2, "a number is not whole"),
+        ("no commands", "edit", [7, {}], 2, "patch is not a list"),
     ):
         yield ToolRun(f"json_patch_tool {mode}: {name}", mode, compact(pair), status, "", fault)
 
