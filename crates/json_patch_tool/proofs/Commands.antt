@@ -16,7 +16,7 @@ use Rattle.json_patch_editor.specs.Commands as editor
 use Rattle.json_patch_editor.specs.Commands.{apply, undo, redo, Reply, refused, moved, Replies, RepliesInTurn, IsWholeCommand}
 use Rattle.json_patch_editor.specs.Versions.{Versions, after_undo, after_redo}
 use Rattle.json_patch_tool.specs.CommandList.{command_of, commands_of, IsNoCommand, IsNoCommands, HasReplied}
-use Rattle.json_patch_tool.specs.Editing.{ReadsCommand, ReadsItems, RefusesCommand, RefusesItems, written_reply}
+use Rattle.json_patch_tool.specs.Editing.{ReadsCommand, ReadsItems, RefusesCommand, written_reply}
 use Rattle.json_patch_tool.specs.declared.editing.Command.{Command}
 use Rattle.json_patch_tool.specs.declared.editing.Command.TheVariants.{Apply, Undo, Redo}
 use Rattle.json_patch_tool.specs.declared.fault.ToolFault.{ToolFault}

@@ -1,8 +1,8 @@
 -- A value is one list of commands at most, or none for one cause, and an editor gives one value for it.
-use Rattle.std.proofs.Common.{◌≡◌, ◌⊎◌, ℕ, List, [], ◌∷◌, Option, Some, None, Bool, true, false, inl, inr, refl, sym, ap, subst, ◌∙◌, arith}
+use Rattle.std.proofs.Common.{◌≡◌, ◌⊎◌, ℕ, List, [], ◌∷◌, Option, None, Bool, true, false, inl, inr, refl, sym, ap, subst, ◌∙◌, arith}
 use Rattle.std.specs.Prelude.{All, codes}
 use Rattle.std.specs.Str.{bytes_eq}
-use Rattle.std.proofs.lemmas.List.Elements.{All-cons, All-nil}
+use Rattle.std.proofs.lemmas.List.Elements.{All-nil}
 use Rattle.std.proofs.lemmas.Slice.Eq.{bytes_eq-Decides}
 use Rattle.serde_json.specs.Data.{Data, null, boolean, number, string, array, object, Items, no_items, item}
 use Rattle.json_patch.specs.Document.{IsDocument}
@@ -11,8 +11,8 @@ use Rattle.json_patch.specs.PatchValue.{ReadsPatch, RefusesPatch}
 use Rattle.json_patch.specs.declared.error.ReadError.{ReadError}
 use Rattle.json_patch.specs.declared.error.ReadKind.{ReadKind}
 use Rattle.json_patch.specs.declared.error.ReadKind.TheVariants.{NotAList}
-use Rattle.json_patch_editor.specs.Commands.{AreVersions, Command, apply, undo, redo, IsWholeCommand, RepliesInTurn, Reply}
-use Rattle.json_patch_editor.specs.Versions.{Versions, initial}
+use Rattle.json_patch_editor.specs.Commands.{AreVersions, Command, apply, undo, redo, IsWholeCommand, RepliesInTurn}
+use Rattle.json_patch_editor.specs.Versions.{initial}
 use Rattle.json_patch_tool.specs.Editing.{ReadsCommand, RefusesCommand, ReadsItems, ReadsCommands, RefusesItems, RefusesCommands, written_edit}
 use Rattle.json_patch_tool.specs.Answer.{IsEdited, IsNotEdited}
 use Rattle.json_patch_tool.specs.declared.fault.ToolFault.{ToolFault}

@@ -3,7 +3,6 @@ use Rattle.std.specs.Prelude.{◌≡◌, ◌⊎◌, ℕ, List, [], ◌∷◌, ma
 use Rattle.serde_json.specs.Data.{Data, string, array, object, boolean, number, unsigned, Items, no_items, item, member, no_members}
 use Rattle.serde_json.specs.View.{items_of}
 use Rattle.json_patch.specs.PatchValue.{ReadsPatch, RefusesPatch}
-use Rattle.json_patch.specs.declared.error.PatchError.{PatchError}
 use Rattle.json_patch.specs.declared.error.PatchErrorKind.{PatchErrorKind}
 use Rattle.json_patch.specs.declared.error.PatchErrorKind.TheVariants.{TestFailed, InvalidFromPointer, InvalidPointer, CannotMoveInsideItself}
 use Rattle.json_patch.specs.declared.error.ReadKind.{ReadKind}
