@@ -156,18 +156,18 @@ CASES = [
 ]
 
 
-def built(folder):
-    """The driver, built in a copy of this repository."""
+def built(folder, name, driver, uses):
+    """The driver, built as a crate of this name in a copy of this repository."""
     top = pathlib.Path(__file__).resolve().parent.parent
     copy = pathlib.Path(folder) / "copy"
     shutil.copytree(top, copy, ignore=shutil.ignore_patterns(".git"))
-    crate = copy / "crates" / NAME
+    crate = copy / "crates" / name
     (crate / "src").mkdir(parents=True)
-    (crate / "src" / "main.rt").write_text(DRIVER)
+    (crate / "src" / "main.rt").write_text(driver)
     with open(copy / "crates.txt", "a") as listed:
-        listed.write(f"{NAME}: json_patch serde_json\n")
+        listed.write(f"{name}: {uses}\n")
     subprocess.run(["rt", "run"], cwd=crate, stdin=subprocess.DEVNULL, check=True)
-    return crate / "out" / NAME
+    return crate / "out" / name
 
 
 def ours(program, mode, count, pair):
@@ -188,7 +188,7 @@ def theirs(program, mode, count, pair):
 
 def main():
     with tempfile.TemporaryDirectory() as folder:
-        driver = built(folder)
+        driver = built(folder, NAME, DRIVER, "json_patch serde_json")
         for name, mode, count, document, change in CASES:
             pair = [document, change]
             best = [float("inf"), float("inf")]

@@ -11,8 +11,8 @@ NOT_FOUND = "path is invalid"
 
 # A call of the program json_patch_memory: its line in the table that is printed, its arguments, what
 # the program writes with ample memory, and each thing that it may write where a request was refused.
-# `requests` is the number of requests, where it is known.
-Call = namedtuple("Call", "line arguments answer short requests", defaults=[None])
+# `requests` is the number of requests, where it is known, and `at_least` a bound on it.
+Call = namedtuple("Call", "line arguments answer short requests at_least", defaults=[None, 0])
 
 # A run of json_patch_tool: its mode, its input, and its status, line and fault with ample memory.
 ToolRun = namedtuple("ToolRun", "line mode input status output fault")
@@ -116,6 +116,45 @@ IN_PLACE = {
     ),
 }
 
+# A depth, a document, and commands, each with its answer and the document, the number of undos and
+# the number of redos that it leaves.
+OVER = {"a": {"b": 1, "c": 2}}
+EDITS = {
+    "a move back and on": (65536, OVER, [
+        ([move("/a/b", "/a")], "true", {"a": 1}, 1, 0),
+        ("undo", "true", OVER, 0, 1),
+        ("redo", "true", {"a": 1}, 1, 0),
+        ("undo", "true", OVER, 0, 1),
+        ("undo", "false", OVER, 0, 1),
+    ]),
+    "a change drops what was undone": (65536, {}, [
+        ([add("/b", 2)], "true", {"b": 2}, 1, 0),
+        ("undo", "true", {}, 0, 1),
+        ([add("/c", 3)], "true", {"c": 3}, 1, 0),
+        ("redo", "false", {"c": 3}, 1, 0),
+    ]),
+    "the empty patch is a change": (65536, 7, [
+        ([], "true", 7, 1, 0),
+        ("undo", "true", 7, 0, 1),
+    ]),
+    "the oldest version is dropped": (2, 0, [
+        ([replace("", 1)], "true", 1, 1, 0),
+        ([replace("", 2)], "true", 2, 2, 0),
+        ([replace("", 3)], "true", 3, 2, 0),
+        ("undo", "true", 2, 1, 1),
+        ("undo", "true", 1, 0, 2),
+        ("undo", "false", 1, 0, 2),
+    ]),
+    "without depth nothing is kept": (0, 0, [
+        ([replace("", 1)], "true", 1, 0, 0),
+        ("undo", "false", 1, 0, 0),
+        ("redo", "false", 1, 0, 0),
+    ]),
+    "a refused change": (65536, {"a": 1}, [
+        ([replace("/a", 2), remove("/b")], refusal(1, "/b", NOT_FOUND), {"a": 1}, 0, 0),
+    ]),
+}
+
 MERGES = {
     "an article": (ARTICLE, ARTICLE_MERGE, ARTICLE_MERGED),
     "a null in an object": ({}, {"a": {"b": None}}, {"a": {}}),
@@ -199,6 +238,37 @@ def merge_calls():
         texts = [compact(document), compact(changes)]
         short = [left(MEMORY, texts[0])]
         yield Call(f"merge: {name}", ["merge", *texts], left("done", compact(merged)), short)
+
+
+def editor_state(document, undos, redos):
+    return f"{compact(document)}, undos {undos}, redos {redos}"
+
+
+def editor_call(line, depth, document, commands, answer, before, after):
+    """The last of the commands. One that has something to do takes memory."""
+    return Call(
+        line,
+        ["edit", str(depth), compact(document), compact(commands)],
+        left(answer, editor_state(*after)),
+        [left(MEMORY, editor_state(*before))],
+        requests=0 if answer == "false" else None,
+        at_least=1 if answer == "true" else 0,
+    )
+
+
+def editor_calls():
+    """A call for which memory is short leaves the document, the undos and the redos."""
+    for name, (depth, document, lines) in EDITS.items():
+        commands, before = [], (document, 0, 0)
+        for command, answer, *after in lines:
+            commands = [*commands, command]
+            call = command if isinstance(command, str) else "apply"
+            line = f"editor {call}: {name}"
+            yield editor_call(line, depth, document, commands, answer, before, after)
+            before = after
+    # An editor that stored documents in place of patches would take no memory here.
+    line = "editor_stores_versions"
+    yield editor_call(line, 65536, 7, [[], "undo"], "true", (7, 1, 0), (7, 0, 1))
 
 
 def kind_calls(line, kind, value, read, told):

@@ -4,6 +4,7 @@
 #![tactic(auto)]
 
 mod counted;
+mod editing;
 mod kinds;
 mod pointers;
 mod runs;
@@ -23,9 +24,11 @@ fn seen(rt: &HostRuntime, mut words: Args) -> io::Result<String> {
     let (Some(call), Some(first)) = (words.next(), words.next()) else {
         return Err(io::Error::from(ErrorKind::InvalidInput));
     };
-    match words.next() {
-        Some(second) => on_two(rt, call.as_str(), first.as_str(), second.as_str()),
-        None => on_one(rt, call.as_str(), first.as_str()),
+    let (call, first) = (call.as_str(), first.as_str());
+    match (words.next(), words.next()) {
+        (Some(second), Some(third)) => on_three(rt, call, first, second.as_str(), third.as_str()),
+        (Some(second), None) => on_two(rt, call, first, second.as_str()),
+        (None, _) => on_one(rt, call, first),
     }
 }
 
@@ -51,6 +54,19 @@ fn on_two(rt: &HostRuntime, call: &str, first: &str, second: &str) -> io::Result
         "from_value" => kinds::from_value(rt, first, second),
         "to_value" => kinds::to_value(rt, first, second),
         "clone" => kinds::clone(rt, first, second),
+        _ => Err(io::Error::from(ErrorKind::InvalidInput)),
+    }
+}
+
+fn on_three(
+    rt: &HostRuntime,
+    call: &str,
+    first: &str,
+    second: &str,
+    third: &str,
+) -> io::Result<String> {
+    match call {
+        "edit" => editing::edit(rt, first, second, third),
         _ => Err(io::Error::from(ErrorKind::InvalidInput)),
     }
 }

@@ -56,7 +56,7 @@ pub(crate) fn pretty(rt: &HostRuntime, document: &str) -> io::Result<String> {
     line(rt, &answer.map_err(PatchFault::Memory), &document)
 }
 
-fn document_of(rt: &HostRuntime, text: &str) -> io::Result<Value>
+pub(crate) fn document_of(rt: &HostRuntime, text: &str) -> io::Result<Value>
     ensures { IfOk result (λ document. IsDocument (view document)) }
 {
     let document = value_of(rt, text)?;
@@ -69,7 +69,13 @@ fn document_of(rt: &HostRuntime, text: &str) -> io::Result<Value>
 fn patch_of(rt: &HostRuntime, text: &str) -> io::Result<Patch>
     ensures { IfOk result (λ changes. AreWhole (operations changes.0.items)) }
 {
-    match Patch::from_value(rt.alloc(), &value_of(rt, text)?) {
+    patch_from(rt, &value_of(rt, text)?)
+}
+
+pub(crate) fn patch_from(rt: &HostRuntime, value: &Value) -> io::Result<Patch>
+    ensures { IfOk result (λ changes. AreWhole (operations changes.0.items)) }
+{
+    match Patch::from_value(rt.alloc(), value) {
         Ok(changes) => Ok(changes),
         Err(_) => Err(io::Error::from(ErrorKind::InvalidInput)),
     }
