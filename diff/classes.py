@@ -100,6 +100,8 @@ CLASSES = [
      lambda at: at.op == "move" and at.ours[:4] == at.theirs[:4] and at.ours[3] == "InvalidPointer"),
     (RUST, "undoes a move over a member by putting the member's value back at a place that has shifted",
      lambda at: at.ours[:4] == at.theirs[:4] and at.moved_over_member()),
+    (RUST, "panics where a move over a member is undone at a place that has shifted",
+     lambda at: at.panicked() and at.moved_over_member()),
     (NLOHMANN, "adds to an atom: a failed assertion, undefined where assertions are off",
      lambda at: at.raised("assertion") and at.op in ("add", "copy", "move")),
     (NLOHMANN, "a null on the way of an add becomes an object or a list",
