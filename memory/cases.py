@@ -331,14 +331,16 @@ def large_calls():
     items = [{"k": "abcdefghij", "x": {}}] * 1000
     changed = items[:500] + [{**items[500], "x": {"b": 2}}] + items[501:]
     set_to_2 = {**members, "x": 2}
-    for name, first, operation, last, fewer_than in (
-        ("below a member", document, add("/x/b", 2), {**members, "x": {"b": 2}}, 64),
-        ("in an item", items, add("/500/x/b", 2), changed, 64),
-        ("beside members", members, add("/x", 2), set_to_2, 16),
-        ("of a member", document, replace("/x", 2), set_to_2, 16),
-        ("of a member", document, remove("/x"), members, 1),
-        ("of a member", document, test("/x", {}), document, 1),
+    filled = {**members, "x": {"a": 1, "b": 2}}
+    for name, first, operations, last, fewer_than in (
+        ("below a member", document, [add("/x/b", 2)], {**members, "x": {"b": 2}}, 64),
+        ("in an item", items, [add("/500/x/b", 2)], changed, 64),
+        ("below a member, on a copy", filled, [remove("/x/a"), remove("/x/b")], document, 64),
+        ("beside members", members, [add("/x", 2)], set_to_2, 16),
+        ("of a member", document, [replace("/x", 2)], set_to_2, 16),
+        ("of a member", document, [remove("/x")], members, 1),
+        ("of a member", document, [test("/x", {})], document, 1),
     ):
-        line = f"patch: {operation['op']} {name}, of 1000"
-        arguments = ["patch", compact(first), compact([operation])]
+        line = f"patch: {operations[0]['op']} {name}, of 1000"
+        arguments = ["patch", compact(first), compact(operations)]
         yield Bound(line, arguments, left("done", compact(last)), fewer_than)
