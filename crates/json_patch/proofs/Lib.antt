@@ -22,7 +22,6 @@ pub mod Walked
 pub mod Examples
 pub mod Samed
 pub mod SameMembers
-pub mod Wholeness
 pub mod Stepped
 pub mod Runs
 pub mod Level

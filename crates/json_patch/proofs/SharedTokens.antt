@@ -2,8 +2,8 @@
 use Rattle.std.proofs.Common.{◌≡◌, ◌↔◌, ◌+◌, ◌<◌, ◌≤◌, ℕ, zero, suc, List, [], ◌∷◌, ◌++◌, length, drop, add-one, arith, append_assoc, append-nil, Bool, true, false, bytes_eq, if◌then◌else◌, Option, Some, None, IfNone, refl, sym, ap, ◌∙◌, subst}
 use Rattle.std.proofs.lemmas.Slice.Eq.{bytes_eq-Decides}
 use Rattle.jsonptr.specs.Text.{Pointer, IsPrefix, IsProperPrefix, IsLongestShared}
-use Rattle.json_patch.specs.Operation.{Operation, add, remove, replace, move, copy, test, operation_of, operations, path_of}
-use Rattle.json_patch.specs.PartRun.{IsLongest, from_of}
+use Rattle.json_patch.specs.Operation.{Operation, add, remove, replace, move, copy, test, operation_of, operations, path_of, from_of}
+use Rattle.json_patch.specs.PartRun.{IsLongest}
 use Rattle.json_patch.specs.declared.operation.PatchOperation.{PatchOperation}
 use Rattle.json_patch.specs.Shared.{IsWithin, AreWithin, IsNotEmpty, IsShared}
 use Rattle.json_patch.specs.ChangeComputed.{front_of, last_of}

@@ -4,6 +4,7 @@ pub mod Change
 pub mod Same
 pub mod Propositions
 pub mod Operation
+pub mod Held
 pub mod Step
 pub mod Undoing
 pub mod Run

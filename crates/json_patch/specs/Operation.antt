@@ -1,5 +1,5 @@
 -- The operations of JSON Patch (RFC 6902, section 4).
-use Rattle.std.specs.Prelude.{List, [], ◌∷◌, map}
+use Rattle.std.specs.Prelude.{ℕ, List, [], ◌∷◌, map, codes, Option, Some, None, IfSome}
 use Rattle.serde_json.specs.Data.{Data}
 use Rattle.serde_json.specs.View.{view}
 use Rattle.jsonptr.specs.Text.{Pointer}
@@ -51,14 +51,26 @@ operation_of (Test o) = test_of o
 abbrev pub operations : List PatchOperation → List Operation
 operations os = map operation_of os
 
--- the `path` of an operation
+-- the parts of an operation: its name in exactly these letters, its `path`, and its `from` and `value` where it has them
+pub record Parts : Type 0 where
+  pub name : List ℕ
+  pub from : Option Pointer
+  pub path : Pointer
+  pub value : Option Data
+
+abbrev pub parts_of : Operation → Parts
+parts_of (add P v) = record { name = codes "add"; from = None; path = P; value = Some v }
+parts_of (remove P) = record { name = codes "remove"; from = None; path = P; value = None }
+parts_of (replace P v) = record { name = codes "replace"; from = None; path = P; value = Some v }
+parts_of (move F P) = record { name = codes "move"; from = Some F; path = P; value = None }
+parts_of (copy F P) = record { name = codes "copy"; from = Some F; path = P; value = None }
+parts_of (test P v) = record { name = codes "test"; from = None; path = P; value = Some v }
+
 abbrev pub path_of : Operation → Pointer
-path_of (add P v) = P
-path_of (remove P) = P
-path_of (replace P v) = P
-path_of (move F P) = P
-path_of (copy F P) = P
-path_of (test P v) = P
+path_of op = (parts_of op).path
+
+abbrev pub from_of : Operation → Option Pointer
+from_of op = (parts_of op).from
 
 abbrev pub IsMove : Operation → Type 0
 IsMove (add P v) = ⊥
@@ -70,12 +82,7 @@ IsMove (test P v) = ⊥
 
 -- the operation's value, if it has one, is a document
 abbrev pub IsWholeOp : Operation → Type 0
-IsWholeOp (add P v) = IsDocument v
-IsWholeOp (remove P) = Unit {0}
-IsWholeOp (replace P v) = IsDocument v
-IsWholeOp (move F P) = Unit {0}
-IsWholeOp (copy F P) = Unit {0}
-IsWholeOp (test P v) = IsDocument v
+IsWholeOp op = IfSome (parts_of op).value IsDocument
 
 abbrev pub AreWhole : List Operation → Type 0
 AreWhole [] = Unit {0}

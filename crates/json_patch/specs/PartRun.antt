@@ -68,15 +68,6 @@ RunsAt (Ok false) run old P new = (None ≡ found old P) × (new ≡ old)
 RunsAt (Err (Refused k kind)) run old P new = ((b : Data) × (found old P ≡ Some b) × (run b ≡ Err (fault k kind))) × (new ≡ old)
 RunsAt (Err (Memory e)) run old P new = new ≡ old
 
--- the `from` of an operation that has one
-abbrev pub from_of : Operation → Option Pointer
-from_of (add P v) = None
-from_of (remove P) = None
-from_of (replace P v) = None
-from_of (move F P) = Some F
-from_of (copy F P) = Some F
-from_of (test P v) = None
-
 -- S is the longest of the lists of tokens that this holds of, which are those that begin it
 abbrev pub IsLongest : (Pointer → Type 0) → Pointer → Type 0
 IsLongest Holds S = (T : Pointer) → Holds T ↔ IsPrefix T S

@@ -1,16 +1,16 @@
 -- A patch as a JSON value (RFC 6902, sections 3 and 4): the members of an operation, when a value
 -- reads as a patch, why it doesn't, and what is written for a patch.
-use Rattle.std.specs.Prelude.{◌≡◌, ◌<◌, ℕ, zero, suc, List, [], ◌∷◌, map, Option, Some, None, Result, IfErr, IsTrue, codes}
+use Rattle.std.specs.Prelude.{◌≡◌, ◌<◌, ℕ, zero, suc, List, [], ◌∷◌, ◌++◌, map, Option, Some, None, option_map, Result, IfErr, IsTrue, codes}
 use Rattle.std.specs.List.{list_any}
 use Rattle.std.specs.Str.{bytes_eq}
 use Rattle.serde_json.specs.Data.{Data, string, array, object, Items, no_items, item, Members, no_members, put}
 use Rattle.serde_json.specs.Find.{get}
 use Rattle.serde_json.specs.View.{items_of}
-use Rattle.jsonptr.specs.Text.{text_of}
+use Rattle.jsonptr.specs.Text.{Pointer, text_of}
 use Rattle.jsonptr.specs.Faults.{IsFault}
 use Rattle.jsonptr.specs.declared.ParseError.{ParseError}
 use Rattle.json_patch.specs.Document.{IsDocument}
-use Rattle.json_patch.specs.Operation.{Operation, add, remove, replace, move, copy, test, IsWholeOp}
+use Rattle.json_patch.specs.Operation.{Operation, Parts, parts_of, IsWholeOp}
 use Rattle.json_patch.specs.declared.error.ReadKind.{ReadKind}
 use Rattle.json_patch.specs.declared.error.ReadKind.TheVariants.{NotAList, NotAnObject, MissingOp, OpNotText, UnknownOp, MissingFrom, FromNotText, BadFrom, MissingPath, PathNotText, BadPath, MissingValue, ValueNotWhole}
 use Rattle.json_patch.specs.declared.error.ReadError.{ReadError}
@@ -19,23 +19,26 @@ use Rattle.json_patch.specs.declared.error.ReadFault.TheVariants.{Refused, Memor
 
 -- ---- the members of an operation (RFC 6902, section 4)
 
--- the text of its member `op`, in exactly these letters
+-- the text of its member `op`
 abbrev pub name_of : Operation → List ℕ
-name_of (add P v) = codes "add"
-name_of (remove P) = codes "remove"
-name_of (replace P v) = codes "replace"
-name_of (move F P) = codes "move"
-name_of (copy F P) = codes "copy"
-name_of (test P v) = codes "test"
+name_of op = (parts_of op).name
 
--- its other members, by their names: `from` and `path` are the texts of pointers (RFC 6901, section 3)
+-- the member of this name, if there is one
+abbrev pub field_if : List ℕ → Option Data → List (List ℕ × Data)
+field_if name None = []
+field_if name (Some d) = (name, d) ∷ []
+
+-- the text of a pointer, as a value (RFC 6901, section 3)
+abbrev pub pointer_text : Pointer → Data
+pointer_text P = string (text_of P)
+
+-- the members of parts, the name left out
+abbrev pub part_fields : Parts → List (List ℕ × Data)
+part_fields p = field_if (codes "from") (option_map pointer_text p.from) ++ (codes "path", pointer_text p.path) ∷ field_if (codes "value") p.value
+
+-- the members of an operation besides `op`, by their names
 abbrev pub fields : Operation → List (List ℕ × Data)
-fields (add P v) = (codes "path", string (text_of P)) ∷ (codes "value", v) ∷ []
-fields (remove P) = (codes "path", string (text_of P)) ∷ []
-fields (replace P v) = (codes "path", string (text_of P)) ∷ (codes "value", v) ∷ []
-fields (move F P) = (codes "from", string (text_of F)) ∷ (codes "path", string (text_of P)) ∷ []
-fields (copy F P) = (codes "from", string (text_of F)) ∷ (codes "path", string (text_of P)) ∷ []
-fields (test P v) = (codes "path", string (text_of P)) ∷ (codes "value", v) ∷ []
+fields op = part_fields (parts_of op)
 
 -- the names of these members, whatever they hold
 abbrev pub field_names : Operation → List (List ℕ)
@@ -194,3 +197,18 @@ written op = object (sorted_members (all_fields op))
 -- the value of a patch
 abbrev pub written_patch : List Operation → Data
 written_patch ops = array (items_of (map written ops))
+
+-- ---- for private clauses
+
+-- the members of parts, with a member `op` in front where there is a text for it
+abbrev pub named_fields : Option (List ℕ) → Parts → List (List ℕ × Data)
+named_fields name p = field_if (codes "op") (option_map string name) ++ part_fields p
+
+-- the value of parts
+abbrev pub written_parts : Option (List ℕ) → Parts → Data
+written_parts name p = object (sorted_members (named_fields name p))
+
+-- the members with this one, if there is one
+abbrev pub put_if : List ℕ → Option Data → Members → Members
+put_if name None ms = ms
+put_if name (Some d) ms = put name d ms

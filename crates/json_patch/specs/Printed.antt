@@ -1,11 +1,11 @@
 -- The text of values and operations with no space (RFC 8259).
-use Rattle.std.specs.Prelude.{ℕ, ◌/◌, ◌%◌, ◌==◌, nat_lt, if◌then◌else◌, true, false, List, [], ◌∷◌, ◌++◌, map, flat_map, Option, Some, None, option_map, chars, codes, decimal, encode_utf8}
+use Rattle.std.specs.Prelude.{ℕ, ◌/◌, ◌%◌, ◌==◌, nat_lt, if◌then◌else◌, true, false, List, [], ◌∷◌, ◌++◌, map, flat_map, Option, Some, None, chars, codes, decimal, encode_utf8}
 use Rattle.std.specs.Char.{digit_char}
 use Rattle.std.specs.Fmt.{signed_decimal}
 use Rattle.serde_json.specs.Data.{Num, unsigned, negative, float, Data, null, boolean, number, string, array, object, Items, no_items, item, Members, no_members, member}
 use Rattle.serde_json.specs.View.{items_of}
-use Rattle.json_patch.specs.Operation.{Operation}
-use Rattle.json_patch.specs.PatchValue.{all_fields}
+use Rattle.json_patch.specs.Operation.{Operation, Parts}
+use Rattle.json_patch.specs.PatchValue.{all_fields, named_fields}
 
 -- what stands for a character between the quotes (RFC 8259, section 7)
 abbrev pub escaped : ℕ → List ℕ
@@ -71,14 +71,9 @@ printed_patch ops = printed (array (listed ops))
 
 -- ---- for private clauses
 
--- the members of an operation, those that there are
-abbrev pub field_if : List ℕ → Option Data → List (List ℕ × Data)
-field_if name None = []
-field_if name (Some d) = (name, d) ∷ []
-
-abbrev pub given_fields : Option (List ℕ) → Option (List ℕ) → List ℕ → Option Data → List (List ℕ × Data)
-given_fields name from path value = field_if (codes "op") (option_map string name)
-    ++ (field_if (codes "from") (option_map string from) ++ (codes "path", string path) ∷ field_if (codes "value") value)
+-- the text of parts, their name as `op` where it is asked for
+abbrev pub printed_parts : Option (List ℕ) → Parts → List ℕ
+printed_parts name p = printed_fields (named_fields name p)
 
 -- a member and the comma after it, or nothing
 abbrev pub leading_text : List ℕ → Option (List ℕ) → List ℕ

@@ -1,6 +1,6 @@
 -- That a value is a document, and that the values of operations are, has one proof at most, so that either may be a ghost
 -- field of a type.
-use Rattle.std.specs.Prelude.{◌≡◌, ◌<◌, ◌^◌, ℕ, pos, negsuc, List, [], ◌∷◌}
+use Rattle.std.specs.Prelude.{◌≡◌, ◌<◌, ◌^◌, ℕ, pos, negsuc, List, [], ◌∷◌, Option, Some, None, IfSome}
 use mathlib.Core.Path.{refl}
 use Rattle.std.proofs.Props.{props}
 use Rattle.std.specs.Ordering.{nat_cmp}
@@ -8,7 +8,7 @@ use Rattle.std.specs.declared.cmp.Ordering.TheVariants.{Less}
 use Rattle.std.specs.Cmp.Lexicographic.{slice_cmp}
 use Rattle.serde_json.specs.Data.{Num, unsigned, negative, float, Data, null, boolean, number, string, array, object, Items, no_items, item, Members, no_members, member}
 use Rattle.json_patch.specs.Document.{IsBelowMembers, IsWhole, IsDocument, AreDocuments, AreMembers}
-use Rattle.json_patch.specs.Operation.{Operation, add, remove, replace, move, copy, test, IsWholeOp, AreWhole}
+use Rattle.json_patch.specs.Operation.{Operation, parts_of, AreWhole}
 
 IsBelowMembers-prop : (k : List ℕ) (ms : Members) → IsProp (IsBelowMembers k ms)
 IsBelowMembers-prop k no_members p q = refl
@@ -39,14 +39,10 @@ mutual
   AreMembers-prop no_members p q = refl
   AreMembers-prop (member k d ms) p q = λ i. (IsBelowMembers-prop k ms p.0 q.0 i, IsDocument-prop d p.1 q.1 i, AreMembers-prop ms p.2 q.2 i)
 
-IsWholeOp-prop : (op : Operation) → IsProp (IsWholeOp op)
-IsWholeOp-prop (add P v) p q = IsDocument-prop v p q
-IsWholeOp-prop (remove P) p q = refl
-IsWholeOp-prop (replace P v) p q = IsDocument-prop v p q
-IsWholeOp-prop (move F P) p q = refl
-IsWholeOp-prop (copy F P) p q = refl
-IsWholeOp-prop (test P v) p q = IsDocument-prop v p q
+value-prop : (o : Option Data) → IsProp (IfSome o IsDocument)
+value-prop None p q = refl
+value-prop (Some d) p q = IsDocument-prop d p q
 
 pub AreWhole-prop : (ops : List Operation) → IsProp (AreWhole ops)
 AreWhole-prop [] p q = refl
-AreWhole-prop (op ∷ ops) p q = λ i. (IsWholeOp-prop op p.0 q.0 i, AreWhole-prop ops p.1 q.1 i)
+AreWhole-prop (op ∷ ops) p q = λ i. (value-prop (parts_of op).value p.0 q.0 i, AreWhole-prop ops p.1 q.1 i)

@@ -2,7 +2,7 @@
 use Rattle.std.specs.Prelude.{◌≡◌, List, [], ◌∷◌, Option, Some, None}
 use Rattle.serde_json.specs.Data.{Num, unsigned, negative, float, Data, null, boolean, number, string, array, object, Items, no_items, item, Members, no_members, member}
 use Rattle.json_patch.specs.Document.{IsBelowMembers}
-use Rattle.json_patch.specs.Operation.{Operation, add, remove, replace, move, copy, test}
+use Rattle.json_patch.specs.Operation.{Operation, Parts, parts_of}
 
 -- numbers that aren't whole count as one value
 abbrev pub AreSameNumbers : Num → Num → Type 0
@@ -33,7 +33,7 @@ abbrev mutual
   AreSameMembers (member k d ms) (member l e ns) = (k ≡ l) × AreSame d e × AreSameMembers ms ns
   AreSameMembers ms ns = ⊥
 
--- what stands at a name of two objects: the same value, or nothing in both
+-- where there may be a value: the same in both, or none in both
 abbrev pub AreSameAt : Option Data → Option Data → Type 0
 AreSameAt None None = Unit {0}
 AreSameAt (Some d) (Some e) = AreSame d e
@@ -44,15 +44,12 @@ abbrev pub AreInOrder : Members → Type 0
 AreInOrder no_members = Unit {0}
 AreInOrder (member k d ms) = IsBelowMembers k ms × AreInOrder ms
 
--- operations of one kind, with equal pointers and the same value
+-- one name, equal pointers and the same value, those that there are
+abbrev pub AreSameParts : Parts → Parts → Type 0
+AreSameParts p q = (p.name ≡ q.name) × (p.from ≡ q.from) × (p.path ≡ q.path) × AreSameAt p.value q.value
+
 abbrev pub AreSameOperations : Operation → Operation → Type 0
-AreSameOperations (add P v) (add Q w) = (P ≡ Q) × AreSame v w
-AreSameOperations (remove P) (remove Q) = P ≡ Q
-AreSameOperations (replace P v) (replace Q w) = (P ≡ Q) × AreSame v w
-AreSameOperations (move F P) (move G Q) = (F ≡ G) × (P ≡ Q)
-AreSameOperations (copy F P) (copy G Q) = (F ≡ G) × (P ≡ Q)
-AreSameOperations (test P v) (test Q w) = (P ≡ Q) × AreSame v w
-AreSameOperations op other = ⊥
+AreSameOperations op other = AreSameParts (parts_of op) (parts_of other)
 
 -- lists of operations, one by one
 abbrev pub AreSameLists : List Operation → List Operation → Type 0

@@ -1,9 +1,10 @@
 -- Equality of JSON values and of operations, as a test.
-use Rattle.std.specs.Prelude.{◌==◌, ◌&&◌, Bool, true, false, not, bytes_eq, [], ◌∷◌}
+use Rattle.std.specs.Prelude.{◌==◌, ◌&&◌, Bool, true, false, not, bytes_eq}
+use Rattle.std.specs.Option.{option_eq}
 use Rattle.std.specs.Ordering.{int_eq}
 use Rattle.serde_json.specs.Data.{Num, unsigned, negative, float, Data, null, boolean, number, string, array, object, Items, no_items, item, Members, no_members, member}
-use Rattle.jsonptr.specs.Text.{Pointer}
-use Rattle.json_patch.specs.Operation.{Operation, add, remove, replace, move, copy, test}
+use Rattle.jsonptr.specs.Text.{Pointer, text_of}
+use Rattle.json_patch.specs.Operation.{Operation, Parts, parts_of}
 
 abbrev pub same_bool : Bool → Bool → Bool
 same_bool true b = b
@@ -36,15 +37,10 @@ abbrev mutual
   same_members _ _ = false
 
 abbrev pub same_pointer : Pointer → Pointer → Bool
-same_pointer [] [] = true
-same_pointer (t ∷ P) (u ∷ Q) = bytes_eq t u && same_pointer P Q
-same_pointer _ _ = false
+same_pointer P Q = bytes_eq (text_of P) (text_of Q)
+
+abbrev pub same_parts : Parts → Parts → Bool
+same_parts p q = bytes_eq p.name q.name && (option_eq same_pointer p.from q.from && (same_pointer p.path q.path && option_eq same p.value q.value))
 
 abbrev pub same_operation : Operation → Operation → Bool
-same_operation (add P v) (add Q w) = same_pointer P Q && same v w
-same_operation (remove P) (remove Q) = same_pointer P Q
-same_operation (replace P v) (replace Q w) = same_pointer P Q && same v w
-same_operation (move F P) (move G Q) = same_pointer F G && same_pointer P Q
-same_operation (copy F P) (copy G Q) = same_pointer F G && same_pointer P Q
-same_operation (test P v) (test Q w) = same_pointer P Q && same v w
-same_operation _ _ = false
+same_operation op other = same_parts (parts_of op) (parts_of other)

@@ -1,14 +1,16 @@
 -- Equality of values and of operations is an equivalence, and it is what the test says. The laws of `PartialEq` and `Eq` cite these.
-use Rattle.std.proofs.Common.{◌≡◌, ◌&&◌, [], ◌∷◌, Bool, true, false, bytes_eq, refl, sym, ◌∙◌}
+use Rattle.std.proofs.Common.{◌≡◌, ◌&&◌, Bool, true, false, Option, Some, None, bytes_eq, refl, sym, ap, ◌∙◌}
 use Rattle.std.specs.Bool.{Decides}
-use Rattle.std.specs.Cmp.{IsEquivalence, IsPartialEquivalence, both_ways, partial_equiv_from_equiv}
+use Rattle.std.specs.Option.{option_eq}
+use Rattle.std.specs.Cmp.{IsEquivalence, IsPartialEquivalence, both_ways, on_equiv, partial_equiv_from_equiv}
 use Rattle.std.proofs.lemmas.Bool.Decides.{Decides-int_eq, Decides-eqb, Decides-and, Decides-like}
 use Rattle.std.proofs.lemmas.Slice.Eq.{bytes_eq-Decides}
 use Rattle.serde_json.specs.Data.{Num, unsigned, negative, float, Data, null, boolean, number, string, array, object, Items, no_items, item, Members, no_members, member}
-use Rattle.jsonptr.specs.Text.{Pointer}
-use Rattle.json_patch.specs.Operation.{Operation, add, remove, replace, move, copy, test}
-use Rattle.json_patch.specs.Same.{AreSameNumbers, AreSame, AreSameItems, AreSameMembers, AreSameOperations}
-use Rattle.json_patch.specs.SameComputed.{same_bool, same_num, same, same_items, same_members, same_pointer, same_operation}
+use Rattle.jsonptr.specs.Text.{Pointer, text_of}
+use Rattle.jsonptr.specs.TextLaws.{one_pointer}
+use Rattle.json_patch.specs.Operation.{Parts, parts_of}
+use Rattle.json_patch.specs.Same.{AreSameNumbers, AreSame, AreSameItems, AreSameMembers, AreSameAt, AreSameParts}
+use Rattle.json_patch.specs.SameComputed.{same_bool, same_num, same, same_items, same_members, same_pointer, same_parts, same_operation}
 
 -- ---- values
 
@@ -133,61 +135,48 @@ mutual
 
 -- ---- operations
 
-pub operation-refl : (op : Operation) → AreSameOperations op op
-operation-refl (add P v) = (refl, AreSame-refl v)
-operation-refl (remove P) = refl
-operation-refl (replace P v) = (refl, AreSame-refl v)
-operation-refl (move F P) = (refl, refl)
-operation-refl (copy F P) = (refl, refl)
-operation-refl (test P v) = (refl, AreSame-refl v)
+at-refl : (o : Option Data) → AreSameAt o o
+at-refl None = tt
+at-refl (Some d) = AreSame-refl d
 
-operation-sym : (op other : Operation) → AreSameOperations op other → AreSameOperations other op
-operation-sym (add P v) (add Q w) h = (sym h.0, AreSame-sym v w h.1)
-operation-sym (remove P) (remove Q) h = sym h
-operation-sym (replace P v) (replace Q w) h = (sym h.0, AreSame-sym v w h.1)
-operation-sym (move F P) (move G Q) h = (sym h.0, sym h.1)
-operation-sym (copy F P) (copy G Q) h = (sym h.0, sym h.1)
-operation-sym (test P v) (test Q w) h = (sym h.0, AreSame-sym v w h.1)
-operation-sym _ _ h = absurd h
+at-sym : (o p : Option Data) → AreSameAt o p → AreSameAt p o
+at-sym None None h = tt
+at-sym (Some d) (Some e) h = AreSame-sym d e h
+at-sym _ _ h = absurd h
 
-operation-trans : (op other third : Operation) → AreSameOperations op other → AreSameOperations other third → AreSameOperations op third
-operation-trans (add P v) (add Q w) (add R x) h k = (h.0 ∙ k.0, AreSame-trans v w x h.1 k.1)
-operation-trans (remove P) (remove Q) (remove R) h k = h ∙ k
-operation-trans (replace P v) (replace Q w) (replace R x) h k = (h.0 ∙ k.0, AreSame-trans v w x h.1 k.1)
-operation-trans (move F P) (move G Q) (move H R) h k = (h.0 ∙ k.0, h.1 ∙ k.1)
-operation-trans (copy F P) (copy G Q) (copy H R) h k = (h.0 ∙ k.0, h.1 ∙ k.1)
-operation-trans (test P v) (test Q w) (test R x) h k = (h.0 ∙ k.0, AreSame-trans v w x h.1 k.1)
-operation-trans (add P v) (add Q w) _ h k = absurd k
-operation-trans (remove P) (remove Q) _ h k = absurd k
-operation-trans (replace P v) (replace Q w) _ h k = absurd k
-operation-trans (move F P) (move G Q) _ h k = absurd k
-operation-trans (copy F P) (copy G Q) _ h k = absurd k
-operation-trans (test P v) (test Q w) _ h k = absurd k
-operation-trans _ _ _ h k = absurd h
+at-trans : (o p q : Option Data) → AreSameAt o p → AreSameAt p q → AreSameAt o q
+at-trans None None q h k = k
+at-trans (Some d) (Some e) (Some f) h k = AreSame-trans d e f h k
+at-trans (Some d) (Some e) None h k = absurd k
+at-trans _ _ _ h k = absurd h
 
-pub pointer-Decides : (P Q : Pointer) → Decides (same_pointer P Q) (P ≡ Q)
-pointer-Decides [] [] = (λ h. refl, λ h. refl)
-pointer-Decides (t ∷ P) (u ∷ Q) =
-    Decides-like (bytes_eq t u && same_pointer P Q) (λ h. rw (h.0, h.1)) (λ h. (cc, cc))
-    (Decides-and (bytes_eq t u) (same_pointer P Q) (bytes_eq-Decides t u) (pointer-Decides P Q))
-pointer-Decides _ _ = (λ h. cc, λ h. cc)
+parts-refl : (p : Parts) → AreSameParts p p
+parts-refl p = (refl, refl, refl, at-refl p.value)
 
--- equal pointers and the same value
-with_value : (P Q : Pointer) (v w : Data) → Decides (same_pointer P Q && same v w) ((P ≡ Q) × AreSame v w)
-with_value P Q v w = Decides-and (same_pointer P Q) (same v w) (pointer-Decides P Q) (same-Decides v w)
+parts-sym : (p q : Parts) → AreSameParts p q → AreSameParts q p
+parts-sym p q h = (sym h.0, sym h.1, sym h.2, at-sym p.value q.value h.3)
 
--- equal pointers, twice
-with_from : (F G P Q : Pointer) → Decides (same_pointer F G && same_pointer P Q) ((F ≡ G) × (P ≡ Q))
-with_from F G P Q = Decides-and (same_pointer F G) (same_pointer P Q) (pointer-Decides F G) (pointer-Decides P Q)
+parts-trans : (p q r : Parts) → AreSameParts p q → AreSameParts q r → AreSameParts p r
+parts-trans p q r h k = (h.0 ∙ k.0, h.1 ∙ k.1, h.2 ∙ k.2, at-trans p.value q.value r.value h.3 k.3)
 
-pub operation-Decides : (op other : Operation) → Decides (same_operation op other) (AreSameOperations op other)
-operation-Decides (add P v) (add Q w) = with_value P Q v w
-operation-Decides (remove P) (remove Q) = pointer-Decides P Q
-operation-Decides (replace P v) (replace Q w) = with_value P Q v w
-operation-Decides (move F P) (move G Q) = with_from F G P Q
-operation-Decides (copy F P) (copy G Q) = with_from F G P Q
-operation-Decides (test P v) (test Q w) = with_value P Q v w
-operation-Decides _ _ = (λ h. cc, λ h. absurd h)
+pointer-Decides : (P Q : Pointer) → Decides (same_pointer P Q) (P ≡ Q)
+pointer-Decides P Q = Decides-like (same_pointer P Q) (one_pointer P Q) (ap text_of) (bytes_eq-Decides (text_of P) (text_of Q))
+
+from-Decides : (o p : Option Pointer) → Decides (option_eq same_pointer o p) (o ≡ p)
+from-Decides None None = (λ h. refl, λ h. refl)
+from-Decides (Some P) (Some Q) = Decides-like (same_pointer P Q) (ap Some) (λ h. cc) (pointer-Decides P Q)
+from-Decides _ _ = (λ h. cc, λ h. cc)
+
+at-Decides : (o p : Option Data) → Decides (option_eq same o p) (AreSameAt o p)
+at-Decides None None = (λ h. tt, λ h. refl)
+at-Decides (Some d) (Some e) = same-Decides d e
+at-Decides _ _ = (λ h. cc, λ h. absurd h)
+
+pub parts-Decides : (p q : Parts) → Decides (same_parts p q) (AreSameParts p q)
+parts-Decides p q =
+    let last = Decides-and (same_pointer p.path q.path) (option_eq same p.value q.value) (pointer-Decides p.path q.path) (at-Decides p.value q.value) in
+    let later = Decides-and (option_eq same_pointer p.from q.from) (same_pointer p.path q.path && option_eq same p.value q.value) (from-Decides p.from q.from) last in
+    Decides-and (bytes_eq p.name q.name) (option_eq same_pointer p.from q.from && (same_pointer p.path q.path && option_eq same p.value q.value)) (bytes_eq-Decides p.name q.name) later
 
 -- a test that decides an equivalence
 module _ {K : Type 0} (E : K → K → Bool) (R : K → K → Type 0) (decides : (x y : K) → Decides (E x y) (R x y)) where
@@ -203,7 +192,7 @@ module _ {K : Type 0} (E : K → K → Bool) (R : K → K → Type 0) (decides :
       }
 
 pub operation_equivalence : IsEquivalence same_operation
-operation_equivalence = decided same_operation AreSameOperations operation-Decides operation-refl operation-sym operation-trans
+operation_equivalence = on_equiv parts_of (decided same_parts AreSameParts parts-Decides parts-refl parts-sym parts-trans)
 
 pub operation_partial_equivalence : IsPartialEquivalence same_operation
 operation_partial_equivalence = partial_equiv_from_equiv operation_equivalence

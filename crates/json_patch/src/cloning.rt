@@ -1,10 +1,7 @@
 //! Copies of operations and of patches.
 
 ghost use Rattle.std.specs.Prelude.{◌≡◌, IfOk};
-ghost use Rattle.json_patch.specs.Operation.{operation_of, operations};
-ghost use Rattle.json_patch.specs.declared.operation.PatchOperation.TheVariants.{Add, Remove};
-ghost use Rattle.json_patch.specs.declared.operation.PatchOperation.TheVariants.{Replace, Move};
-ghost use Rattle.json_patch.specs.declared.operation.PatchOperation.TheVariants.{Copy, Test};
+ghost use Rattle.json_patch.specs.Operation.{add_of, copy_of, move_of, operation_of, operations, remove_of, replace_of, test_of};
 
 use crate::operation::{
     AddOperation, CopyOperation, MoveOperation, Patch, PatchOperation, RemoveOperation,
@@ -15,7 +12,7 @@ use std::alloc::{AllocError, Global};
 impl AddOperation {
     /// A copy of the operation, refused for memory alone.
     pub fn clone(&self, alloc: Global) -> Result<AddOperation, AllocError>
-        ensures { IfOk result (λ copy. operation_of (Add copy) ≡ operation_of (Add self.now)) }
+        ensures { IfOk result (λ copy. add_of copy ≡ add_of self.now) }
     {
         Ok(AddOperation {
             path: self.path.clone(alloc)?,
@@ -27,8 +24,7 @@ impl AddOperation {
 impl RemoveOperation {
     /// A copy of the operation, refused for memory alone.
     pub fn clone(&self, alloc: Global) -> Result<RemoveOperation, AllocError>
-        ensures { IfOk result
-            (λ copy. operation_of (Remove copy) ≡ operation_of (Remove self.now)) }
+        ensures { IfOk result (λ copy. remove_of copy ≡ remove_of self.now) }
     {
         Ok(RemoveOperation {
             path: self.path.clone(alloc)?,
@@ -39,8 +35,7 @@ impl RemoveOperation {
 impl ReplaceOperation {
     /// A copy of the operation, refused for memory alone.
     pub fn clone(&self, alloc: Global) -> Result<ReplaceOperation, AllocError>
-        ensures { IfOk result
-            (λ copy. operation_of (Replace copy) ≡ operation_of (Replace self.now)) }
+        ensures { IfOk result (λ copy. replace_of copy ≡ replace_of self.now) }
     {
         Ok(ReplaceOperation {
             path: self.path.clone(alloc)?,
@@ -52,7 +47,7 @@ impl ReplaceOperation {
 impl MoveOperation {
     /// A copy of the operation, refused for memory alone.
     pub fn clone(&self, alloc: Global) -> Result<MoveOperation, AllocError>
-        ensures { IfOk result (λ copy. operation_of (Move copy) ≡ operation_of (Move self.now)) }
+        ensures { IfOk result (λ copy. move_of copy ≡ move_of self.now) }
     {
         Ok(MoveOperation {
             from: self.from.clone(alloc)?,
@@ -64,7 +59,7 @@ impl MoveOperation {
 impl CopyOperation {
     /// A copy of the operation, refused for memory alone.
     pub fn clone(&self, alloc: Global) -> Result<CopyOperation, AllocError>
-        ensures { IfOk result (λ copy. operation_of (Copy copy) ≡ operation_of (Copy self.now)) }
+        ensures { IfOk result (λ copy. copy_of copy ≡ copy_of self.now) }
     {
         Ok(CopyOperation {
             from: self.from.clone(alloc)?,
@@ -76,7 +71,7 @@ impl CopyOperation {
 impl TestOperation {
     /// A copy of the operation, refused for memory alone.
     pub fn clone(&self, alloc: Global) -> Result<TestOperation, AllocError>
-        ensures { IfOk result (λ copy. operation_of (Test copy) ≡ operation_of (Test self.now)) }
+        ensures { IfOk result (λ copy. test_of copy ≡ test_of self.now) }
     {
         Ok(TestOperation {
             path: self.path.clone(alloc)?,

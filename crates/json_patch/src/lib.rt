@@ -7,6 +7,7 @@ mod error;
 pub mod laws;
 mod merging;
 mod operation;
+mod parts;
 mod printing;
 mod reading;
 mod record;
@@ -16,9 +17,10 @@ mod shared;
 mod step;
 mod undoing;
 mod walk;
+mod wholeness;
 mod writing;
 
-pub use equality::{is_whole, same};
+pub use equality::same;
 pub use error::{PatchError, PatchErrorKind, PatchFault, ReadError, ReadFault, ReadKind};
 pub use jsonptr;
 pub use merging::merge;
@@ -29,3 +31,4 @@ pub use operation::{
 pub use printing::pretty;
 pub use resolving::lookup;
 pub use run::{apply_patches, patch, patch_unsafe};
+pub use wholeness::is_whole;

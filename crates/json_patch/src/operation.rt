@@ -3,16 +3,15 @@
 ghost use Rattle.std.specs.Prelude.{◌≡◌, []};
 ghost use Rattle.serde_json.specs.Data.{null};
 ghost use Rattle.serde_json.specs.View.{view};
-ghost use Rattle.jsonptr.specs.Pointers.{tokens_of};
-ghost use Rattle.json_patch.specs.Operation.{operation_of, path_of, test};
+ghost use Rattle.json_patch.specs.Operation.{operation_of, test};
 
-use jsonptr::{Pointer, PointerBuf};
+use jsonptr::PointerBuf;
 use serde_json::Value;
 use std::alloc::Global;
 
 /// Puts a value at `path`: a new member, a member in place of another, or an item before the one
 /// that stands there (RFC 6902, section 4.1).
-#[derive(Drop)]
+#[derive(Default, Drop)]
 pub struct AddOperation {
     /// Where the value goes.
     pub path: PointerBuf,
@@ -21,14 +20,14 @@ pub struct AddOperation {
 }
 
 /// Takes away the value at `path` (RFC 6902, section 4.2).
-#[derive(Drop)]
+#[derive(Default, Drop)]
 pub struct RemoveOperation {
     /// Where the value stands.
     pub path: PointerBuf,
 }
 
 /// Puts a value in place of the one at `path` (RFC 6902, section 4.3).
-#[derive(Drop)]
+#[derive(Default, Drop)]
 pub struct ReplaceOperation {
     /// Where the value stands.
     pub path: PointerBuf,
@@ -37,7 +36,7 @@ pub struct ReplaceOperation {
 }
 
 /// Takes the value at `from` away and adds it at `path` (RFC 6902, section 4.4).
-#[derive(Drop)]
+#[derive(Default, Drop)]
 pub struct MoveOperation {
     /// Where the value stands.
     pub from: PointerBuf,
@@ -46,7 +45,7 @@ pub struct MoveOperation {
 }
 
 /// Adds the value at `from` at `path` too (RFC 6902, section 4.5).
-#[derive(Drop)]
+#[derive(Default, Drop)]
 pub struct CopyOperation {
     /// Where the value stands.
     pub from: PointerBuf,
@@ -55,7 +54,7 @@ pub struct CopyOperation {
 }
 
 /// Asks that a value stands at `path` (RFC 6902, section 4.6).
-#[derive(Drop)]
+#[derive(Default, Drop)]
 pub struct TestOperation {
     /// Where to look.
     pub path: PointerBuf,
@@ -78,93 +77,6 @@ pub enum PatchOperation {
     Copy(CopyOperation),
     /// `test`
     Test(TestOperation),
-}
-
-impl PatchOperation {
-    /// Where the operation works: its `path`, also where it has a `from`.
-    pub fn path(&self) -> Pointer<'_>
-        ensures { tokens_of result ≡ path_of (operation_of self.now) }
-    {
-        match self {
-            PatchOperation::Add(operation) => operation.path.as_pointer(),
-            PatchOperation::Remove(operation) => operation.path.as_pointer(),
-            PatchOperation::Replace(operation) => operation.path.as_pointer(),
-            PatchOperation::Move(operation) => operation.path.as_pointer(),
-            PatchOperation::Copy(operation) => operation.path.as_pointer(),
-            PatchOperation::Test(operation) => operation.path.as_pointer(),
-        }
-    }
-}
-
-/// The root and null.
-impl Default for AddOperation {
-    ghost is_default = { λ o. (o.path ≡ []) × (view o.value ≡ null) };
-
-    fn default() -> AddOperation {
-        AddOperation {
-            path: PointerBuf::new(),
-            value: Value::Null,
-        }
-    }
-}
-
-/// The root.
-impl Default for RemoveOperation {
-    ghost is_default = { λ o. o.path ≡ [] };
-
-    fn default() -> RemoveOperation {
-        RemoveOperation {
-            path: PointerBuf::new(),
-        }
-    }
-}
-
-/// The root and null.
-impl Default for ReplaceOperation {
-    ghost is_default = { λ o. (o.path ≡ []) × (view o.value ≡ null) };
-
-    fn default() -> ReplaceOperation {
-        ReplaceOperation {
-            path: PointerBuf::new(),
-            value: Value::Null,
-        }
-    }
-}
-
-/// The root, twice.
-impl Default for MoveOperation {
-    ghost is_default = { λ o. (o.from ≡ []) × (o.path ≡ []) };
-
-    fn default() -> MoveOperation {
-        MoveOperation {
-            from: PointerBuf::new(),
-            path: PointerBuf::new(),
-        }
-    }
-}
-
-/// The root, twice.
-impl Default for CopyOperation {
-    ghost is_default = { λ o. (o.from ≡ []) × (o.path ≡ []) };
-
-    fn default() -> CopyOperation {
-        CopyOperation {
-            from: PointerBuf::new(),
-            path: PointerBuf::new(),
-        }
-    }
-}
-
-/// The root and null.
-impl Default for TestOperation {
-    ghost is_default = { λ o. (o.path ≡ []) × (view o.value ≡ null) };
-
-    fn default() -> TestOperation {
-        TestOperation {
-            path: PointerBuf::new(),
-            value: Value::Null,
-        }
-    }
 }
 
 /// A `test` that the whole document is null.

@@ -8,14 +8,17 @@ ghost use Rattle.serde_json.specs.Read.{max_depth, read};
 ghost use Rattle.serde_json.specs.View.{items_view, members_view, number_view, view};
 ghost use Rattle.serde_json.specs.Written.{IsInOrder};
 ghost use Rattle.json_patch.specs.Document.{IsDocument};
+ghost use Rattle.json_patch.specs.Held.{held};
 ghost use Rattle.json_patch.specs.Operation.{add_of, copy_of, move_of, operation_of, operations, remove_of, replace_of, test_of};
 ghost use Rattle.json_patch.specs.PatchValue.{all_fields, fields};
-ghost use Rattle.json_patch.specs.Printed.{escaped, given_fields, leading_text, number_text, printed, printed_fields, printed_patch, quoted, trailing_text};
+ghost use Rattle.json_patch.specs.Printed.{escaped, leading_text, number_text, printed, printed_fields, printed_parts, printed_patch, quoted, trailing_text};
 
 use crate::operation::{
     AddOperation, CopyOperation, MoveOperation, Patch, PatchOperation, RemoveOperation,
     ReplaceOperation, TestOperation,
 };
+use crate::parts::Parts;
+use jsonptr::PointerBuf;
 use serde_json::{Map, Number, Value};
 use std::alloc::{AllocError, Global};
 use std::fmt;
@@ -32,92 +35,68 @@ pub fn pretty(alloc: Global, value: &Value) -> Result<String, AllocError>
     value.to_string_pretty(alloc)
 }
 
+/// Writes the object of the members `path` and `value`.
 impl fmt::Display for AddOperation {
     ghost output = { λ o. Some (printed_fields (fields (add_of o))) };
 
-    /// Writes the object of the members `path` and `value`.
     fn fmt<W: fmt::Write>(&self, f: &mut fmt::Formatter<W>) -> fmt::Result {
-        let AddOperation { path, value } = self;
-        write_operation(None, None, path.as_str(), Some(value), f)
+        write_parts(None, self.parts(), f)
     }
 }
 
+/// Writes the object of the member `path`.
 impl fmt::Display for RemoveOperation {
     ghost output = { λ o. Some (printed_fields (fields (remove_of o))) };
 
-    /// Writes the object of the member `path`.
     fn fmt<W: fmt::Write>(&self, f: &mut fmt::Formatter<W>) -> fmt::Result {
-        let RemoveOperation { path } = self;
-        write_operation(None, None, path.as_str(), None, f)
+        write_parts(None, self.parts(), f)
     }
 }
 
+/// Writes the object of the members `path` and `value`.
 impl fmt::Display for ReplaceOperation {
     ghost output = { λ o. Some (printed_fields (fields (replace_of o))) };
 
-    /// Writes the object of the members `path` and `value`.
     fn fmt<W: fmt::Write>(&self, f: &mut fmt::Formatter<W>) -> fmt::Result {
-        let ReplaceOperation { path, value } = self;
-        write_operation(None, None, path.as_str(), Some(value), f)
+        write_parts(None, self.parts(), f)
     }
 }
 
+/// Writes the object of the members `from` and `path`.
 impl fmt::Display for MoveOperation {
     ghost output = { λ o. Some (printed_fields (fields (move_of o))) };
 
-    /// Writes the object of the members `from` and `path`.
     fn fmt<W: fmt::Write>(&self, f: &mut fmt::Formatter<W>) -> fmt::Result {
-        let MoveOperation { from, path } = self;
-        write_operation(None, Some(from.as_str()), path.as_str(), None, f)
+        write_parts(None, self.parts(), f)
     }
 }
 
+/// Writes the object of the members `from` and `path`.
 impl fmt::Display for CopyOperation {
     ghost output = { λ o. Some (printed_fields (fields (copy_of o))) };
 
-    /// Writes the object of the members `from` and `path`.
     fn fmt<W: fmt::Write>(&self, f: &mut fmt::Formatter<W>) -> fmt::Result {
-        let CopyOperation { from, path } = self;
-        write_operation(None, Some(from.as_str()), path.as_str(), None, f)
+        write_parts(None, self.parts(), f)
     }
 }
 
+/// Writes the object of the members `path` and `value`.
 impl fmt::Display for TestOperation {
     ghost output = { λ o. Some (printed_fields (fields (test_of o))) };
 
-    /// Writes the object of the members `path` and `value`.
     fn fmt<W: fmt::Write>(&self, f: &mut fmt::Formatter<W>) -> fmt::Result {
-        let TestOperation { path, value } = self;
-        write_operation(None, None, path.as_str(), Some(value), f)
+        write_parts(None, self.parts(), f)
     }
 }
 
+/// Writes the object of the members that the operation has, in the order `op`, `from`, `path`,
+/// `value`.
 impl fmt::Display for PatchOperation {
     ghost output = { λ o. Some (printed_fields (all_fields (operation_of o))) };
 
-    /// Writes the object of the members that the operation has, in the order `op`, `from`, `path`,
-    /// `value`.
     fn fmt<W: fmt::Write>(&self, f: &mut fmt::Formatter<W>) -> fmt::Result {
-        match self {
-            PatchOperation::Add(AddOperation { path, value }) => {
-                write_operation(Some("add"), None, path.as_str(), Some(value), f)
-            }
-            PatchOperation::Remove(RemoveOperation { path }) => {
-                write_operation(Some("remove"), None, path.as_str(), None, f)
-            }
-            PatchOperation::Replace(ReplaceOperation { path, value }) => {
-                write_operation(Some("replace"), None, path.as_str(), Some(value), f)
-            }
-            PatchOperation::Move(MoveOperation { from, path }) => {
-                write_operation(Some("move"), Some(from.as_str()), path.as_str(), None, f)
-            }
-            PatchOperation::Copy(CopyOperation { from, path }) => {
-                write_operation(Some("copy"), Some(from.as_str()), path.as_str(), None, f)
-            }
-            PatchOperation::Test(TestOperation { path, value }) => {
-                write_operation(Some("test"), None, path.as_str(), Some(value), f)
-            }
-        }
+        let parts = self.parts();
+        write_parts(Some(parts.name), parts, f)
     }
 }
 
@@ -210,24 +189,20 @@ impl fmt::Debug for Patch {
 }
 
 /// Writes the object of the members `op`, `from`, `path` and `value`, those that there are.
-fn write_operation<W: fmt::Write>(
+fn write_parts<W: fmt::Write>(
     name: Option<&str>,
-    from: Option<&str>,
-    path: &str,
-    value: Option<&Value>,
+    parts: Parts<'_>,
     f: &mut fmt::Formatter<W>,
 ) -> fmt::Result
     ensures { WritesOnOk W.write_str_gives f.old result
-        (printed_fields (given_fields (option_map (λ s. s.now) name.entry)
-        (option_map (λ s. s.now) from.entry) path.now (option_map (λ v. view v.now) value.entry)))
-        f.new }
+        (printed_parts (option_map (λ s. s.now) name.entry) (held parts.entry)) f.new }
 {
     f.write_str("{")?;
     write_leading("op", name, f)?;
-    write_leading("from", from, f)?;
+    write_leading("from", parts.from.map(PointerBuf::as_str), f)?;
     write_name("path", f)?;
-    write_text(path, f)?;
-    write_trailing("value", value, f)?;
+    write_text(parts.path.as_str(), f)?;
+    write_trailing("value", parts.value, f)?;
     f.write_str("}")
 }
 

@@ -10,12 +10,12 @@ ghost use Rattle.json_patch.specs.Operation.{AreWhole, add, copy, move, operatio
 ghost use Rattle.json_patch.specs.PatchValue.{IfUnreadable, IsObject, ReadsFields, ReadsOperation, ReadsPatch, ReadsItems, RefusesFields, RefusesOperation, RefusesPatch};
 ghost use Rattle.json_patch.specs.ReadSteps.{IsMissed, RefusesFrom, with_number};
 
-use crate::equality::is_whole;
 use crate::error::{ReadError, ReadFault, ReadKind};
 use crate::operation::{
     AddOperation, CopyOperation, MoveOperation, Patch, PatchOperation, RemoveOperation,
     ReplaceOperation, TestOperation,
 };
+use crate::wholeness::is_whole;
 use jsonptr::{ParseError, PointerBuf, PointerFault};
 use serde_json::Value;
 use std::alloc::{AllocError, Global};

@@ -5,7 +5,7 @@ ghost use Rattle.serde_json.specs.View.{view};
 ghost use Rattle.jsonptr.specs.Pointers.{tokens_left, tokens_of};
 ghost use Rattle.json_patch.specs.Document.{IsDocument};
 ghost use Rattle.json_patch.specs.Operation.{AreWhole, operation_of, operations};
-ghost use Rattle.json_patch.specs.PartRun.{AreBegun, IsLongest, Runs, RunsAt, Stops, from_of};
+ghost use Rattle.json_patch.specs.PartRun.{AreBegun, IsLongest, Runs, RunsAt, Stops};
 ghost use Rattle.json_patch.specs.RunComputed.{ran};
 ghost use Rattle.json_patch.specs.Shared.{AreWithin, IsShared, IsWithin};
 ghost use Rattle.json_patch.specs.SharedComputed.{stripped_all};
@@ -155,25 +155,11 @@ fn parent_of(operation: &PatchOperation) -> Option<Pointer<'_>>
         ((T : List (List ℕ)) → ¬ IsWithin T (operation_of operation.now)) }
 {
     let (parent, _last) = operation.path().split_back()?;
-    match source_of(operation) {
+    match operation.parts().from {
         Some(from) => {
-            let (source, _last) = from.split_back()?;
+            let (source, _last) = from.as_pointer().split_back()?;
             Some(parent.shared_with(source))
         }
         None => Some(parent),
-    }
-}
-
-/// The `from` of an operation that has one.
-fn source_of(operation: &PatchOperation) -> Option<Pointer<'_>>
-    ensures { option_map tokens_of result ≡ from_of (operation_of operation.now) }
-{
-    match operation {
-        PatchOperation::Move(operation) => Some(operation.from.as_pointer()),
-        PatchOperation::Copy(operation) => Some(operation.from.as_pointer()),
-        PatchOperation::Add(_)
-        | PatchOperation::Remove(_)
-        | PatchOperation::Replace(_)
-        | PatchOperation::Test(_) => None,
     }
 }

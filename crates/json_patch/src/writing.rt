@@ -1,77 +1,72 @@
 //! Writing patches and operations as JSON values (RFC 6902, sections 3 and 4).
 
-ghost use Rattle.std.specs.Prelude.{◌≡◌, IfOk};
-ghost use Rattle.serde_json.specs.View.{view};
-ghost use Rattle.json_patch.specs.Operation.{add, copy, move, operation_of, operations, remove, replace, test};
-ghost use Rattle.json_patch.specs.PatchValue.{written, written_fields, written_patch};
+ghost use Rattle.std.specs.Prelude.{◌≡◌, IfOk, OnOk, codes, option_map};
+ghost use Rattle.serde_json.specs.Data.{string};
+ghost use Rattle.serde_json.specs.View.{members_view, view};
+ghost use Rattle.json_patch.specs.Held.{held};
+ghost use Rattle.json_patch.specs.Operation.{add_of, copy_of, move_of, operation_of, operations, remove_of, replace_of, test_of};
+ghost use Rattle.json_patch.specs.PatchValue.{put_if, written, written_fields, written_parts, written_patch};
 
 use crate::operation::{
     AddOperation, CopyOperation, MoveOperation, Patch, PatchOperation, RemoveOperation,
     ReplaceOperation, TestOperation,
 };
-use serde_json::{Value, json};
+use crate::parts::Parts;
+use jsonptr::PointerBuf;
+use serde_json::{Map, Value};
 use std::alloc::{AllocError, Global};
 
 impl AddOperation {
     /// The object of the members `path` and `value`.
     pub fn to_value(&self, alloc: Global) -> Result<Value, AllocError>
-        ensures { IfOk result (λ v.
-            view v ≡ written_fields (add self.now.path (view self.now.value))) }
+        ensures { IfOk result (λ v. view v ≡ written_fields (add_of self.now)) }
     {
-        let AddOperation { path, value } = self;
-        json!(in alloc; {"path": path.as_str(), "value": value})
+        to_object(alloc, None, self.parts())
     }
 }
 
 impl RemoveOperation {
     /// The object of the member `path`.
     pub fn to_value(&self, alloc: Global) -> Result<Value, AllocError>
-        ensures { IfOk result (λ v. view v ≡ written_fields (remove self.now.path)) }
+        ensures { IfOk result (λ v. view v ≡ written_fields (remove_of self.now)) }
     {
-        let RemoveOperation { path } = self;
-        json!(in alloc; {"path": path.as_str()})
+        to_object(alloc, None, self.parts())
     }
 }
 
 impl ReplaceOperation {
     /// The object of the members `path` and `value`.
     pub fn to_value(&self, alloc: Global) -> Result<Value, AllocError>
-        ensures { IfOk result (λ v.
-            view v ≡ written_fields (replace self.now.path (view self.now.value))) }
+        ensures { IfOk result (λ v. view v ≡ written_fields (replace_of self.now)) }
     {
-        let ReplaceOperation { path, value } = self;
-        json!(in alloc; {"path": path.as_str(), "value": value})
+        to_object(alloc, None, self.parts())
     }
 }
 
 impl MoveOperation {
     /// The object of the members `from` and `path`.
     pub fn to_value(&self, alloc: Global) -> Result<Value, AllocError>
-        ensures { IfOk result (λ v. view v ≡ written_fields (move self.now.from self.now.path)) }
+        ensures { IfOk result (λ v. view v ≡ written_fields (move_of self.now)) }
     {
-        let MoveOperation { from, path } = self;
-        json!(in alloc; {"from": from.as_str(), "path": path.as_str()})
+        to_object(alloc, None, self.parts())
     }
 }
 
 impl CopyOperation {
     /// The object of the members `from` and `path`.
     pub fn to_value(&self, alloc: Global) -> Result<Value, AllocError>
-        ensures { IfOk result (λ v. view v ≡ written_fields (copy self.now.from self.now.path)) }
+        ensures { IfOk result (λ v. view v ≡ written_fields (copy_of self.now)) }
     {
-        let CopyOperation { from, path } = self;
-        json!(in alloc; {"from": from.as_str(), "path": path.as_str()})
+        to_object(alloc, None, self.parts())
     }
 }
 
 impl TestOperation {
     /// The object of the members `path` and `value`.
     pub fn to_value(&self, alloc: Global) -> Result<Value, AllocError>
-        ensures { IfOk result (λ v.
-            view v ≡ written_fields (test self.now.path (view self.now.value))) }
+        ensures { IfOk result (λ v. view v ≡ written_fields (test_of self.now)) }
     {
-        let TestOperation { path, value } = self;
-        json!(in alloc; {"path": path.as_str(), "value": value})
+        to_object(alloc, None, self.parts())
     }
 }
 
@@ -80,26 +75,8 @@ impl PatchOperation {
     pub fn to_value(&self, alloc: Global) -> Result<Value, AllocError>
         ensures { IfOk result (λ v. view v ≡ written (operation_of self.now)) }
     {
-        match self {
-            PatchOperation::Add(AddOperation { path, value }) => {
-                json!(in alloc; {"op": "add", "path": path.as_str(), "value": value})
-            }
-            PatchOperation::Remove(RemoveOperation { path }) => {
-                json!(in alloc; {"op": "remove", "path": path.as_str()})
-            }
-            PatchOperation::Replace(ReplaceOperation { path, value }) => {
-                json!(in alloc; {"op": "replace", "path": path.as_str(), "value": value})
-            }
-            PatchOperation::Move(MoveOperation { from, path }) => {
-                json!(in alloc; {"op": "move", "from": from.as_str(), "path": path.as_str()})
-            }
-            PatchOperation::Copy(CopyOperation { from, path }) => {
-                json!(in alloc; {"op": "copy", "from": from.as_str(), "path": path.as_str()})
-            }
-            PatchOperation::Test(TestOperation { path, value }) => {
-                json!(in alloc; {"op": "test", "path": path.as_str(), "value": value})
-            }
-        }
+        let parts = self.parts();
+        to_object(alloc, Some(parts.name), parts)
     }
 }
 
@@ -114,4 +91,53 @@ impl Patch {
         }
         Ok(Value::Array(items))
     }
+}
+
+/// The object of the members `op`, `from`, `path` and `value`, those that there are.
+fn to_object(alloc: Global, name: Option<&str>, parts: Parts<'_>) -> Result<Value, AllocError>
+    ensures { IfOk result (λ v.
+        view v ≡ written_parts (option_map (λ s. s.now) name.entry) (held parts.entry)) }
+{
+    let mut members = Map::new(alloc);
+    put_value(alloc, &mut members, "value", parts.value)?;
+    put_text(alloc, &mut members, "path", Some(parts.path.as_str()))?;
+    put_text(alloc, &mut members, "from", parts.from.map(PointerBuf::as_str))?;
+    put_text(alloc, &mut members, "op", name)?;
+    Ok(Value::Object(members))
+}
+
+/// Puts a copy of the value into the map under this name, if there is a value.
+fn put_value(
+    alloc: Global,
+    members: &mut Map<String, Value>,
+    name: &str,
+    value: Option<&Value>,
+) -> Result<(), AllocError>
+    ensures { OnOk result (members_view members.new.entries
+        ≡ put_if name.now (option_map (λ v. view v.now) value.entry)
+        (members_view members.old.entries)) }
+{
+    let Some(value) = value else {
+        return Ok(());
+    };
+    members.insert(String::from_str(alloc, name)?, value.clone()?)?;
+    Ok(())
+}
+
+/// Puts the text into the map under this name, if there is a text.
+fn put_text(
+    alloc: Global,
+    members: &mut Map<String, Value>,
+    name: &str,
+    text: Option<&str>,
+) -> Result<(), AllocError>
+    ensures { OnOk result (members_view members.new.entries
+        ≡ put_if name.now (option_map string (option_map (λ s. s.now) text.entry))
+        (members_view members.old.entries)) }
+{
+    let Some(text) = text else {
+        return Ok(());
+    };
+    members.insert(String::from_str(alloc, name)?, Value::String(String::from_str(alloc, text)?))?;
+    Ok(())
 }

@@ -1,16 +1,15 @@
 //! Equality of operations and of patches, their values compared by `same`.
 
-ghost use Rattle.std.specs.Prelude.{◌≡◌, ◌↔◌, ◌&&◌, IsTrue};
+ghost use Rattle.std.specs.Prelude.{◌≡◌, ◌↔◌, IsTrue, option_map};
 ghost use Rattle.std.specs.Cmp.{on_equiv, on_per};
 ghost use Rattle.std.specs.Cmp.Lexicographic.{lists_equiv, lists_per, pointwise};
+ghost use Rattle.std.specs.Option.{option_eq};
 ghost use Rattle.std.specs.Ordering.{on};
 ghost use Rattle.serde_json.specs.View.{view};
-ghost use Rattle.json_patch.specs.Operation.{operation_of, operations};
-ghost use Rattle.json_patch.specs.declared.operation.PatchOperation.TheVariants.{Add, Remove};
-ghost use Rattle.json_patch.specs.declared.operation.PatchOperation.TheVariants.{Replace, Move};
-ghost use Rattle.json_patch.specs.declared.operation.PatchOperation.TheVariants.{Copy, Test};
-ghost use Rattle.json_patch.specs.Same.{AreSame, AreSameLists, AreSameOperations};
-ghost use Rattle.json_patch.specs.SameComputed.{same, same_operation, same_pointer};
+ghost use Rattle.json_patch.specs.Held.{held};
+ghost use Rattle.json_patch.specs.Operation.{add_of, copy_of, move_of, operation_of, operations, remove_of, replace_of, test_of};
+ghost use Rattle.json_patch.specs.Same.{AreSameLists, AreSameOperations, AreSameParts};
+ghost use Rattle.json_patch.specs.SameComputed.{same, same_operation, same_parts};
 ghost use Rattle.json_patch.specs.SameLaws.{operation_equivalence, operation_partial_equivalence};
 
 use crate::equality::same_values;
@@ -18,143 +17,127 @@ use crate::operation::{
     AddOperation, CopyOperation, MoveOperation, Patch, PatchOperation, RemoveOperation,
     ReplaceOperation, TestOperation,
 };
-use jsonptr::PointerBuf;
+use crate::parts::Parts;
 use serde_json::Value;
 
-fn same_pointers(a: &PointerBuf, b: &PointerBuf) -> bool
-    ensures computed { result ≡ same_pointer a.now b.now }
-    ensures same { IsTrue result ↔ (a.now ≡ b.now) }
+fn same_parts(a: Parts<'_>, b: Parts<'_>) -> bool
+    ensures computed { result ≡ same_parts (held a.entry) (held b.entry) }
+    ensures same { IsTrue result ↔ AreSameParts (held a.entry) (held b.entry) }
 {
-    *a == *b
+    a.name == b.name && a.from == b.from && a.path == b.path && same_if(a.value, b.value)
 }
 
-// For the operations that have `from` and `path`.
-fn same_pairs(a: (&PointerBuf, &PointerBuf), b: (&PointerBuf, &PointerBuf)) -> bool
-    ensures computed { result
-        ≡ (same_pointer a.entry.0.now b.entry.0.now && same_pointer a.entry.1.now b.entry.1.now) }
-    ensures same { IsTrue result
-        ↔ ((a.entry.0.now ≡ b.entry.0.now) × (a.entry.1.now ≡ b.entry.1.now)) }
+fn same_if(a: Option<&Value>, b: Option<&Value>) -> bool
+    ensures { result ≡ option_eq same (option_map (λ v. view v.now) a.entry)
+        (option_map (λ v. view v.now) b.entry) }
 {
-    same_pointers(a.0, b.0) && same_pointers(a.1, b.1)
-}
-
-// For the operations that have `path` and `value`.
-fn same_values_at(a: (&PointerBuf, &Value), b: (&PointerBuf, &Value)) -> bool
-    ensures computed { result ≡ (same_pointer a.entry.0.now b.entry.0.now
-        && same (view a.entry.1.now) (view b.entry.1.now)) }
-    ensures same { IsTrue result ↔ ((a.entry.0.now ≡ b.entry.0.now)
-        × AreSame (view a.entry.1.now) (view b.entry.1.now)) }
-{
-    same_pointers(a.0, b.0) && same_values(a.1, b.1)
+    match (a, b) {
+        (Some(x), Some(y)) => same_values(x, y),
+        (None, None) => true,
+        _ => false,
+    }
 }
 
 /// Equal where the pointers are, and the values are the same.
 impl PartialEq for AddOperation {
-    ghost eq = { λ a b. same_operation (operation_of (Add a)) (operation_of (Add b)) };
+    ghost eq = { λ a b. same_operation (add_of a) (add_of b) };
 
-    ghost laws = { on_per (λ o. operation_of (Add o)) operation_partial_equivalence };
+    ghost laws = { on_per add_of operation_partial_equivalence };
 
     fn eq(&self, other: &AddOperation) -> bool
-        ensures same { IsTrue result
-            ↔ AreSameOperations (operation_of (Add self.now)) (operation_of (Add other.now)) }
+        ensures same { IsTrue result ↔ AreSameOperations (add_of self.now) (add_of other.now) }
     {
-        same_values_at((&self.path, &self.value), (&other.path, &other.value))
+        same_parts(self.parts(), other.parts())
     }
 }
 
 impl Eq for AddOperation {
-    ghost laws = { on_equiv (λ o. operation_of (Add o)) operation_equivalence };
+    ghost laws = { on_equiv add_of operation_equivalence };
 }
 
 /// Equal where the pointers are.
 impl PartialEq for RemoveOperation {
-    ghost eq = { λ a b. same_operation (operation_of (Remove a)) (operation_of (Remove b)) };
+    ghost eq = { λ a b. same_operation (remove_of a) (remove_of b) };
 
-    ghost laws = { on_per (λ o. operation_of (Remove o)) operation_partial_equivalence };
+    ghost laws = { on_per remove_of operation_partial_equivalence };
 
     fn eq(&self, other: &RemoveOperation) -> bool
-        ensures same { IsTrue result
-            ↔ AreSameOperations (operation_of (Remove self.now)) (operation_of (Remove other.now)) }
+        ensures same { IsTrue result ↔ AreSameOperations (remove_of self.now) (remove_of other.now) }
     {
-        same_pointers(&self.path, &other.path)
+        same_parts(self.parts(), other.parts())
     }
 }
 
 impl Eq for RemoveOperation {
-    ghost laws = { on_equiv (λ o. operation_of (Remove o)) operation_equivalence };
+    ghost laws = { on_equiv remove_of operation_equivalence };
 }
 
 /// Equal where the pointers are, and the values are the same.
 impl PartialEq for ReplaceOperation {
-    ghost eq = { λ a b. same_operation (operation_of (Replace a)) (operation_of (Replace b)) };
+    ghost eq = { λ a b. same_operation (replace_of a) (replace_of b) };
 
-    ghost laws = { on_per (λ o. operation_of (Replace o)) operation_partial_equivalence };
+    ghost laws = { on_per replace_of operation_partial_equivalence };
 
     fn eq(&self, other: &ReplaceOperation) -> bool
-        ensures same { IsTrue result
-            ↔ AreSameOperations (operation_of (Replace self.now))
-            (operation_of (Replace other.now)) }
+        ensures same { IsTrue result ↔ AreSameOperations (replace_of self.now) (replace_of other.now) }
     {
-        same_values_at((&self.path, &self.value), (&other.path, &other.value))
+        same_parts(self.parts(), other.parts())
     }
 }
 
 impl Eq for ReplaceOperation {
-    ghost laws = { on_equiv (λ o. operation_of (Replace o)) operation_equivalence };
+    ghost laws = { on_equiv replace_of operation_equivalence };
 }
 
 /// Equal where the pointers are.
 impl PartialEq for MoveOperation {
-    ghost eq = { λ a b. same_operation (operation_of (Move a)) (operation_of (Move b)) };
+    ghost eq = { λ a b. same_operation (move_of a) (move_of b) };
 
-    ghost laws = { on_per (λ o. operation_of (Move o)) operation_partial_equivalence };
+    ghost laws = { on_per move_of operation_partial_equivalence };
 
     fn eq(&self, other: &MoveOperation) -> bool
-        ensures same { IsTrue result
-            ↔ AreSameOperations (operation_of (Move self.now)) (operation_of (Move other.now)) }
+        ensures same { IsTrue result ↔ AreSameOperations (move_of self.now) (move_of other.now) }
     {
-        same_pairs((&self.from, &self.path), (&other.from, &other.path))
+        same_parts(self.parts(), other.parts())
     }
 }
 
 impl Eq for MoveOperation {
-    ghost laws = { on_equiv (λ o. operation_of (Move o)) operation_equivalence };
+    ghost laws = { on_equiv move_of operation_equivalence };
 }
 
 /// Equal where the pointers are.
 impl PartialEq for CopyOperation {
-    ghost eq = { λ a b. same_operation (operation_of (Copy a)) (operation_of (Copy b)) };
+    ghost eq = { λ a b. same_operation (copy_of a) (copy_of b) };
 
-    ghost laws = { on_per (λ o. operation_of (Copy o)) operation_partial_equivalence };
+    ghost laws = { on_per copy_of operation_partial_equivalence };
 
     fn eq(&self, other: &CopyOperation) -> bool
-        ensures same { IsTrue result
-            ↔ AreSameOperations (operation_of (Copy self.now)) (operation_of (Copy other.now)) }
+        ensures same { IsTrue result ↔ AreSameOperations (copy_of self.now) (copy_of other.now) }
     {
-        same_pairs((&self.from, &self.path), (&other.from, &other.path))
+        same_parts(self.parts(), other.parts())
     }
 }
 
 impl Eq for CopyOperation {
-    ghost laws = { on_equiv (λ o. operation_of (Copy o)) operation_equivalence };
+    ghost laws = { on_equiv copy_of operation_equivalence };
 }
 
 /// Equal where the pointers are, and the values are the same.
 impl PartialEq for TestOperation {
-    ghost eq = { λ a b. same_operation (operation_of (Test a)) (operation_of (Test b)) };
+    ghost eq = { λ a b. same_operation (test_of a) (test_of b) };
 
-    ghost laws = { on_per (λ o. operation_of (Test o)) operation_partial_equivalence };
+    ghost laws = { on_per test_of operation_partial_equivalence };
 
     fn eq(&self, other: &TestOperation) -> bool
-        ensures same { IsTrue result
-            ↔ AreSameOperations (operation_of (Test self.now)) (operation_of (Test other.now)) }
+        ensures same { IsTrue result ↔ AreSameOperations (test_of self.now) (test_of other.now) }
     {
-        same_values_at((&self.path, &self.value), (&other.path, &other.value))
+        same_parts(self.parts(), other.parts())
     }
 }
 
 impl Eq for TestOperation {
-    ghost laws = { on_equiv (λ o. operation_of (Test o)) operation_equivalence };
+    ghost laws = { on_equiv test_of operation_equivalence };
 }
 
 /// Equal where the kinds and the operations are.
@@ -164,18 +147,9 @@ impl PartialEq for PatchOperation {
     ghost laws = { on_per operation_of operation_partial_equivalence };
 
     fn eq(&self, other: &PatchOperation) -> bool
-        ensures same { IsTrue result
-            ↔ AreSameOperations (operation_of self.now) (operation_of other.now) }
+        ensures same { IsTrue result ↔ AreSameOperations (operation_of self.now) (operation_of other.now) }
     {
-        match (self, other) {
-            (PatchOperation::Add(a), PatchOperation::Add(b)) => *a == *b,
-            (PatchOperation::Remove(a), PatchOperation::Remove(b)) => *a == *b,
-            (PatchOperation::Replace(a), PatchOperation::Replace(b)) => *a == *b,
-            (PatchOperation::Move(a), PatchOperation::Move(b)) => *a == *b,
-            (PatchOperation::Copy(a), PatchOperation::Copy(b)) => *a == *b,
-            (PatchOperation::Test(a), PatchOperation::Test(b)) => *a == *b,
-            _ => false,
-        }
+        same_parts(self.parts(), other.parts())
     }
 }
 

@@ -5,7 +5,7 @@ use Rattle.std.specs.String.{string_cmp}
 use Rattle.serde_json.specs.View.{items_view, members_view}
 use Rattle.serde_json.specs.Written.{items_have_float, members_have_float}
 use Rattle.json_patch.specs.Document.{AreDocuments, AreMembers}
-use Rattle.json_patch.proofs.equality.+whole.Given as goal
+use Rattle.json_patch.proofs.wholeness.+whole.Given as goal
 
 abbrev pub invariant-is_whole_list-loop-item : goal.invariant-is_whole_list-loop-item
 invariant-is_whole_list-loop-item l =

@@ -1,7 +1,7 @@
 use Rattle.std.proofs.Common.{◌∙◌, refl}
 use Rattle.serde_json.proofs.Views.{Entry}
-use Rattle.json_patch.proofs.Wholeness.{sorted_rest, members_more, float_more}
-use Rattle.json_patch.proofs.equality.+whole.Goals as goal
+use Rattle.json_patch.proofs.Floats.{sorted_rest, members_more, float_more}
+use Rattle.json_patch.proofs.wholeness.+whole.Goals as goal
 
 pub is_whole_map-loop-name-preserved : goal.is_whole_map-loop-name-preserved
 is_whole_map-loop-name-preserved t c =

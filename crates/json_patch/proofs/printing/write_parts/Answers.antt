@@ -1,7 +1,7 @@
 use Rattle.std.proofs.Common.{rules}
 use Rattle.std.proofs.Output.{has_written_append, has_written_of_eq}
 use Rattle.json_patch.proofs.Texts.{printed_operation}
-use Rattle.json_patch.proofs.printing.write_operation.Goals as goal
+use Rattle.json_patch.proofs.printing.write_parts.Goals as goal
 
 pub returns : goal.returns
 returns g c plain ok =

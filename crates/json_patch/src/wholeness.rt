@@ -1,0 +1,94 @@
+//! The test that all numbers of a value are whole, or of the values in operations.
+
+ghost use Rattle.std.specs.Prelude.{◌≡◌, ◌↔◌, IsTrue, false, not};
+ghost use Rattle.serde_json.specs.Find.{is_float};
+ghost use Rattle.serde_json.specs.View.{view, number_view, items_view, members_view};
+ghost use Rattle.serde_json.specs.Written.{has_float, items_have_float, members_have_float};
+ghost use Rattle.json_patch.specs.Document.{AreDocuments, AreMembers, IsDocument, IsWhole};
+ghost use Rattle.json_patch.specs.Operation.{AreWhole, IsWholeOp, operation_of, operations};
+
+use crate::operation::{Patch, PatchOperation};
+use serde_json::{Map, Number, Value};
+
+/// Whether each number in the value is held as an unsigned or a signed one of 64 bits. A number
+/// with a fraction or an exponent, minus zero and one of more bits are held as floats.
+pub fn is_whole(value: &Value) -> bool
+    ensures document { IsTrue result ↔ IsDocument (view value.now) }
+    ensures no_float { IsTrue result ↔ (has_float (view value.now) ≡ false) }
+{
+    is_whole_value(value)
+}
+
+impl Patch {
+    /// Whether the value of each operation is whole, as in an empty patch.
+    pub fn is_whole(&self) -> bool
+        ensures { IsTrue result ↔ AreWhole (operations self.now.0.items) }
+    {
+        for operation in &self.0 {
+            if !operation.is_whole() {
+                return false;
+            }
+        }
+        true
+    }
+}
+
+impl PatchOperation {
+    fn is_whole(&self) -> bool
+        ensures { IsTrue result ↔ IsWholeOp (operation_of self.now) }
+    {
+        match self.parts().value {
+            Some(value) => is_whole(value),
+            None => true,
+        }
+    }
+}
+
+#[cycle(whole)]
+fn is_whole_value(value: &Value) -> bool
+    ensures no_float { result ≡ not (has_float (view value.now)) }
+    ensures document { IsTrue result → IsDocument (view value.now) }
+{
+    match value {
+        Value::Number(number) => is_whole_number(number),
+        Value::Array(items) => is_whole_list(items),
+        Value::Object(members) => is_whole_map(members),
+        _ => true,
+    }
+}
+
+#[cycle(whole)]
+fn is_whole_list(items: &Vec<Value>) -> bool
+    ensures no_float { result ≡ not (items_have_float (items_view items.now.items)) }
+    ensures documents { IsTrue result → AreDocuments (items_view items.now.items) }
+{
+    for item in items {
+        if !is_whole_value(item) {
+            return false;
+        }
+    }
+    true
+}
+
+#[cycle(whole)]
+fn is_whole_map(members: &Map<String, Value>) -> bool
+    ensures no_float { result ≡ not (members_have_float (members_view members.now.entries)) }
+    ensures members { IsTrue result → AreMembers (members_view members.now.entries) }
+{
+    for (_name, value) in members.iter() {
+        if !is_whole_value(value) {
+            return false;
+        }
+    }
+    true
+}
+
+fn is_whole_number(number: &Number) -> bool
+    ensures no_float { result ≡ not (is_float (number_view number.now)) }
+    ensures whole { IsTrue result → IsWhole (number_view number.now) }
+{
+    match number.as_u64() {
+        Some(_n) => true,
+        None => number.as_i64().is_some(),
+    }
+}
