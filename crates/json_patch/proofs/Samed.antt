@@ -1,17 +1,17 @@
 -- On documents equality is `≡`, and what a comparison answers is what it says.
-use Rattle.std.proofs.Common.{◌≡◌, ◌↔◌, IsTrue, List, [], ◌∷◌, Bool, true, refl, sym, ap, subst}
+use Rattle.std.proofs.Common.{◌≡◌, ◌↔◌, IsTrue, List, [], ◌∷◌, Bool, true, Option, Some, None, IfSome, refl, sym, ap, subst}
 use Rattle.std.specs.Bool.{Decides}
 use Rattle.std.specs.Cmp.Lexicographic.{pointwise}
 use Rattle.std.specs.Ordering.{on}
-use Rattle.std.proofs.lemmas.Bool.Decides.{Decides-and, Decides-at, Decides-like, same_from_decides}
+use Rattle.std.proofs.lemmas.Bool.Decides.{Decides-and, Decides-at, Decides-like, not_from_Decides, same_from_decides}
+use Rattle.std.proofs.lemmas.Slice.Eq.{bytes_eq-Decides}
 use Rattle.serde_json.specs.Data.{Num, unsigned, negative, float, Data, null, boolean, number, string, array, object, Items, no_items, item, Members, no_members, member}
-use Rattle.jsonptr.specs.Text.{Pointer}
 use Rattle.json_patch.specs.Document.{IsDocument, AreDocuments, AreMembers, IsWhole}
-use Rattle.json_patch.specs.Operation.{Operation, add, remove, replace, move, copy, test, operation_of, operations, IsWholeOp, AreWhole}
+use Rattle.json_patch.specs.Operation.{Operation, Parts, add, remove, replace, move, copy, test, parts_of, operation_of, operations, IsWholeOp, AreWhole}
 use Rattle.json_patch.specs.declared.operation.PatchOperation.{PatchOperation}
-use Rattle.json_patch.specs.Same.{AreSameNumbers, AreSame, AreSameItems, AreSameMembers, AreSameOperations, AreSameLists}
-use Rattle.json_patch.specs.SameComputed.{same, same_pointer, same_operation}
-use Rattle.json_patch.specs.SameLaws.{AreSame-refl, AreSame-sym, same-Decides, operation-refl, pointer-Decides, operation-Decides}
+use Rattle.json_patch.specs.Same.{AreSameNumbers, AreSame, AreSameItems, AreSameMembers, AreSameAt, AreSameParts, AreSameOperations, AreSameLists}
+use Rattle.json_patch.specs.SameComputed.{same, same_parts, same_operation}
+use Rattle.json_patch.specs.SameLaws.{AreSame-refl, AreSame-sym, same-Decides, parts-refl, parts-Decides}
 
 numbers-is : (m n : Num) → IsWhole m → AreSameNumbers m n → m ≡ n
 numbers-is (unsigned m) (unsigned n) w h = ap unsigned h
@@ -45,14 +45,24 @@ is-AreSame d e is = subst (AreSame d) is (AreSame-refl d)
 pub AreSame-document : (d e : Data) → IsDocument d → AreSame d e ↔ (d ≡ e)
 AreSame-document d e w = (AreSame-is d e w, is-AreSame d e)
 
+at-is : (o p : Option Data) → IfSome o IsDocument → AreSameAt o p → o ≡ p
+at-is None None w h = refl
+at-is (Some d) (Some e) w h = ap Some (AreSame-is d e w h)
+at-is _ _ w h = absurd h
+
+-- an operation is what its parts are
+one_operation : (op other : Operation) → parts_of op ≡ parts_of other → op ≡ other
+one_operation (add P v) (add Q w) h = let p : P ≡ Q = ap (λ x. x.path) h in let o : Some v ≡ Some w = ap (λ x. x.value) h in cc
+one_operation (remove P) (remove Q) h = ap (λ x. remove x.path) h
+one_operation (replace P v) (replace Q w) h = let p : P ≡ Q = ap (λ x. x.path) h in let o : Some v ≡ Some w = ap (λ x. x.value) h in cc
+one_operation (move F P) (move G Q) h = let p : P ≡ Q = ap (λ x. x.path) h in let o : Some F ≡ Some G = ap (λ x. x.from) h in cc
+one_operation (copy F P) (copy G Q) h = let p : P ≡ Q = ap (λ x. x.path) h in let o : Some F ≡ Some G = ap (λ x. x.from) h in cc
+one_operation (test P v) (test Q w) h = let p : P ≡ Q = ap (λ x. x.path) h in let o : Some v ≡ Some w = ap (λ x. x.value) h in cc
+one_operation _ _ h = absurd (not_from_Decides _ (bytes_eq-Decides _ _) refl (ap (λ x. x.name) h))
+
 operation-is : (op other : Operation) → IsWholeOp op → AreSameOperations op other → op ≡ other
-operation-is (add P v) (add Q w) hv h = rw (h.0, AreSame-is v w hv h.1)
-operation-is (remove P) (remove Q) hv h = ap remove h
-operation-is (replace P v) (replace Q w) hv h = rw (h.0, AreSame-is v w hv h.1)
-operation-is (move F P) (move G Q) hv h = rw (h.0, h.1)
-operation-is (copy F P) (copy G Q) hv h = rw (h.0, h.1)
-operation-is (test P v) (test Q w) hv h = rw (h.0, AreSame-is v w hv h.1)
-operation-is _ _ hv h = absurd h
+operation-is op other w h =
+    one_operation op other (λ i. record { name = h.name i; from = h.from i; path = h.path i; value = at-is (parts_of op).value (parts_of other).value w h.value i })
 
 lists-is : (ops others : List Operation) → AreWhole ops → AreSameLists ops others → ops ≡ others
 lists-is [] [] hv h = refl
@@ -61,7 +71,7 @@ lists-is _ _ hv h = absurd h
 
 lists-refl : (ops : List Operation) → AreSameLists ops ops
 lists-refl [] = tt
-lists-refl (op ∷ ops) = (operation-refl op, lists-refl ops)
+lists-refl (op ∷ ops) = (parts-refl (parts_of op), lists-refl ops)
 
 pub AreSameLists-whole : (ops others : List Operation) → AreWhole ops → AreSameLists ops others ↔ (ops ≡ others)
 AreSameLists-whole ops others hv = (lists-is ops others hv, λ e. subst (AreSameLists ops) e (lists-refl ops))
@@ -80,24 +90,16 @@ same-says r d e is = Decides-at r (same d e) is (same-Decides d e)
 pub same-document : (r : Bool) (d e : Data) → r ≡ same d e → IsDocument d → IsTrue r ↔ (d ≡ e)
 same-document r d e is w = Decides-like r (AreSame-is d e w) (is-AreSame d e) (same-says r d e is)
 
-pub pointer_says : (r : Bool) (P Q : Pointer) → (IsTrue r ↔ (P ≡ Q)) → r ≡ same_pointer P Q
-pointer_says r P Q h = same_from_decides r (same_pointer P Q) h (pointer-Decides P Q)
-
--- what `==` answers by the relation is what the trait's test says
-pub operation_tells : (r : Bool) (op other : Operation) → (IsTrue r ↔ AreSameOperations op other) → r ≡ same_operation op other
-operation_tells r op other h = same_from_decides r (same_operation op other) h (operation-Decides op other)
+pub parts_say : (r : Bool) (p q : Parts) → r ≡ same_parts p q → IsTrue r ↔ AreSameParts p q
+parts_say r p q is = Decides-at r (same_parts p q) is (parts-Decides p q)
 
 tests-Decide : (xs ys : List PatchOperation) → Decides (pointwise (on operation_of same_operation) xs ys) (AreSameLists (operations xs) (operations ys))
 tests-Decide [] [] = (λ h. tt, λ h. refl)
 tests-Decide (x ∷ xs) (y ∷ ys) =
     Decides-and (same_operation (operation_of x) (operation_of y)) (pointwise (on operation_of same_operation) xs ys)
-    (operation-Decides (operation_of x) (operation_of y)) (tests-Decide xs ys)
+    (parts-Decides (parts_of (operation_of x)) (parts_of (operation_of y))) (tests-Decide xs ys)
 tests-Decide _ _ = (λ h. cc, λ h. absurd h)
 
 pub operations_say : (r : Bool) (xs ys : List PatchOperation) → r ≡ pointwise (on operation_of same_operation) xs ys
     → IsTrue r ↔ AreSameLists (operations xs) (operations ys)
 operations_say r xs ys is = Decides-at r (pointwise (on operation_of same_operation) xs ys) is (tests-Decide xs ys)
-
-pub operations_tell : (r : Bool) (xs ys : List PatchOperation) → (IsTrue r ↔ AreSameLists (operations xs) (operations ys))
-    → r ≡ pointwise (on operation_of same_operation) xs ys
-operations_tell r xs ys h = same_from_decides r (pointwise (on operation_of same_operation) xs ys) h (tests-Decide xs ys)

@@ -6,7 +6,10 @@ use Rattle.std.proofs.lemmas.Str.{chars-nil, chars_past_char}
 use Rattle.std.specs.Char.{digit_char}
 use Rattle.std.specs.Fmt.{digits, format_spec, padded_integral, char_count}
 use Rattle.serde_json.specs.Data.{Data, string, Items, item, no_items, Members, member, no_members}
-use Rattle.json_patch.specs.Printed.{escaped, quoted, printed, printed_items, printed_members, printed_fields, in_order, field_if, given_fields, leading_text, trailing_text}
+use Rattle.jsonptr.specs.Text.{Pointer, text_of}
+use Rattle.json_patch.specs.Operation.{Parts}
+use Rattle.json_patch.specs.PatchValue.{field_if, part_fields, pointer_text}
+use Rattle.json_patch.specs.Printed.{escaped, quoted, printed, printed_items, printed_members, in_order, printed_parts, leading_text, trailing_text}
 
 -- a test that holds below n, counted down from the top
 abbrev holds_below : (ℕ → Bool) → ℕ → Bool
@@ -108,16 +111,22 @@ path_member path value before =
     ap (λ l. before ++ (k ++ (codes ":" ++ (quoted path ++ l)))) (trailing_member (codes "value") value)
     ∙ sym (regroup_member before k (codes ":") (quoted path) (printed_members (codes ",") (in_order (field_if (codes "value") value))) (codes "}"))
 
+leading_from : (o : Option Pointer) (rest : List ℕ) (fs : List (List ℕ × Data))
+    → ((before : List ℕ) → before ++ rest ≡ printed_members before (in_order fs) ++ codes "}")
+    → (before : List ℕ) → before ++ (leading_text (codes "from") (option_map text_of o) ++ rest) ≡ printed_members before (in_order (field_if (codes "from") (option_map pointer_text o) ++ fs)) ++ codes "}"
+leading_from None rest fs later = leading_member (codes "from") None rest fs later
+leading_from (Some F) rest fs later = leading_member (codes "from") (Some (text_of F)) rest fs later
+
 regroup_operation : (o l m k e p t c : List ℕ) → (((((o ++ l) ++ m) ++ (k ++ e)) ++ p) ++ t) ++ c ≡ o ++ (l ++ (m ++ (k ++ (e ++ (p ++ (t ++ c))))))
 regroup_operation o l m k e p t c = simp append_assoc
 
-pub printed_operation : (name from : Option (List ℕ)) (path : List ℕ) (value : Option Data)
-    → (((((codes "{" ++ leading_text (codes "op") name) ++ leading_text (codes "from") from) ++ (quoted (codes "path") ++ codes ":")) ++ quoted path) ++ trailing_text (codes "value") value) ++ codes "}"
-    ≡ printed_fields (given_fields name from path value)
-printed_operation name from path value =
+pub printed_operation : (name from : Option (List ℕ)) (path : List ℕ) (p : Parts) → from ≡ option_map text_of p.from → path ≡ text_of p.path
+    → (((((codes "{" ++ leading_text (codes "op") name) ++ leading_text (codes "from") from) ++ (quoted (codes "path") ++ codes ":")) ++ quoted path) ++ trailing_text (codes "value") p.value) ++ codes "}"
+    ≡ printed_parts name p
+printed_operation name from path p e f =
     let op = codes "op" in
     let source = codes "from" in
-    let fs = (codes "path", string path) ∷ field_if (codes "value") value in
-    let all = leading_member op name _ (field_if source (option_map string from) ++ fs) (leading_member source from _ fs (path_member path value)) [] in
-    regroup_operation (codes "{") (leading_text op name) (leading_text source from) (quoted (codes "path")) (codes ":") (quoted path) (trailing_text (codes "value") value) (codes "}")
-    ∙ ap (λ l. codes "{" ++ l) all
+    let later = leading_from p.from _ ((codes "path", pointer_text p.path) ∷ field_if (codes "value") p.value) (path_member (text_of p.path) p.value) in
+    let all = leading_member op name _ (part_fields p) later [] in
+    regroup_operation (codes "{") (leading_text op name) (leading_text source from) (quoted (codes "path")) (codes ":") (quoted path) (trailing_text (codes "value") p.value) (codes "}")
+    ∙ rw (e, f) (ap (λ l. codes "{" ++ l) all)

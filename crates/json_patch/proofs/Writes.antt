@@ -4,16 +4,17 @@ use Rattle.std.specs.Cmp.Lexicographic.{slice_cmp}
 use Rattle.std.specs.List.{insert, remove, AllByRecursion}
 use Rattle.std.specs.List.Sorted.{IsStrictlySortedBy}
 use Rattle.std.specs.Map.{lookup, set_value, remove_entry, keys_of}
-use Rattle.std.specs.BTreeMap.{is_at}
+use Rattle.std.specs.BTreeMap.{insert_entry, is_at}
 use Rattle.std.specs.Ordering.{match_ordering}
 use Rattle.std.specs.String.{string_cmp}
-use Rattle.serde_json.specs.Data.{item, Members, member, put}
+use Rattle.serde_json.specs.Data.{Data, item, Members, member, put}
 use Rattle.serde_json.specs.Find.{get_member}
 use Rattle.serde_json.specs.View.{view, items_view, members_view}
 use Rattle.serde_json.specs.declared.value.Value.{Value}
-use Rattle.serde_json.proofs.Views.{Entry, view-lookup}
+use Rattle.serde_json.proofs.Views.{Entry, members_view-insert_entry, view-lookup}
 use Rattle.json_patch.specs.Document.{IsBelowMembers}
 use Rattle.json_patch.specs.ChangeComputed.{insert_item, remove_item, set_item, without}
+use Rattle.json_patch.specs.PatchValue.{put_if}
 use Rattle.json_patch.proofs.Members.{below_absent, below_more}
 
 -- the test of a map's keys by which a name is looked up
@@ -101,3 +102,8 @@ pub items_view-set_same : (vs : List Value) (i : ℕ) (w v : Value) → v ≡ sl
 items_view-set_same [] i w v is same h = refl
 items_view-set_same (u ∷ vs) zero w v is same h = ap (λ d. item d (items_view vs)) (same ∙ ap view is)
 items_view-set_same (u ∷ vs) (suc i) w v is same h = ap (item (view u)) (items_view-set_same vs i w v is same (omega arith))
+
+-- a value that is put in where there is one
+pub inserts_if : (name : List ℕ) (o : Option Data) (es new : List Entry) (k : String Global) (v : Value) → string_bytes k ≡ name → Some (view v) ≡ o → new ≡ insert_entry string_cmp es k v
+    → members_view new ≡ put_if name o (members_view es)
+inserts_if name o es new k v named is wrote = ap members_view wrote ∙ members_view-insert_entry es k v ∙ rw (named, ← is) refl

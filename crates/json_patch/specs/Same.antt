@@ -45,8 +45,11 @@ AreInOrder no_members = Unit {0}
 AreInOrder (member k d ms) = IsBelowMembers k ms × AreInOrder ms
 
 -- one name, equal pointers and the same value, those that there are
-abbrev pub AreSameParts : Parts → Parts → Type 0
-AreSameParts p q = (p.name ≡ q.name) × (p.from ≡ q.from) × (p.path ≡ q.path) × AreSameAt p.value q.value
+pub record AreSameParts (p q : Parts) : Type 0 where
+  pub name : p.name ≡ q.name
+  pub from : p.from ≡ q.from
+  pub path : p.path ≡ q.path
+  pub value : AreSameAt p.value q.value
 
 abbrev pub AreSameOperations : Operation → Operation → Type 0
 AreSameOperations op other = AreSameParts (parts_of op) (parts_of other)

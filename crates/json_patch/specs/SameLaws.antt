@@ -150,14 +150,15 @@ at-trans (Some d) (Some e) (Some f) h k = AreSame-trans d e f h k
 at-trans (Some d) (Some e) None h k = absurd k
 at-trans _ _ _ h k = absurd h
 
-parts-refl : (p : Parts) → AreSameParts p p
-parts-refl p = (refl, refl, refl, at-refl p.value)
+pub parts-refl : (p : Parts) → AreSameParts p p
+parts-refl p = record { name = refl; from = refl; path = refl; value = at-refl p.value }
 
 parts-sym : (p q : Parts) → AreSameParts p q → AreSameParts q p
-parts-sym p q h = (sym h.0, sym h.1, sym h.2, at-sym p.value q.value h.3)
+parts-sym p q h = record { name = sym h.name; from = sym h.from; path = sym h.path; value = at-sym p.value q.value h.value }
 
 parts-trans : (p q r : Parts) → AreSameParts p q → AreSameParts q r → AreSameParts p r
-parts-trans p q r h k = (h.0 ∙ k.0, h.1 ∙ k.1, h.2 ∙ k.2, at-trans p.value q.value r.value h.3 k.3)
+parts-trans p q r h k =
+    record { name = h.name ∙ k.name; from = h.from ∙ k.from; path = h.path ∙ k.path; value = at-trans p.value q.value r.value h.value k.value }
 
 pointer-Decides : (P Q : Pointer) → Decides (same_pointer P Q) (P ≡ Q)
 pointer-Decides P Q = Decides-like (same_pointer P Q) (one_pointer P Q) (ap text_of) (bytes_eq-Decides (text_of P) (text_of Q))
@@ -176,7 +177,11 @@ pub parts-Decides : (p q : Parts) → Decides (same_parts p q) (AreSameParts p q
 parts-Decides p q =
     let last = Decides-and (same_pointer p.path q.path) (option_eq same p.value q.value) (pointer-Decides p.path q.path) (at-Decides p.value q.value) in
     let later = Decides-and (option_eq same_pointer p.from q.from) (same_pointer p.path q.path && option_eq same p.value q.value) (from-Decides p.from q.from) last in
-    Decides-and (bytes_eq p.name q.name) (option_eq same_pointer p.from q.from && (same_pointer p.path q.path && option_eq same p.value q.value)) (bytes_eq-Decides p.name q.name) later
+    let all = Decides-and (bytes_eq p.name q.name) (option_eq same_pointer p.from q.from && (same_pointer p.path q.path && option_eq same p.value q.value)) (bytes_eq-Decides p.name q.name) later in
+    (
+      λ h. let got = all.0 h in record { name = got.0; from = got.1.0; path = got.1.1.0; value = got.1.1.1 },
+      λ h. all.1 (h.name, (h.from, (h.path, h.value))),
+    )
 
 -- a test that decides an equivalence
 module _ {K : Type 0} (E : K → K → Bool) (R : K → K → Type 0) (decides : (x y : K) → Decides (E x y) (R x y)) where

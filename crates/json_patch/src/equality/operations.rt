@@ -45,6 +45,7 @@ impl PartialEq for AddOperation {
     ghost laws = { on_per add_of operation_partial_equivalence };
 
     fn eq(&self, other: &AddOperation) -> bool
+        ensures eq_value { result ≡ same_operation (add_of self.now) (add_of other.now) }
         ensures same { IsTrue result ↔ AreSameOperations (add_of self.now) (add_of other.now) }
     {
         same_parts(self.parts(), other.parts())
@@ -62,6 +63,7 @@ impl PartialEq for RemoveOperation {
     ghost laws = { on_per remove_of operation_partial_equivalence };
 
     fn eq(&self, other: &RemoveOperation) -> bool
+        ensures eq_value { result ≡ same_operation (remove_of self.now) (remove_of other.now) }
         ensures same { IsTrue result ↔ AreSameOperations (remove_of self.now) (remove_of other.now) }
     {
         same_parts(self.parts(), other.parts())
@@ -79,6 +81,7 @@ impl PartialEq for ReplaceOperation {
     ghost laws = { on_per replace_of operation_partial_equivalence };
 
     fn eq(&self, other: &ReplaceOperation) -> bool
+        ensures eq_value { result ≡ same_operation (replace_of self.now) (replace_of other.now) }
         ensures same { IsTrue result ↔ AreSameOperations (replace_of self.now) (replace_of other.now) }
     {
         same_parts(self.parts(), other.parts())
@@ -96,6 +99,7 @@ impl PartialEq for MoveOperation {
     ghost laws = { on_per move_of operation_partial_equivalence };
 
     fn eq(&self, other: &MoveOperation) -> bool
+        ensures eq_value { result ≡ same_operation (move_of self.now) (move_of other.now) }
         ensures same { IsTrue result ↔ AreSameOperations (move_of self.now) (move_of other.now) }
     {
         same_parts(self.parts(), other.parts())
@@ -113,6 +117,7 @@ impl PartialEq for CopyOperation {
     ghost laws = { on_per copy_of operation_partial_equivalence };
 
     fn eq(&self, other: &CopyOperation) -> bool
+        ensures eq_value { result ≡ same_operation (copy_of self.now) (copy_of other.now) }
         ensures same { IsTrue result ↔ AreSameOperations (copy_of self.now) (copy_of other.now) }
     {
         same_parts(self.parts(), other.parts())
@@ -130,6 +135,7 @@ impl PartialEq for TestOperation {
     ghost laws = { on_per test_of operation_partial_equivalence };
 
     fn eq(&self, other: &TestOperation) -> bool
+        ensures eq_value { result ≡ same_operation (test_of self.now) (test_of other.now) }
         ensures same { IsTrue result ↔ AreSameOperations (test_of self.now) (test_of other.now) }
     {
         same_parts(self.parts(), other.parts())
@@ -147,6 +153,7 @@ impl PartialEq for PatchOperation {
     ghost laws = { on_per operation_of operation_partial_equivalence };
 
     fn eq(&self, other: &PatchOperation) -> bool
+        ensures eq_value { result ≡ same_operation (operation_of self.now) (operation_of other.now) }
         ensures same { IsTrue result ↔ AreSameOperations (operation_of self.now) (operation_of other.now) }
     {
         same_parts(self.parts(), other.parts())
@@ -165,6 +172,8 @@ impl PartialEq for Patch {
         (lists_per (on_per operation_of operation_partial_equivalence)) };
 
     fn eq(&self, other: &Patch) -> bool
+        ensures eq_value { result
+            ≡ pointwise (on operation_of same_operation) self.now.0.items other.now.0.items }
         ensures same { IsTrue result
             ↔ AreSameLists (operations self.now.0.items) (operations other.now.0.items) }
     {

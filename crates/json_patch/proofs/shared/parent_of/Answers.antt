@@ -1,6 +1,6 @@
-use Rattle.std.proofs.Common.{sym, ◌∙◌}
+use Rattle.std.proofs.Common.{◌≡◌, None, Some, option_map, sym, ap, ◌∙◌}
 use Rattle.jsonptr.specs.Pointers.{token_of, tokens_of}
-use Rattle.json_patch.specs.Operation.{operation_of}
+use Rattle.json_patch.specs.Operation.{operation_of, from_of}
 use Rattle.json_patch.proofs.SharedTokens.{both_longest, even_if_none, parent_longest, root_source, root_within}
 use Rattle.json_patch.proofs.shared.parent_of.Goals as goal
 
@@ -10,14 +10,20 @@ returns-in_err-parent-clause-none c =
 
 pub returns-in_err-source-in-Some-clause-none : goal.returns-in_err-source-in-Some-clause-none
 returns-in_err-source-in-Some-clause-none c =
-    even_if_none _ _ (root_source (tokens_of c.in-Some.from) (operation_of c.args.operation.now) (sym c.in-Some.ensures) c.in_err-source-in-Some.ensures.root)
+    let at = c.as_pointer.ensures in
+    let from : from_of (operation_of c.args.operation.now) ≡ Some (tokens_of c.as_pointer.result) =
+    sym (ap (λ p. p.from) c.parts.ensures) ∙ ap (λ o. option_map (λ F. F.now) o) c.in-Some.is ∙ ap Some (sym at) in
+    even_if_none _ _ (root_source (tokens_of c.as_pointer.result) (operation_of c.args.operation.now) from c.in_err-source-in-Some.ensures.root)
 
 pub returns-in_ok-source-in-Some-clause-shared : goal.returns-in_ok-source-in-Some-clause-shared
 returns-in_ok-source-in-Some-clause-shared c =
     let m = c.shared_with.ensures in
-    both_longest (operation_of c.args.operation.now) (tokens_of c.in-Some.from) (tokens_of c.in_ok-parent.parent) (tokens_of c.in_ok-source-in-Some.source) (tokens_of c.shared_with.result) (token_of c.in_ok-parent._last) (token_of c.in_ok-source-in-Some._last)
-    (sym c.in-Some.ensures) (sym c.path.ensures ∙ c.in_ok-parent.ensures.last) c.in_ok-source-in-Some.ensures.last m
+    let from : from_of (operation_of c.args.operation.now) ≡ Some (tokens_of c.as_pointer.result) =
+    sym (ap (λ p. p.from) c.parts.ensures) ∙ ap (λ o. option_map (λ F. F.now) o) c.in-Some.is ∙ ap Some (sym c.as_pointer.ensures) in
+    both_longest (operation_of c.args.operation.now) (tokens_of c.as_pointer.result) (tokens_of c.in_ok-parent.parent) (tokens_of c.in_ok-source-in-Some.source) (tokens_of c.shared_with.result) (token_of c.in_ok-parent._last) (token_of c.in_ok-source-in-Some._last)
+    from (sym c.path.ensures ∙ c.in_ok-parent.ensures.last) c.in_ok-source-in-Some.ensures.last m
 
 pub returns-in-None-clause-shared : goal.returns-in-None-clause-shared
 returns-in-None-clause-shared c =
-    parent_longest (operation_of c.args.operation.now) (tokens_of c.in_ok-parent.parent) (token_of c.in_ok-parent._last) (sym c.in-None.ensures) (sym c.path.ensures ∙ c.in_ok-parent.ensures.last)
+    let from : from_of (operation_of c.args.operation.now) ≡ None = sym (ap (λ p. p.from) c.parts.ensures) ∙ ap (λ o. option_map (λ F. F.now) o) c.in-None.is in
+    parent_longest (operation_of c.args.operation.now) (tokens_of c.in_ok-parent.parent) (token_of c.in_ok-parent._last) from (sym c.path.ensures ∙ c.in_ok-parent.ensures.last)
