@@ -3,7 +3,7 @@ use Rattle.std.proofs.Common.{◌≡◌, ◌↔◌, IsTrue, List, [], ◌∷◌,
 use Rattle.std.specs.Bool.{Decides}
 use Rattle.std.specs.Cmp.Lexicographic.{pointwise}
 use Rattle.std.specs.Ordering.{on}
-use Rattle.std.proofs.lemmas.Bool.Decides.{Decides-and, Decides-at, Decides-like, not_from_Decides, same_from_decides}
+use Rattle.std.proofs.lemmas.Bool.Decides.{Decides-and, Decides-at, Decides-like, not_from_Decides}
 use Rattle.std.proofs.lemmas.Slice.Eq.{bytes_eq-Decides}
 use Rattle.serde_json.specs.Data.{Num, unsigned, negative, float, Data, null, boolean, number, string, array, object, Items, no_items, item, Members, no_members, member}
 use Rattle.json_patch.specs.Document.{IsDocument, AreDocuments, AreMembers, IsWhole}

@@ -177,8 +177,7 @@ pub parts-Decides : (p q : Parts) → Decides (same_parts p q) (AreSameParts p q
 parts-Decides p q =
     let last = Decides-and (same_pointer p.path q.path) (option_eq same p.value q.value) (pointer-Decides p.path q.path) (at-Decides p.value q.value) in
     let later = Decides-and (option_eq same_pointer p.from q.from) (same_pointer p.path q.path && option_eq same p.value q.value) (from-Decides p.from q.from) last in
-    let all = Decides-and (bytes_eq p.name q.name) (option_eq same_pointer p.from q.from && (same_pointer p.path q.path && option_eq same p.value q.value)) (bytes_eq-Decides p.name q.name) later in
-    (
+    let all = Decides-and (bytes_eq p.name q.name) (option_eq same_pointer p.from q.from && (same_pointer p.path q.path && option_eq same p.value q.value)) (bytes_eq-Decides p.name q.name) later in (
       λ h. let got = all.0 h in record { name = got.0; from = got.1.0; path = got.1.1.0; value = got.1.1.1 },
       λ h. all.1 (h.name, (h.from, (h.path, h.value))),
     )

@@ -1,7 +1,6 @@
 //! JSON Patch (RFC 6902) and JSON Merge Patch (RFC 7396).
 #![tactic(auto)]
 
-mod cloning;
 mod equality;
 mod error;
 pub mod laws;

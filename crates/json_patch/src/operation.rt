@@ -1,13 +1,13 @@
 //! The operations of JSON Patch (RFC 6902, section 4), and lists of them.
 
-ghost use Rattle.std.specs.Prelude.{◌≡◌, []};
+ghost use Rattle.std.specs.Prelude.{◌≡◌, [], IfOk};
 ghost use Rattle.serde_json.specs.Data.{null};
 ghost use Rattle.serde_json.specs.View.{view};
-ghost use Rattle.json_patch.specs.Operation.{operation_of, test};
+ghost use Rattle.json_patch.specs.Operation.{operation_of, operations, test};
 
 use jsonptr::PointerBuf;
 use serde_json::Value;
-use std::alloc::Global;
+use std::alloc::{AllocError, Global};
 
 /// Puts a value at `path`: a new member, a member in place of another, or an item before the one
 /// that stands there (RFC 6902, section 4.1).
@@ -105,5 +105,16 @@ impl Patch {
         ensures { result.now ≡ self.now.0.items }
     {
         self.0.as_slice()
+    }
+
+    /// A copy of the patch, refused for memory alone.
+    pub fn clone(&self, alloc: Global) -> Result<Patch, AllocError>
+        ensures { IfOk result (λ copy. operations copy.0.items ≡ operations self.now.0.items) }
+    {
+        let mut copies = Vec::with_capacity(alloc, self.0.len())?;
+        for operation in &self.0 {
+            copies.push(operation.clone(alloc)?)?;
+        }
+        Ok(Patch(copies))
     }
 }

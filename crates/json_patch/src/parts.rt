@@ -1,16 +1,20 @@
-//! What an operation has, whichever it is.
+//! What an operation has, whichever it is: its parts, and a copy and a value of it.
 
-ghost use Rattle.std.specs.Prelude.{◌≡◌};
+ghost use Rattle.std.specs.Prelude.{◌≡◌, IfOk};
+ghost use Rattle.serde_json.specs.View.{view};
 ghost use Rattle.jsonptr.specs.Pointers.{tokens_of};
 ghost use Rattle.json_patch.specs.Held.{held};
 ghost use Rattle.json_patch.specs.Operation.{add_of, copy_of, move_of, operation_of, parts_of, path_of, remove_of, replace_of, test_of};
+ghost use Rattle.json_patch.specs.PatchValue.{written, written_fields};
 
 use crate::operation::{
     AddOperation, CopyOperation, MoveOperation, PatchOperation, RemoveOperation, ReplaceOperation,
     TestOperation,
 };
+use crate::writing::to_object;
 use jsonptr::{Pointer, PointerBuf};
 use serde_json::Value;
+use std::alloc::{AllocError, Global};
 
 /// The parts of an operation, borrowed.
 #[derive(Clone, Copy)]
@@ -33,6 +37,23 @@ impl AddOperation {
             value: Some(&self.value),
         }
     }
+
+    /// A copy of the operation, refused for memory alone.
+    pub fn clone(&self, alloc: Global) -> Result<AddOperation, AllocError>
+        ensures { IfOk result (λ copy. add_of copy ≡ add_of self.now) }
+    {
+        Ok(AddOperation {
+            path: self.path.clone(alloc)?,
+            value: self.value.clone()?,
+        })
+    }
+
+    /// The object of the members `path` and `value`.
+    pub fn to_value(&self, alloc: Global) -> Result<Value, AllocError>
+        ensures { IfOk result (λ v. view v ≡ written_fields (add_of self.now)) }
+    {
+        to_object(alloc, None, self.parts())
+    }
 }
 
 impl RemoveOperation {
@@ -45,6 +66,22 @@ impl RemoveOperation {
             path: &self.path,
             value: None,
         }
+    }
+
+    /// A copy of the operation, refused for memory alone.
+    pub fn clone(&self, alloc: Global) -> Result<RemoveOperation, AllocError>
+        ensures { IfOk result (λ copy. remove_of copy ≡ remove_of self.now) }
+    {
+        Ok(RemoveOperation {
+            path: self.path.clone(alloc)?,
+        })
+    }
+
+    /// The object of the member `path`.
+    pub fn to_value(&self, alloc: Global) -> Result<Value, AllocError>
+        ensures { IfOk result (λ v. view v ≡ written_fields (remove_of self.now)) }
+    {
+        to_object(alloc, None, self.parts())
     }
 }
 
@@ -59,6 +96,23 @@ impl ReplaceOperation {
             value: Some(&self.value),
         }
     }
+
+    /// A copy of the operation, refused for memory alone.
+    pub fn clone(&self, alloc: Global) -> Result<ReplaceOperation, AllocError>
+        ensures { IfOk result (λ copy. replace_of copy ≡ replace_of self.now) }
+    {
+        Ok(ReplaceOperation {
+            path: self.path.clone(alloc)?,
+            value: self.value.clone()?,
+        })
+    }
+
+    /// The object of the members `path` and `value`.
+    pub fn to_value(&self, alloc: Global) -> Result<Value, AllocError>
+        ensures { IfOk result (λ v. view v ≡ written_fields (replace_of self.now)) }
+    {
+        to_object(alloc, None, self.parts())
+    }
 }
 
 impl MoveOperation {
@@ -71,6 +125,23 @@ impl MoveOperation {
             path: &self.path,
             value: None,
         }
+    }
+
+    /// A copy of the operation, refused for memory alone.
+    pub fn clone(&self, alloc: Global) -> Result<MoveOperation, AllocError>
+        ensures { IfOk result (λ copy. move_of copy ≡ move_of self.now) }
+    {
+        Ok(MoveOperation {
+            from: self.from.clone(alloc)?,
+            path: self.path.clone(alloc)?,
+        })
+    }
+
+    /// The object of the members `from` and `path`.
+    pub fn to_value(&self, alloc: Global) -> Result<Value, AllocError>
+        ensures { IfOk result (λ v. view v ≡ written_fields (move_of self.now)) }
+    {
+        to_object(alloc, None, self.parts())
     }
 }
 
@@ -85,6 +156,23 @@ impl CopyOperation {
             value: None,
         }
     }
+
+    /// A copy of the operation, refused for memory alone.
+    pub fn clone(&self, alloc: Global) -> Result<CopyOperation, AllocError>
+        ensures { IfOk result (λ copy. copy_of copy ≡ copy_of self.now) }
+    {
+        Ok(CopyOperation {
+            from: self.from.clone(alloc)?,
+            path: self.path.clone(alloc)?,
+        })
+    }
+
+    /// The object of the members `from` and `path`.
+    pub fn to_value(&self, alloc: Global) -> Result<Value, AllocError>
+        ensures { IfOk result (λ v. view v ≡ written_fields (copy_of self.now)) }
+    {
+        to_object(alloc, None, self.parts())
+    }
 }
 
 impl TestOperation {
@@ -97,6 +185,23 @@ impl TestOperation {
             path: &self.path,
             value: Some(&self.value),
         }
+    }
+
+    /// A copy of the operation, refused for memory alone.
+    pub fn clone(&self, alloc: Global) -> Result<TestOperation, AllocError>
+        ensures { IfOk result (λ copy. test_of copy ≡ test_of self.now) }
+    {
+        Ok(TestOperation {
+            path: self.path.clone(alloc)?,
+            value: self.value.clone()?,
+        })
+    }
+
+    /// The object of the members `path` and `value`.
+    pub fn to_value(&self, alloc: Global) -> Result<Value, AllocError>
+        ensures { IfOk result (λ v. view v ≡ written_fields (test_of self.now)) }
+    {
+        to_object(alloc, None, self.parts())
     }
 }
 
@@ -119,5 +224,27 @@ impl PatchOperation {
         ensures { tokens_of result ≡ path_of (operation_of self.now) }
     {
         self.parts().path.as_pointer()
+    }
+
+    /// A copy of the operation, refused for memory alone.
+    pub fn clone(&self, alloc: Global) -> Result<PatchOperation, AllocError>
+        ensures { IfOk result (λ copy. operation_of copy ≡ operation_of self.now) }
+    {
+        Ok(match self {
+            PatchOperation::Add(operation) => PatchOperation::Add(operation.clone(alloc)?),
+            PatchOperation::Remove(operation) => PatchOperation::Remove(operation.clone(alloc)?),
+            PatchOperation::Replace(operation) => PatchOperation::Replace(operation.clone(alloc)?),
+            PatchOperation::Move(operation) => PatchOperation::Move(operation.clone(alloc)?),
+            PatchOperation::Copy(operation) => PatchOperation::Copy(operation.clone(alloc)?),
+            PatchOperation::Test(operation) => PatchOperation::Test(operation.clone(alloc)?),
+        })
+    }
+
+    /// The object of the members that the operation has, with its name as `op`.
+    pub fn to_value(&self, alloc: Global) -> Result<Value, AllocError>
+        ensures { IfOk result (λ v. view v ≡ written (operation_of self.now)) }
+    {
+        let parts = self.parts();
+        to_object(alloc, Some(parts.name), parts)
     }
 }

@@ -4,81 +4,14 @@ ghost use Rattle.std.specs.Prelude.{◌≡◌, IfOk, OnOk, codes, option_map};
 ghost use Rattle.serde_json.specs.Data.{string};
 ghost use Rattle.serde_json.specs.View.{members_view, view};
 ghost use Rattle.json_patch.specs.Held.{held};
-ghost use Rattle.json_patch.specs.Operation.{add_of, copy_of, move_of, operation_of, operations, remove_of, replace_of, test_of};
-ghost use Rattle.json_patch.specs.PatchValue.{put_if, written, written_fields, written_parts, written_patch};
+ghost use Rattle.json_patch.specs.Operation.{operations};
+ghost use Rattle.json_patch.specs.PatchValue.{put_if, written_parts, written_patch};
 
-use crate::operation::{
-    AddOperation, CopyOperation, MoveOperation, Patch, PatchOperation, RemoveOperation,
-    ReplaceOperation, TestOperation,
-};
+use crate::operation::Patch;
 use crate::parts::Parts;
 use jsonptr::PointerBuf;
 use serde_json::{Map, Value};
 use std::alloc::{AllocError, Global};
-
-impl AddOperation {
-    /// The object of the members `path` and `value`.
-    pub fn to_value(&self, alloc: Global) -> Result<Value, AllocError>
-        ensures { IfOk result (λ v. view v ≡ written_fields (add_of self.now)) }
-    {
-        to_object(alloc, None, self.parts())
-    }
-}
-
-impl RemoveOperation {
-    /// The object of the member `path`.
-    pub fn to_value(&self, alloc: Global) -> Result<Value, AllocError>
-        ensures { IfOk result (λ v. view v ≡ written_fields (remove_of self.now)) }
-    {
-        to_object(alloc, None, self.parts())
-    }
-}
-
-impl ReplaceOperation {
-    /// The object of the members `path` and `value`.
-    pub fn to_value(&self, alloc: Global) -> Result<Value, AllocError>
-        ensures { IfOk result (λ v. view v ≡ written_fields (replace_of self.now)) }
-    {
-        to_object(alloc, None, self.parts())
-    }
-}
-
-impl MoveOperation {
-    /// The object of the members `from` and `path`.
-    pub fn to_value(&self, alloc: Global) -> Result<Value, AllocError>
-        ensures { IfOk result (λ v. view v ≡ written_fields (move_of self.now)) }
-    {
-        to_object(alloc, None, self.parts())
-    }
-}
-
-impl CopyOperation {
-    /// The object of the members `from` and `path`.
-    pub fn to_value(&self, alloc: Global) -> Result<Value, AllocError>
-        ensures { IfOk result (λ v. view v ≡ written_fields (copy_of self.now)) }
-    {
-        to_object(alloc, None, self.parts())
-    }
-}
-
-impl TestOperation {
-    /// The object of the members `path` and `value`.
-    pub fn to_value(&self, alloc: Global) -> Result<Value, AllocError>
-        ensures { IfOk result (λ v. view v ≡ written_fields (test_of self.now)) }
-    {
-        to_object(alloc, None, self.parts())
-    }
-}
-
-impl PatchOperation {
-    /// The object of the members that the operation has, with its name as `op`.
-    pub fn to_value(&self, alloc: Global) -> Result<Value, AllocError>
-        ensures { IfOk result (λ v. view v ≡ written (operation_of self.now)) }
-    {
-        let parts = self.parts();
-        to_object(alloc, Some(parts.name), parts)
-    }
-}
 
 impl Patch {
     /// The list of the operations' objects.
@@ -94,14 +27,23 @@ impl Patch {
 }
 
 /// The object of the members `op`, `from`, `path` and `value`, those that there are.
-fn to_object(alloc: Global, name: Option<&str>, parts: Parts<'_>) -> Result<Value, AllocError>
+pub(crate) fn to_object(
+    alloc: Global,
+    name: Option<&str>,
+    parts: Parts<'_>,
+) -> Result<Value, AllocError>
     ensures { IfOk result (λ v.
         view v ≡ written_parts (option_map (λ s. s.now) name.entry) (held parts.entry)) }
 {
     let mut members = Map::new(alloc);
     put_value(alloc, &mut members, "value", parts.value)?;
     put_text(alloc, &mut members, "path", Some(parts.path.as_str()))?;
-    put_text(alloc, &mut members, "from", parts.from.map(PointerBuf::as_str))?;
+    put_text(
+        alloc,
+        &mut members,
+        "from",
+        parts.from.map(PointerBuf::as_str),
+    )?;
     put_text(alloc, &mut members, "op", name)?;
     Ok(Value::Object(members))
 }
@@ -138,6 +80,9 @@ fn put_text(
     let Some(text) = text else {
         return Ok(());
     };
-    members.insert(String::from_str(alloc, name)?, Value::String(String::from_str(alloc, text)?))?;
+    members.insert(
+        String::from_str(alloc, name)?,
+        Value::String(String::from_str(alloc, text)?),
+    )?;
     Ok(())
 }
