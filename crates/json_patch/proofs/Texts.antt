@@ -8,8 +8,8 @@ use Rattle.std.specs.Fmt.{digits, format_spec, padded_integral, char_count}
 use Rattle.serde_json.specs.Data.{Data, string, Items, item, no_items, Members, member, no_members}
 use Rattle.jsonptr.specs.Text.{Pointer, text_of}
 use Rattle.json_patch.specs.Operation.{Parts}
-use Rattle.json_patch.specs.PatchValue.{field_if, part_fields, pointer_text}
-use Rattle.json_patch.specs.Printed.{escaped, quoted, printed, printed_items, printed_members, in_order, printed_parts, leading_text, trailing_text}
+use Rattle.json_patch.specs.PatchValue.{field_if, pointer_text}
+use Rattle.json_patch.specs.Printed.{escaped, quoted, printed, printed_items, printed_members, printed_fields, printed_parts, leading_text, trailing_text}
 
 -- a test that holds below n, counted down from the top
 abbrev holds_below : (ℕ → Bool) → ℕ → Bool
@@ -83,50 +83,26 @@ printed_members_end done before whole ms none h = sym (append-nil done) ∙ (rw 
 
 -- ---- the members of an operation
 
-regroup_leading : (b k e t f r : List ℕ) → b ++ ((k ++ (e ++ (t ++ f))) ++ r) ≡ b ++ (k ++ (e ++ (t ++ (f ++ r))))
-regroup_leading b k e t f r = simp append_assoc
+abbrev WritesParts : Option (List ℕ) → Option (List ℕ) → List ℕ → Option Data → Type 0
+WritesParts name from path value =
+    (((((codes "{" ++ leading_text (codes "op") name) ++ leading_text (codes "from") from) ++ (quoted (codes "path") ++ codes ":")) ++ quoted path) ++ trailing_text (codes "value") value) ++ codes "}"
+    ≡ printed_fields (field_if (codes "op") (option_map string name) ++ (field_if (codes "from") (option_map string from) ++ (codes "path", string path) ∷ field_if (codes "value") value))
 
-regroup_member : (b k e t r f : List ℕ) → (b ++ (k ++ (e ++ (t ++ r)))) ++ f ≡ b ++ (k ++ (e ++ (t ++ (r ++ f))))
-regroup_member b k e t r f = simp append_assoc
+writes_parts : (name from : Option (List ℕ)) (path : List ℕ) (value : Option Data) → WritesParts name from path value
+writes_parts None None path None = simp (append_assoc, append-nil)
+writes_parts None None path (Some d) = simp (append_assoc, append-nil)
+writes_parts None (Some t) path None = simp (append_assoc, append-nil)
+writes_parts None (Some t) path (Some d) = simp (append_assoc, append-nil)
+writes_parts (Some n) None path None = simp (append_assoc, append-nil)
+writes_parts (Some n) None path (Some d) = simp (append_assoc, append-nil)
+writes_parts (Some n) (Some t) path None = simp (append_assoc, append-nil)
+writes_parts (Some n) (Some t) path (Some d) = simp (append_assoc, append-nil)
 
-leading_member : (k : List ℕ) (o : Option (List ℕ)) (rest : List ℕ) (fs : List (List ℕ × Data))
-    → ((before : List ℕ) → before ++ rest ≡ printed_members before (in_order fs) ++ codes "}")
-    → (before : List ℕ) → before ++ (leading_text k o ++ rest) ≡ printed_members before (in_order (field_if k (option_map string o) ++ fs)) ++ codes "}"
-leading_member k None rest fs later before = later before
-leading_member k (Some t) rest fs later before =
-    regroup_leading before (quoted k) (codes ":") (quoted t) (codes ",") rest
-    ∙ ap (λ l. before ++ (quoted k ++ (codes ":" ++ (quoted t ++ l)))) (later (codes ","))
-    ∙ sym (regroup_member before (quoted k) (codes ":") (quoted t) (printed_members (codes ",") (in_order fs)) (codes "}"))
-
-trailing_member : (k : List ℕ) (o : Option Data) → trailing_text k o ++ codes "}" ≡ printed_members (codes ",") (in_order (field_if k o)) ++ codes "}"
-trailing_member k None = refl
-trailing_member k (Some d) =
-    ap (λ l. l ++ codes "}") (ap (λ l. codes "," ++ (quoted k ++ (codes ":" ++ l))) (sym (append-nil (printed d))))
-
-path_member : (path : List ℕ) (value : Option Data) (before : List ℕ)
-    → before ++ (quoted (codes "path") ++ (codes ":" ++ (quoted path ++ (trailing_text (codes "value") value ++ codes "}"))))
-    ≡ printed_members before (in_order ((codes "path", string path) ∷ field_if (codes "value") value)) ++ codes "}"
-path_member path value before =
-    let k = quoted (codes "path") in
-    ap (λ l. before ++ (k ++ (codes ":" ++ (quoted path ++ l)))) (trailing_member (codes "value") value)
-    ∙ sym (regroup_member before k (codes ":") (quoted path) (printed_members (codes ",") (in_order (field_if (codes "value") value))) (codes "}"))
-
-leading_from : (o : Option Pointer) (rest : List ℕ) (fs : List (List ℕ × Data))
-    → ((before : List ℕ) → before ++ rest ≡ printed_members before (in_order fs) ++ codes "}")
-    → (before : List ℕ) → before ++ (leading_text (codes "from") (option_map text_of o) ++ rest) ≡ printed_members before (in_order (field_if (codes "from") (option_map pointer_text o) ++ fs)) ++ codes "}"
-leading_from None rest fs later = leading_member (codes "from") None rest fs later
-leading_from (Some F) rest fs later = leading_member (codes "from") (Some (text_of F)) rest fs later
-
-regroup_operation : (o l m k e p t c : List ℕ) → (((((o ++ l) ++ m) ++ (k ++ e)) ++ p) ++ t) ++ c ≡ o ++ (l ++ (m ++ (k ++ (e ++ (p ++ (t ++ c))))))
-regroup_operation o l m k e p t c = simp append_assoc
+from_text : (o : Option Pointer) → option_map string (option_map text_of o) ≡ option_map pointer_text o
+from_text None = refl
+from_text (Some P) = refl
 
 pub printed_operation : (name from : Option (List ℕ)) (path : List ℕ) (p : Parts) → from ≡ option_map text_of p.from → path ≡ text_of p.path
     → (((((codes "{" ++ leading_text (codes "op") name) ++ leading_text (codes "from") from) ++ (quoted (codes "path") ++ codes ":")) ++ quoted path) ++ trailing_text (codes "value") p.value) ++ codes "}"
     ≡ printed_parts name p
-printed_operation name from path p e f =
-    let op = codes "op" in
-    let source = codes "from" in
-    let later = leading_from p.from _ ((codes "path", pointer_text p.path) ∷ field_if (codes "value") p.value) (path_member (text_of p.path) p.value) in
-    let all = leading_member op name _ (part_fields p) later [] in
-    regroup_operation (codes "{") (leading_text op name) (leading_text source from) (quoted (codes "path")) (codes ":") (quoted path) (trailing_text (codes "value") p.value) (codes "}")
-    ∙ rw (e, f) (ap (λ l. codes "{" ++ l) all)
+printed_operation name from path p e f = writes_parts name from path p.value ∙ rw (e, f, from_text p.from) refl
