@@ -1,13 +1,13 @@
 -- The operation that `op` names, and the items of a list, read one by one.
-use Rattle.std.proofs.Common.{◌≡◌, ◌<◌, ℕ, zero, suc, List, [], ◌∷◌, ◌++◌, take, length, get_or, subst, arith, Some, None, codes, Result, Ok, Err}
+use Rattle.std.proofs.Common.{◌≡◌, ◌<◌, ℕ, zero, suc, List, [], ◌∷◌, ◌++◌, take, length, get_or, subst, arith, Some, codes, Result, Ok, Err}
 use Rattle.std.specs.Prelude.{IsErrAnd}
-use Rattle.serde_json.specs.Data.{Data, Items, no_items, item, array, string}
+use Rattle.serde_json.specs.Data.{Data, Items, no_items, item, string}
 use Rattle.serde_json.specs.Find.{get}
 use Rattle.serde_json.specs.View.{view, items_view}
 use Rattle.serde_json.specs.declared.value.Value.{Value}
 use Rattle.json_patch.specs.Operation.{Operation, AreWhole, operation_of, operations}
-use Rattle.json_patch.specs.PatchValue.{ReadsItems, ReadsOperation, RefusesItem, RefusesFields, RefusesOperation, RefusesPatch, OfRefusal, name_of, field_names}
-use Rattle.json_patch.specs.ReadSteps.{IfUnread, OfKind, numbered}
+use Rattle.json_patch.specs.PatchValue.{ReadsItems, ReadsOperation, RefusesItem, RefusesFields, RefusesOperation, name_of, field_names}
+use Rattle.json_patch.specs.ReadSteps.{IfUnread, OfKind}
 use Rattle.json_patch.specs.declared.reading.ItemFault.{ItemFault}
 use Rattle.json_patch.specs.declared.reading.ItemFault.TheVariants.{Refused, Memory}
 use Rattle.json_patch.specs.declared.error.ReadKind.{ReadKind}
@@ -31,18 +31,12 @@ item_read (w ∷ vs) [] (suc n) v o l is h g = absurd h
 item_read (w ∷ vs) (p ∷ os) (suc n) v o l is h g = (h.0, item_read vs os n v o (omega arith) is h.1 g)
 
 -- the next item is refused
-item_refused : (vs : List Value) (os : List PatchOperation) (n : ℕ) (v : Value) (kind : ReadKind) → n < length vs → v ≡ get_or vs n v
+pub item_refused : (vs : List Value) (os : List PatchOperation) (n : ℕ) (v : Value) (kind : ReadKind) → n < length vs → v ≡ get_or vs n v
     → ReadsItems (items_view (take n vs)) (operations os) → RefusesOperation (view v) kind → RefusesItem (items_view vs) n kind
 item_refused [] os n v kind l is h g = absurd (omega arith)
 item_refused (w ∷ vs) os zero v kind l is h g = subst (λ x. RefusesOperation (view x) kind) is g
 item_refused (w ∷ vs) [] (suc n) v kind l is h g = absurd h
 item_refused (w ∷ vs) (p ∷ os) (suc n) v kind l is h g = (operation_of p, h.0, item_refused vs os n v kind (omega arith) is h.1 g)
-
-pub item_fault : (f : ItemFault) (vs : List Value) (os : List PatchOperation) (n : ℕ) (v : Value) → n < length vs → v ≡ get_or vs n v
-    → ReadsItems (items_view (take n vs)) (operations os) → OfRefusal (λ e. RefusesOperation (view v) e.kind) (numbered None f)
-    → OfRefusal (λ e. RefusesPatch (array (items_view vs)) e.operation e.kind) (numbered (Some n) f)
-item_fault (Refused kind) vs os n v l is h g = item_refused vs os n v kind l is h g
-item_fault (Memory e) vs os n v l is h g = tt
 
 -- the members of the operation that `op` names are at fault
 pub named_fault : {U : Type 0} (op : Operation) (v : Data) (n : List ℕ) (f : ItemFault) (r : Result U ItemFault) → get (codes "op") v ≡ Some (string n) → n ≡ name_of op
@@ -50,8 +44,3 @@ pub named_fault : {U : Type 0} (op : Operation) (v : Data) (n : List ℕ) (f : I
 named_fault op v n f (Ok x) e is h at = absurd at
 named_fault op v n (Refused kind) (Err g) e is h at = rw at (named_refused v op kind (rw is at e) h)
 named_fault op v n (Memory error) (Err g) e is h at = rw at tt
-
--- a `?` answers the fault that it met
-pub passed_on : {U : Type 0} (P : ReadKind → Type 0) (f : ItemFault) (r : Result U ItemFault) → OfKind P f → IsErrAnd r (λ g. g ≡ f) → IfUnread r P
-passed_on P f (Ok x) h at = absurd at
-passed_on P f (Err g) h at = rw at h

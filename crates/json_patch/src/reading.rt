@@ -4,12 +4,9 @@ ghost use Rattle.std.specs.Prelude.{◌≡◌, ◌∷◌, [], codes, IfOk, List,
 ghost use Rattle.serde_json.specs.Data.{string};
 ghost use Rattle.serde_json.specs.Find.{get};
 ghost use Rattle.serde_json.specs.View.{view};
-ghost use Rattle.jsonptr.specs.Text.{text_of};
-ghost use Rattle.json_patch.specs.Document.{IsDocument};
 ghost use Rattle.json_patch.specs.Operation.{AreWhole, add, copy, move, operation_of, operations, remove, replace, test};
-ghost use Rattle.json_patch.specs.PatchValue.{IfUnreadable, IsObject, OfRefusal, ReadsFields, ReadsOperation, ReadsPatch, RefusesFields, RefusesOperation, RefusesPatch};
-ghost use Rattle.json_patch.specs.ReadSteps.{IfUnread, RefusesFrom, numbered};
-ghost use Rattle.json_patch.specs.declared.error.ReadKind.TheVariants.{MissingFrom, MissingPath, MissingValue};
+ghost use Rattle.json_patch.specs.PatchValue.{IfUnreadable, OfRefusal, ReadsFields, ReadsOperation, ReadsPatch, RefusesFields, RefusesOperation, RefusesPatch};
+ghost use Rattle.json_patch.specs.ReadSteps.{HasAnyFrom, IfUnread, IsPointerAt, unnumbered};
 ghost use Rattle.json_patch.specs.declared.reading.ItemFault.TheVariants.{Memory, Refused};
 
 use crate::equality::is_whole;
@@ -46,93 +43,53 @@ impl From<AllocError> for ItemFault {
 }
 
 impl From<ItemFault> for ReadFault {
-    ghost from_gives = { λ item fault. (fault ≡ numbered None item)
+    ghost from_gives = { λ item fault. (fault ≡ unnumbered item)
         × OfRefusal (λ e. e.operation ≡ None) fault };
 
     fn from(fault: ItemFault) -> ReadFault {
-        with_number(None, fault)
+        match fault {
+            ItemFault::Refused(kind) => ReadFault::Refused(ReadError {
+                operation: None,
+                kind,
+            }),
+            ItemFault::Memory(error) => ReadFault::Memory(error),
+        }
     }
 }
 
-/// The fault of the operation of this number, or of one that has none.
-fn with_number(operation: Option<usize>, fault: ItemFault) -> ReadFault
-    ensures { result ≡ numbered operation fault }
-{
-    match fault {
-        ItemFault::Refused(kind) => ReadFault::Refused(ReadError { operation, kind }),
-        ItemFault::Memory(error) => ReadFault::Memory(error),
-    }
-}
-
-/// The member `from`.
-fn read_from(alloc: Global, value: &Value) -> Result<PointerBuf, ItemFault>
-    requires { IsObject (view value.now) }
-    ensures read { IfOk result (λ p. get (codes "from") (view value.now)
-        ≡ Some (string (text_of p))) }
-    ensures refused {
-        RefusesFrom MissingFrom (codes "from" ∷ codes "path" ∷ []) (view value.now) result }
-{
-    let member = value.get("from").ok_or(ReadKind::MissingFrom)?;
-    let text = member.as_str().ok_or(ReadKind::FromNotText)?;
-    let pointer = Pointer::parse(text).map_err(ReadKind::BadFrom)?;
-    Ok(pointer.to_buf(alloc)?)
-}
-
-/// The member `path`.
+/// The member `path`, which is looked for after `from`, where there is to be one.
+#[tactic(auto, using(crate::proofs::PatchFaults::past_from))]
 fn read_path(alloc: Global, value: &Value) -> Result<PointerBuf, ItemFault>
-    requires { IsObject (view value.now) }
-    ensures read { IfOk result (λ p. get (codes "path") (view value.now)
-        ≡ Some (string (text_of p))) }
-    ensures refused { (names : List (List ℕ))
-        → RefusesFrom MissingPath names (view value.now) result }
+    ensures read { IfOk result (IsPointerAt (view value.now) (codes "path")) }
+    ensures refused { (names : List (List ℕ)) → HasAnyFrom names (view value.now)
+        → IfUnread result (RefusesFields names (view value.now)) }
+    ensures alone { IfUnread result (RefusesFields (codes "path" ∷ []) (view value.now)) }
 {
+    if !value.is_object() {
+        return Err(ItemFault::Refused(ReadKind::NotAnObject));
+    }
     let member = value.get("path").ok_or(ReadKind::MissingPath)?;
     let text = member.as_str().ok_or(ReadKind::PathNotText)?;
     let pointer = Pointer::parse(text).map_err(ReadKind::BadPath)?;
     Ok(pointer.to_buf(alloc)?)
 }
 
-/// The member `value`.
-fn read_value(value: &Value) -> Result<Value, ItemFault>
-    requires { IsObject (view value.now) }
-    ensures read { IfOk result (λ x. get (codes "value") (view value.now) ≡ Some (view x)) }
-    ensures whole { IfOk result (λ x. IsDocument (view x)) }
-    ensures refused {
-        RefusesFrom MissingValue (codes "path" ∷ codes "value" ∷ []) (view value.now) result }
-{
-    let member = value.get("value").ok_or(ReadKind::MissingValue)?;
-    if !is_whole(member) {
-        return Err(ItemFault::Refused(ReadKind::ValueNotWhole));
-    }
-    Ok(member.clone()?)
-}
-
-/// The members of an operation that has no other than `path`.
-fn read_path_alone(alloc: Global, value: &Value) -> Result<PointerBuf, ItemFault>
-    ensures read { IfOk result (λ p. ReadsFields (view value.now) (remove p)) }
-    ensures refused { IfUnread result (RefusesFields (codes "path" ∷ []) (view value.now)) }
-{
-    if !value.is_object() {
-        return Err(ItemFault::Refused(ReadKind::NotAnObject));
-    }
-    read_path(alloc, value)
-}
-
-/// The members of an operation that has a `path` and a `value`.
+/// The members `path` and `value`, in this order.
+#[tactic(auto, using(crate::proofs::PatchFaults::past_path))]
 fn read_path_and_value(alloc: Global, value: &Value) -> Result<(PointerBuf, Value), ItemFault>
     ensures read { IfOk result (λ r. ReadsFields (view value.now) (add r.0 (view r.1))) }
     ensures refused { IfUnread result
         (RefusesFields (codes "path" ∷ codes "value" ∷ []) (view value.now)) }
 {
-    if !value.is_object() {
-        return Err(ItemFault::Refused(ReadKind::NotAnObject));
-    }
     let path = read_path(alloc, value)?;
-    let held = read_value(value)?;
-    Ok((path, held))
+    let member = value.get("value").ok_or(ReadKind::MissingValue)?;
+    if !is_whole(member) {
+        return Err(ItemFault::Refused(ReadKind::ValueNotWhole));
+    }
+    Ok((path, member.clone()?))
 }
 
-/// The members of an operation that has a `from` and a `path`.
+/// The members `from` and `path`, in this order.
 fn read_from_and_path(alloc: Global, value: &Value) -> Result<(PointerBuf, PointerBuf), ItemFault>
     ensures read { IfOk result (λ r. ReadsFields (view value.now) (move r.0 r.1)) }
     ensures refused { IfUnread result
@@ -141,9 +98,11 @@ fn read_from_and_path(alloc: Global, value: &Value) -> Result<(PointerBuf, Point
     if !value.is_object() {
         return Err(ItemFault::Refused(ReadKind::NotAnObject));
     }
-    let from = read_from(alloc, value)?;
+    let member = value.get("from").ok_or(ReadKind::MissingFrom)?;
+    let text = member.as_str().ok_or(ReadKind::FromNotText)?;
+    let from = Pointer::parse(text).map_err(ReadKind::BadFrom)?;
     let path = read_path(alloc, value)?;
-    Ok((from, path))
+    Ok((from.to_buf(alloc)?, path))
 }
 
 impl AddOperation {
@@ -169,7 +128,7 @@ impl RemoveOperation {
             RefusesFields (codes "path" ∷ []) (view value.now) e.kind) }
         ensures unnumbered { IfUnreadable result (λ e. e.operation ≡ None) }
     {
-        let path = read_path_alone(alloc, value)?;
+        let path = read_path(alloc, value)?;
         Ok(RemoveOperation { path })
     }
 }
@@ -268,7 +227,7 @@ fn read_operation(alloc: Global, value: &Value) -> Result<PatchOperation, ItemFa
             Ok(PatchOperation::Add(AddOperation { path, value }))
         }
         "remove" => {
-            let path = read_path_alone(alloc, value)?;
+            let path = read_path(alloc, value)?;
             Ok(PatchOperation::Remove(RemoveOperation { path }))
         }
         "replace" => {
@@ -301,13 +260,17 @@ impl Patch {
             RefusesPatch (view value.now) e.operation e.kind) }
     {
         let Value::Array(items) = value else {
-            return Err(with_number(None, ItemFault::Refused(ReadKind::NotAList)));
+            return Err(ReadFault::from(ItemFault::Refused(ReadKind::NotAList)));
         };
         let mut operations = Vec::new(alloc);
         for (number, item) in items.iter().enumerate() {
             match read_operation(alloc, item) {
                 Ok(operation) => operations.push(operation).map_err(AllocError::from)?,
-                Err(fault) => return Err(with_number(Some(number), fault)),
+                Err(ItemFault::Refused(kind)) => {
+                    let operation = Some(number);
+                    return Err(ReadFault::Refused(ReadError { operation, kind }));
+                }
+                Err(ItemFault::Memory(error)) => return Err(ReadFault::Memory(error)),
             }
         }
         Ok(Patch(operations))

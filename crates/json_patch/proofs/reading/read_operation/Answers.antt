@@ -8,7 +8,7 @@ pub returns-in_err-path-in-add-clause-refused : goal.returns-in_err-path-in-add-
 returns-in_err-path-in-add-clause-refused c = named_fault (add [] null) _ _ _ _ c.in_ok-read_name.ensures.read c.in-add.is c.in_err-path-in-add.ensures.refused c.from_residual-in_err-path-in-add.ensures.1
 
 pub returns-in_err-path-in-remove-clause-refused : goal.returns-in_err-path-in-remove-clause-refused
-returns-in_err-path-in-remove-clause-refused c = named_fault (remove []) _ _ _ _ c.in_ok-read_name.ensures.read c.in-remove.is c.in_err-path-in-remove.ensures.refused c.from_residual-in_err-path-in-remove.ensures.1
+returns-in_err-path-in-remove-clause-refused c = named_fault (remove []) _ _ _ _ c.in_ok-read_name.ensures.read c.in-remove.is c.in_err-path-in-remove.ensures.alone c.from_residual-in_err-path-in-remove.ensures.1
 
 pub returns-in_err-path-in-replace-clause-refused : goal.returns-in_err-path-in-replace-clause-refused
 returns-in_err-path-in-replace-clause-refused c = named_fault (replace [] null) _ _ _ _ c.in_ok-read_name.ensures.read c.in-replace.is c.in_err-path-in-replace.ensures.refused c.from_residual-in_err-path-in-replace.ensures.1
