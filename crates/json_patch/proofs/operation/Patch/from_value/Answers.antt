@@ -19,4 +19,4 @@ loop-number-preserved c =
     c.loop-number-test.true c.item-item.is c.loop-number.invariant c.in-Ok.ensures.read)
 
 pub returns-clause-whole : goal.returns-clause-whole
-returns-clause-whole c = reads_whole _ _ c.loop-number.invariant
+returns-clause-whole c = search (rules, reads_whole _ _ c.loop-number.invariant)
