@@ -35,7 +35,6 @@ pub mod Logs
 pub mod Undos
 pub mod PatchFaults
 pub mod PatchValues
-pub mod ReadStages
 pub mod ReadItems
 pub mod Back
 pub mod Merges

@@ -1,5 +1,5 @@
 -- The faults of an operation value, in their order.
-use Rattle.std.proofs.Common.{◌≡◌, ◌<◌, ◌≤◌, ◌^◌, ℕ, pos, negsuc, List, ◌⊎◌, Option, Some, None, Ordering, Less, Equal, Greater, nat_cmp, refl, sym, ap, ◌∙◌, subst, inl, inr, arith, ⊎_elim, codes}
+use Rattle.std.proofs.Common.{◌≡◌, ◌<◌, ◌≤◌, ◌^◌, ℕ, pos, negsuc, List, [], ◌∷◌, ◌⊎◌, Option, Some, None, Ordering, Less, Equal, Greater, nat_cmp, refl, sym, ap, ◌∙◌, subst, inl, inr, arith, ⊎_elim, codes}
 use Rattle.std.proofs.lemmas.Bool.{cases_lt}
 use Rattle.std.specs.Cmp.Lexicographic.{slice_cmp}
 use Rattle.serde_json.specs.Data.{Num, unsigned, negative, float, Data, null, boolean, number, string, array, object, Items, no_items, item, Members, no_members, member}
@@ -9,6 +9,7 @@ use Rattle.jsonptr.specs.Faults.{IsFault}
 use Rattle.jsonptr.specs.declared.ParseError.{ParseError}
 use Rattle.json_patch.specs.Document.{IsDocument, AreDocuments, AreMembers, IsBelowMembers, IsWhole}
 use Rattle.json_patch.specs.PatchValue.{IsObject, Lacks, HasNoText, HasNoPointer, HasNoDocument, IsOneOf, IsFieldFault, NoneBelow, IsFirst, rank}
+use Rattle.json_patch.specs.ReadSteps.{HasAnyFrom, IsPointerAt}
 use Rattle.json_patch.specs.declared.error.ReadKind.{ReadKind}
 use Rattle.json_patch.specs.declared.error.ReadKind.TheVariants.{NotAList, NotAnObject, MissingOp, OpNotText, UnknownOp, MissingFrom, FromNotText, BadFrom, MissingPath, PathNotText, BadPath, MissingValue, ValueNotWhole}
 use Rattle.jsonptr.specs.TextLaws.{pointer_or_fault, pointer_has_no_fault, one_fault}
@@ -156,25 +157,19 @@ module _ (names : List (List ℕ)) (v : Data) where
       before NotAList l f = f
       before _ l f = absurd (omega arith)
 
+  -- no fault is looked for before `path`
+  pub past_from : IsObject v → HasAnyFrom names v → NoneBelow At 9
+  past_from o has NotAnObject l f = f o
+  past_from o has MissingFrom l f = let F = has f.0 in found_lacks v (codes "from") _ F.1 f.1
+  past_from o has FromNotText l f = let F = has f.0 in found_text v (codes "from") _ F.1 f.1
+  past_from o has (BadFrom e) l f = let F = has f.0 in found_pointer v (codes "from") F.0 e F.1 f.1
+  past_from o has NotAList l f = f
+  past_from o has MissingOp l f = f
+  past_from o has OpNotText l f = f
+  past_from o has UnknownOp l f = f
+  past_from o has _ l f = absurd (omega arith)
+
   module _ (below : NoneBelow At 6) where
-    pub no_from_clears : (IsOneOf names (codes "from") → ⊥) → NoneBelow At 9
-    no_from_clears none other l f = ⊎_elim (λ low. below other low f) (λ high. at other high l f) (cases_lt (rank other) 6)
-      where
-        at : (other : ReadKind) → 6 ≤ rank other → rank other < 9 → At other → ⊥
-        at MissingFrom g l f = none f.0
-        at FromNotText g l f = none f.0
-        at (BadFrom e) g l f = none f.0
-        at _ g l f = absurd (omega arith)
-
-    pub from_clears : (F : Pointer) → get (codes "from") v ≡ Some (string (text_of F)) → NoneBelow At 9
-    from_clears F found other l f = ⊎_elim (λ low. below other low f) (λ high. at other high l f) (cases_lt (rank other) 6)
-      where
-        at : (other : ReadKind) → 6 ≤ rank other → rank other < 9 → At other → ⊥
-        at MissingFrom g l f = found_lacks v (codes "from") _ found f.1
-        at FromNotText g l f = found_text v (codes "from") _ found f.1
-        at (BadFrom e) g l f = found_pointer v (codes "from") F e found f.1
-        at _ g l f = absurd (omega arith)
-
     module _ (has : IsOneOf names (codes "from")) where
       pub from_missing : Lacks v (codes "from") → IsFirst At MissingFrom
       from_missing h = record { here = (has, h); none_before = below }
@@ -232,6 +227,10 @@ module _ (names : List (List ℕ)) (v : Data) where
         at : (other : ReadKind) → 12 ≤ rank other → rank other < 13 → At other → ⊥
         at MissingValue g l f = found_lacks v (codes "value") _ h.1 f.1
         at _ g l f = absurd (omega arith)
+
+-- no fault is looked for before `value`
+pub past_path : (v : Data) (P : Pointer) → IsPointerAt v (codes "path") P → NoneBelow (IsFieldFault (codes "path" ∷ codes "value" ∷ []) v) 12
+past_path v P found = path_clears (codes "path" ∷ codes "value" ∷ []) v (past_from (codes "path" ∷ codes "value" ∷ []) v (object_found (codes "path") v _ found) (λ h. cc)) P found
 
 -- ---- one first fault
 

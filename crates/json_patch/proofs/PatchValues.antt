@@ -14,7 +14,7 @@ use Rattle.json_patch.specs.ReadLaws.{IsRead, IsUnread, IsReadAlone, IsUnreadAlo
 use Rattle.json_patch.specs.declared.error.ReadKind.{ReadKind}
 use Rattle.json_patch.specs.declared.error.ReadKind.TheVariants.{NotAList, NotAnObject, MissingOp, OpNotText, UnknownOp, MissingFrom, FromNotText, BadFrom, MissingPath, PathNotText, BadPath, MissingValue, ValueNotWhole}
 use Rattle.jsonptr.specs.TextLaws.{one_pointer}
-use Rattle.json_patch.proofs.PatchFaults.{Text, pointer, lacks, no_text, no_pointer, text_at, Held, document, lacks_it, no_document, held_at, object_or_not, object_found, found_lacks, found_text, found_pointer, found_document, same_text, same_found, no_pointer_one, object_clears, not_object, no_from_clears, from_clears, from_missing, from_no_text, from_no_pointer, path_clears, path_missing, path_no_text, path_no_pointer, value_missing, value_no_document, first_one}
+use Rattle.json_patch.proofs.PatchFaults.{Text, pointer, lacks, no_text, no_pointer, text_at, Held, document, lacks_it, no_document, held_at, object_or_not, object_found, found_lacks, found_text, found_pointer, found_document, same_text, same_found, no_pointer_one, object_clears, not_object, past_from, from_missing, from_no_text, from_no_pointer, path_clears, path_missing, path_no_text, path_no_pointer, value_missing, value_no_document, first_one}
 
 -- ---- what is read
 
@@ -152,19 +152,18 @@ then : {A B U : Type 0} → A ⊎ U → (A → B ⊎ U) → (A × B) ⊎ U
 then a b = ⊎_elim (λ x. ⊎_elim (λ y. inl (x, y)) inr (b x)) inr a
 
 read_path_alone : (v : Data) → FoundText v (codes "path") ⊎ Unread path_alone v
-read_path_alone v = of_object path_alone v (λ is. read_path path_alone v (no_from_clears path_alone v (object_clears path_alone v is) (λ h. cc)) (text_at v (codes "path") is))
+read_path_alone v = of_object path_alone v (λ is. read_path path_alone v (past_from path_alone v is (λ h. cc)) (text_at v (codes "path") is))
 
 read_path_and_value : (v : Data) → (FoundText v (codes "path") × FoundDocument v (codes "value")) ⊎ Unread path_and_value v
 read_path_and_value v = of_object path_and_value v (λ is.
-    let clear : NoneBelow (IsFieldFault path_and_value v) 9 = no_from_clears path_and_value v (object_clears path_and_value v is) (λ h. cc) in
+    let clear : NoneBelow (IsFieldFault path_and_value v) 9 = past_from path_and_value v is (λ h. cc) in
     then (read_path path_and_value v clear (text_at v (codes "path") is))
     (λ P. read_value path_and_value v (path_clears path_and_value v clear P.0 P.1) refl (held_at v (codes "value") is)))
 
 read_from_and_path : (v : Data) → (FoundText v (codes "from") × FoundText v (codes "path")) ⊎ Unread from_and_path v
 read_from_and_path v = of_object from_and_path v (λ is.
-    let clear : NoneBelow (IsFieldFault from_and_path v) 6 = object_clears from_and_path v is in
-    then (read_from from_and_path v clear refl (text_at v (codes "from") is))
-    (λ F. read_path from_and_path v (from_clears from_and_path v clear F.0 F.1) (text_at v (codes "path") is)))
+    then (read_from from_and_path v (object_clears from_and_path v is) refl (text_at v (codes "from") is))
+    (λ F. read_path from_and_path v (past_from from_and_path v is (λ _. F)) (text_at v (codes "path") is)))
 
 -- the members of an operation like this one are read, or there is a first fault
 abbrev FieldsOutcome : Data → Operation → Type 0

@@ -1,25 +1,31 @@
 -- What the parts of the reader answer: for private clauses.
-use Rattle.std.specs.Prelude.{ℕ, List, Some}
-use Rattle.serde_json.specs.Data.{Data}
-use Rattle.json_patch.specs.PatchValue.{Lacks, HasNoText, HasNoPointer, IsFieldFault, NoneBelow, RefusesFields}
+use Rattle.std.specs.Prelude.{◌≡◌, ℕ, List, None, Some, Result, IfErr, codes}
+use Rattle.serde_json.specs.Data.{Data, string}
+use Rattle.serde_json.specs.Find.{get}
+use Rattle.jsonptr.specs.Text.{Pointer, text_of}
+use Rattle.json_patch.specs.PatchValue.{IsOneOf, OfRefusal}
 use Rattle.json_patch.specs.declared.error.ReadFault.{ReadFault}
 use Rattle.json_patch.specs.declared.error.ReadFault.TheVariants as fault
 use Rattle.json_patch.specs.declared.error.ReadKind.{ReadKind}
-use Rattle.json_patch.specs.declared.reading.MemberFault.{MemberFault}
-use Rattle.json_patch.specs.declared.reading.MemberFault.TheVariants.{Missing, NotText, NotPointer, Memory}
+use Rattle.json_patch.specs.declared.reading.ItemFault.{ItemFault}
+use Rattle.json_patch.specs.declared.reading.ItemFault.TheVariants.{Refused, Memory}
 
--- why the member k of v isn't read as a pointer; where memory ran out, nothing is said
-abbrev pub IsMissed : Data → List ℕ → MemberFault → Type 0
-IsMissed v k Missing = Lacks v k
-IsMissed v k NotText = HasNoText v k
-IsMissed v k (NotPointer e) = HasNoPointer v k e
-IsMissed v k (Memory e) = Unit {0}
+-- the fault of an operation that has no number
+abbrev pub unnumbered : ItemFault → ReadFault
+unnumbered (Refused kind) = fault.Refused (record { operation = None; kind = kind })
+unnumbered (Memory e) = fault.Memory e
 
--- v is refused for this kind, unless it has a fault of a rank below r
-abbrev pub RefusesFrom : ℕ → List (List ℕ) → Data → ReadKind → Type 0
-RefusesFrom r names v kind = NoneBelow (IsFieldFault names v) r → RefusesFields names v kind
+-- what is said of the kind; where memory ran out, nothing is said
+abbrev pub OfKind : (ReadKind → Type 0) → ItemFault → Type 0
+OfKind P f = OfRefusal (λ e. P e.kind) (unnumbered f)
 
--- the fault of the operation of this number
-abbrev pub with_number : ReadFault → ℕ → ReadFault
-with_number (fault.Refused e) n = fault.Refused (record { operation = Some n; kind = e.kind })
-with_number (fault.Memory e) n = fault.Memory e
+abbrev pub IfUnread : {T : Type 0} → Result T ItemFault → (ReadKind → Type 0) → Type 0
+IfUnread r P = IfErr r (OfKind P)
+
+-- the member k of v is the text of this pointer
+abbrev pub IsPointerAt : Data → List ℕ → Pointer → Type 0
+IsPointerAt v k P = get k v ≡ Some (string (text_of P))
+
+-- if there is to be a member `from`, it is a pointer's text
+abbrev pub HasAnyFrom : List (List ℕ) → Data → Type 0
+HasAnyFrom names v = IsOneOf names (codes "from") → (P : Pointer) × IsPointerAt v (codes "from") P

@@ -157,3 +157,13 @@ pub enum ReadFault {
     #[error("out of memory")]
     Memory(AllocError),
 }
+
+impl From<AllocError> for ReadFault {
+    ghost use Rattle.json_patch.specs.declared.error.ReadFault.TheVariants.{Memory};
+
+    ghost from_gives = { λ error fault. fault ≡ Memory error };
+
+    fn from(error: AllocError) -> ReadFault {
+        ReadFault::Memory(error)
+    }
+}

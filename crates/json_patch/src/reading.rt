@@ -1,14 +1,13 @@
 //! Reading patches and operations from JSON values (RFC 6902, sections 3 and 4).
 
-ghost use Rattle.std.specs.Prelude.{◌≡◌, ◌∷◌, [], codes, IfOk, IfErr, List, ℕ};
-ghost use Rattle.serde_json.specs.Data.{array, string};
+ghost use Rattle.std.specs.Prelude.{◌≡◌, ◌∷◌, [], codes, IfOk, List, None, ℕ};
+ghost use Rattle.serde_json.specs.Data.{string};
 ghost use Rattle.serde_json.specs.Find.{get};
-ghost use Rattle.serde_json.specs.View.{view, items_view};
-ghost use Rattle.jsonptr.specs.Text.{text_of};
-ghost use Rattle.json_patch.specs.Document.{IsDocument};
+ghost use Rattle.serde_json.specs.View.{view};
 ghost use Rattle.json_patch.specs.Operation.{AreWhole, add, copy, move, operation_of, operations, remove, replace, test};
-ghost use Rattle.json_patch.specs.PatchValue.{IfUnreadable, IsObject, ReadsFields, ReadsOperation, ReadsPatch, ReadsItems, RefusesFields, RefusesOperation, RefusesPatch};
-ghost use Rattle.json_patch.specs.ReadSteps.{IsMissed, RefusesFrom, with_number};
+ghost use Rattle.json_patch.specs.PatchValue.{IfUnreadable, OfRefusal, ReadsFields, ReadsOperation, ReadsPatch, RefusesFields, RefusesOperation, RefusesPatch};
+ghost use Rattle.json_patch.specs.ReadSteps.{HasAnyFrom, IfUnread, IsPointerAt, unnumbered};
+ghost use Rattle.json_patch.specs.declared.reading.ItemFault.TheVariants.{Memory, Refused};
 
 use crate::error::{ReadError, ReadFault, ReadKind};
 use crate::operation::{
@@ -16,146 +15,94 @@ use crate::operation::{
     ReplaceOperation, TestOperation,
 };
 use crate::wholeness::is_whole;
-use jsonptr::{ParseError, PointerBuf, PointerFault};
+use jsonptr::{Pointer, PointerBuf};
 use serde_json::Value;
 use std::alloc::{AllocError, Global};
 
-/// Why a member isn't read as a pointer.
+/// Why a value isn't read as an operation, whatever number it has.
 #[derive(Drop)]
-enum MemberFault {
-    Missing,
-    NotText,
-    NotPointer(ParseError),
+enum ItemFault {
+    Refused(ReadKind),
     Memory(AllocError),
 }
 
-/// The refusal of a value that is no item of a list.
-fn refused(kind: ReadKind) -> ReadFault
-    ensures { result ≡ ReadFault.Refused (record { operation = None; kind = kind }) }
-{
-    ReadFault::Refused(ReadError {
-        operation: None,
-        kind,
-    })
-}
+impl From<ReadKind> for ItemFault {
+    ghost from_gives = { λ kind fault. fault ≡ Refused kind };
 
-/// The pointer whose text the member of this name is.
-fn read_pointer(alloc: Global, value: &Value, name: &str) -> Result<PointerBuf, MemberFault>
-    requires { IsObject (view value.now) }
-    ensures read { IfOk result (λ p. get name.now (view value.now) ≡ Some (string (text_of p))) }
-    ensures missed { IfErr result (IsMissed (view value.now) name.now) }
-{
-    let Some(member) = value.get(name) else {
-        return Err(MemberFault::Missing);
-    };
-    let Some(text) = member.as_str() else {
-        return Err(MemberFault::NotText);
-    };
-    match PointerBuf::parse(alloc, text) {
-        Ok(pointer) => Ok(pointer),
-        Err(PointerFault::Parse(error)) => Err(MemberFault::NotPointer(error)),
-        Err(PointerFault::Memory(error)) => Err(MemberFault::Memory(error)),
+    fn from(kind: ReadKind) -> ItemFault {
+        ItemFault::Refused(kind)
     }
 }
 
-/// The member `path`.
-fn read_path(alloc: Global, value: &Value) -> Result<PointerBuf, ReadFault>
-    requires { IsObject (view value.now) }
-    ensures read { IfOk result (λ p. get (codes "path") (view value.now)
-        ≡ Some (string (text_of p))) }
-    ensures refused { IfUnreadable result (λ e. (names : List (List ℕ))
-        → RefusesFrom 9 names (view value.now) e.kind) }
-    ensures unnumbered { IfUnreadable result (λ e. e.operation ≡ None) }
-{
-    match read_pointer(alloc, value, "path") {
-        Ok(path) => Ok(path),
-        Err(MemberFault::Missing) => Err(refused(ReadKind::MissingPath)),
-        Err(MemberFault::NotText) => Err(refused(ReadKind::PathNotText)),
-        Err(MemberFault::NotPointer(error)) => Err(refused(ReadKind::BadPath(error))),
-        Err(MemberFault::Memory(error)) => Err(ReadFault::Memory(error)),
+impl From<AllocError> for ItemFault {
+    ghost from_gives = { λ error fault. fault ≡ Memory error };
+
+    fn from(error: AllocError) -> ItemFault {
+        ItemFault::Memory(error)
     }
 }
 
-/// The member `from`.
-fn read_from(alloc: Global, value: &Value) -> Result<PointerBuf, ReadFault>
-    requires { IsObject (view value.now) }
-    ensures read { IfOk result (λ p. get (codes "from") (view value.now)
-        ≡ Some (string (text_of p))) }
-    ensures refused { IfUnreadable result (λ e.
-        RefusesFrom 6 (codes "from" ∷ codes "path" ∷ []) (view value.now) e.kind) }
-    ensures unnumbered { IfUnreadable result (λ e. e.operation ≡ None) }
-{
-    match read_pointer(alloc, value, "from") {
-        Ok(from) => Ok(from),
-        Err(MemberFault::Missing) => Err(refused(ReadKind::MissingFrom)),
-        Err(MemberFault::NotText) => Err(refused(ReadKind::FromNotText)),
-        Err(MemberFault::NotPointer(error)) => Err(refused(ReadKind::BadFrom(error))),
-        Err(MemberFault::Memory(error)) => Err(ReadFault::Memory(error)),
+impl From<ItemFault> for ReadFault {
+    ghost from_gives = { λ item fault. (fault ≡ unnumbered item)
+        × OfRefusal (λ e. e.operation ≡ None) fault };
+
+    fn from(fault: ItemFault) -> ReadFault {
+        match fault {
+            ItemFault::Refused(kind) => ReadFault::Refused(ReadError {
+                operation: None,
+                kind,
+            }),
+            ItemFault::Memory(error) => ReadFault::Memory(error),
+        }
     }
 }
 
-/// The member `value`.
-fn read_value(value: &Value) -> Result<Value, ReadFault>
-    requires { IsObject (view value.now) }
-    ensures read { IfOk result (λ x. get (codes "value") (view value.now) ≡ Some (view x)) }
-    ensures whole { IfOk result (λ x. IsDocument (view x)) }
-    ensures refused { IfUnreadable result (λ e.
-        RefusesFrom 12 (codes "path" ∷ codes "value" ∷ []) (view value.now) e.kind) }
-    ensures unnumbered { IfUnreadable result (λ e. e.operation ≡ None) }
-{
-    let Some(member) = value.get("value") else {
-        return Err(refused(ReadKind::MissingValue));
-    };
-    if !is_whole(member) {
-        return Err(refused(ReadKind::ValueNotWhole));
-    }
-    match member.clone() {
-        Ok(copy) => Ok(copy),
-        Err(error) => Err(ReadFault::Memory(error)),
-    }
-}
-
-/// The members of an operation that has no other than `path`.
-fn read_path_alone(alloc: Global, value: &Value) -> Result<PointerBuf, ReadFault>
-    ensures read { IfOk result (λ p. ReadsFields (view value.now) (remove p)) }
-    ensures refused { IfUnreadable result (λ e.
-        RefusesFields (codes "path" ∷ []) (view value.now) e.kind) }
-    ensures unnumbered { IfUnreadable result (λ e. e.operation ≡ None) }
+/// The member `path`, which is looked for after `from`, where there is to be one.
+#[tactic(auto, using(crate::proofs::PatchFaults::past_from))]
+fn read_path(alloc: Global, value: &Value) -> Result<PointerBuf, ItemFault>
+    ensures read { IfOk result (IsPointerAt (view value.now) (codes "path")) }
+    ensures refused { (names : List (List ℕ)) → HasAnyFrom names (view value.now)
+        → IfUnread result (RefusesFields names (view value.now)) }
+    ensures alone { IfUnread result (RefusesFields (codes "path" ∷ []) (view value.now)) }
 {
     if !value.is_object() {
-        return Err(refused(ReadKind::NotAnObject));
+        return Err(ItemFault::Refused(ReadKind::NotAnObject));
     }
-    read_path(alloc, value)
+    let member = value.get("path").ok_or(ReadKind::MissingPath)?;
+    let text = member.as_str().ok_or(ReadKind::PathNotText)?;
+    let pointer = Pointer::parse(text).map_err(ReadKind::BadPath)?;
+    Ok(pointer.to_buf(alloc)?)
 }
 
-/// The members of an operation that has a `path` and a `value`.
-fn read_path_and_value(alloc: Global, value: &Value) -> Result<(PointerBuf, Value), ReadFault>
+/// The members `path` and `value`, in this order.
+#[tactic(auto, using(crate::proofs::PatchFaults::past_path))]
+fn read_path_and_value(alloc: Global, value: &Value) -> Result<(PointerBuf, Value), ItemFault>
     ensures read { IfOk result (λ r. ReadsFields (view value.now) (add r.0 (view r.1))) }
-    ensures refused { IfUnreadable result (λ e.
-        RefusesFields (codes "path" ∷ codes "value" ∷ []) (view value.now) e.kind) }
-    ensures unnumbered { IfUnreadable result (λ e. e.operation ≡ None) }
+    ensures refused { IfUnread result
+        (RefusesFields (codes "path" ∷ codes "value" ∷ []) (view value.now)) }
 {
-    if !value.is_object() {
-        return Err(refused(ReadKind::NotAnObject));
-    }
     let path = read_path(alloc, value)?;
-    let held = read_value(value)?;
-    Ok((path, held))
+    let member = value.get("value").ok_or(ReadKind::MissingValue)?;
+    if !is_whole(member) {
+        return Err(ItemFault::Refused(ReadKind::ValueNotWhole));
+    }
+    Ok((path, member.clone()?))
 }
 
-/// The members of an operation that has a `from` and a `path`.
-fn read_from_and_path(alloc: Global, value: &Value) -> Result<(PointerBuf, PointerBuf), ReadFault>
+/// The members `from` and `path`, in this order.
+fn read_from_and_path(alloc: Global, value: &Value) -> Result<(PointerBuf, PointerBuf), ItemFault>
     ensures read { IfOk result (λ r. ReadsFields (view value.now) (move r.0 r.1)) }
-    ensures refused { IfUnreadable result (λ e.
-        RefusesFields (codes "from" ∷ codes "path" ∷ []) (view value.now) e.kind) }
-    ensures unnumbered { IfUnreadable result (λ e. e.operation ≡ None) }
+    ensures refused { IfUnread result
+        (RefusesFields (codes "from" ∷ codes "path" ∷ []) (view value.now)) }
 {
     if !value.is_object() {
-        return Err(refused(ReadKind::NotAnObject));
+        return Err(ItemFault::Refused(ReadKind::NotAnObject));
     }
-    let from = read_from(alloc, value)?;
+    let member = value.get("from").ok_or(ReadKind::MissingFrom)?;
+    let text = member.as_str().ok_or(ReadKind::FromNotText)?;
+    let from = Pointer::parse(text).map_err(ReadKind::BadFrom)?;
     let path = read_path(alloc, value)?;
-    Ok((from, path))
+    Ok((from.to_buf(alloc)?, path))
 }
 
 impl AddOperation {
@@ -181,7 +128,7 @@ impl RemoveOperation {
             RefusesFields (codes "path" ∷ []) (view value.now) e.kind) }
         ensures unnumbered { IfUnreadable result (λ e. e.operation ≡ None) }
     {
-        let path = read_path_alone(alloc, value)?;
+        let path = read_path(alloc, value)?;
         Ok(RemoveOperation { path })
     }
 }
@@ -253,24 +200,53 @@ impl PatchOperation {
         ensures refused { IfUnreadable result (λ e. RefusesOperation (view value.now) e.kind) }
         ensures unnumbered { IfUnreadable result (λ e. e.operation ≡ None) }
     {
-        if !value.is_object() {
-            return Err(refused(ReadKind::NotAnObject));
+        Ok(read_operation(alloc, value)?)
+    }
+}
+
+/// The member `op`.
+fn read_name(value: &Value) -> Result<&str, ItemFault>
+    ensures read { IfOk result (λ n. get (codes "op") (view value.now) ≡ Some (string n.now)) }
+    ensures refused { IfUnread result (RefusesOperation (view value.now)) }
+{
+    if !value.is_object() {
+        return Err(ItemFault::Refused(ReadKind::NotAnObject));
+    }
+    let member = value.get("op").ok_or(ReadKind::MissingOp)?;
+    Ok(member.as_str().ok_or(ReadKind::OpNotText)?)
+}
+
+/// The operation that the member `op` names, with its members.
+fn read_operation(alloc: Global, value: &Value) -> Result<PatchOperation, ItemFault>
+    ensures read { IfOk result (λ o. ReadsOperation (view value.now) (operation_of o)) }
+    ensures refused { IfUnread result (RefusesOperation (view value.now)) }
+{
+    match read_name(value)? {
+        "add" => {
+            let (path, value) = read_path_and_value(alloc, value)?;
+            Ok(PatchOperation::Add(AddOperation { path, value }))
         }
-        let Some(member) = value.get("op") else {
-            return Err(refused(ReadKind::MissingOp));
-        };
-        let Some(name) = member.as_str() else {
-            return Err(refused(ReadKind::OpNotText));
-        };
-        match name {
-            "add" => Ok(PatchOperation::Add(AddOperation::from_value(alloc, value)?)),
-            "remove" => Ok(PatchOperation::Remove(RemoveOperation::from_value(alloc, value)?)),
-            "replace" => Ok(PatchOperation::Replace(ReplaceOperation::from_value(alloc, value)?)),
-            "move" => Ok(PatchOperation::Move(MoveOperation::from_value(alloc, value)?)),
-            "copy" => Ok(PatchOperation::Copy(CopyOperation::from_value(alloc, value)?)),
-            "test" => Ok(PatchOperation::Test(TestOperation::from_value(alloc, value)?)),
-            _ => Err(refused(ReadKind::UnknownOp)),
+        "remove" => {
+            let path = read_path(alloc, value)?;
+            Ok(PatchOperation::Remove(RemoveOperation { path }))
         }
+        "replace" => {
+            let (path, value) = read_path_and_value(alloc, value)?;
+            Ok(PatchOperation::Replace(ReplaceOperation { path, value }))
+        }
+        "move" => {
+            let (from, path) = read_from_and_path(alloc, value)?;
+            Ok(PatchOperation::Move(MoveOperation { from, path }))
+        }
+        "copy" => {
+            let (from, path) = read_from_and_path(alloc, value)?;
+            Ok(PatchOperation::Copy(CopyOperation { from, path }))
+        }
+        "test" => {
+            let (path, value) = read_path_and_value(alloc, value)?;
+            Ok(PatchOperation::Test(TestOperation { path, value }))
+        }
+        _ => Err(ItemFault::Refused(ReadKind::UnknownOp)),
     }
 }
 
@@ -283,43 +259,20 @@ impl Patch {
         ensures refused { IfUnreadable result (λ e.
             RefusesPatch (view value.now) e.operation e.kind) }
     {
-        match value {
-            Value::Array(items) => Ok(Patch(read_items(alloc, items)?)),
-            _ => Err(refused(ReadKind::NotAList)),
-        }
-    }
-}
-
-/// The items, each read as an operation.
-fn read_items(alloc: Global, items: &Vec<Value>) -> Result<Vec<PatchOperation>, ReadFault>
-    ensures read { IfOk result (λ os.
-        ReadsItems (items_view items.now.items) (operations os.items)) }
-    ensures refused { IfUnreadable result (λ e.
-        RefusesPatch (array (items_view items.now.items)) e.operation e.kind) }
-{
-    let mut operations = Vec::new(alloc);
-    for (number, item) in items.iter().enumerate() {
-        match PatchOperation::from_value(alloc, item) {
-            Ok(operation) => {
-                if let Err(error) = operations.push(operation) {
-                    return Err(ReadFault::Memory(AllocError::from(error)));
+        let Value::Array(items) = value else {
+            return Err(ReadFault::from(ItemFault::Refused(ReadKind::NotAList)));
+        };
+        let mut operations = Vec::new(alloc);
+        for (number, item) in items.iter().enumerate() {
+            match read_operation(alloc, item) {
+                Ok(operation) => operations.push(operation).map_err(AllocError::from)?,
+                Err(ItemFault::Refused(kind)) => {
+                    let operation = Some(number);
+                    return Err(ReadFault::Refused(ReadError { operation, kind }));
                 }
+                Err(ItemFault::Memory(error)) => return Err(ReadFault::Memory(error)),
             }
-            Err(fault) => return Err(numbered(fault, number)),
         }
-    }
-    Ok(operations)
-}
-
-/// The fault of the operation of this number.
-fn numbered(fault: ReadFault, number: usize) -> ReadFault
-    ensures { result ≡ with_number fault number }
-{
-    match fault {
-        ReadFault::Refused(error) => ReadFault::Refused(ReadError {
-            operation: Some(number),
-            kind: error.kind,
-        }),
-        ReadFault::Memory(error) => ReadFault::Memory(error),
+        Ok(Patch(operations))
     }
 }

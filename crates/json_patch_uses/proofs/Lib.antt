@@ -1,1 +1,2 @@
 pub mod TestedFirst
+pub mod Chains

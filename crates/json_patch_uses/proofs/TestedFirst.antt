@@ -1,5 +1,5 @@
 -- A list of operations that begins with a test.
-use Rattle.std.proofs.Common.{◌≡◌, ◌<◌, ◌-◌, ℕ, zero, suc, List, [], ◌∷◌, Some, option_map, slice_get, ap, sym, ◌∙◌, subst, arith}
+use Rattle.std.proofs.Common.{◌≡◌, ◌<◌, ◌-◌, ℕ, zero, suc, List, ◌∷◌, Some, option_map, slice_get, sym, ◌∙◌, subst, arith}
 use Rattle.std.specs.Prelude.{◌↔◌}
 use Rattle.serde_json.specs.Data.{Data}
 use Rattle.json_patch.specs.ChangeComputed.{found}

@@ -1,3 +1,4 @@
 pub mod Updates
 pub mod Stores
 pub mod Versioned
+pub mod Layers

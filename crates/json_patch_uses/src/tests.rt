@@ -1,6 +1,10 @@
 //! Each program on an example.
 
-use crate::{Store, UpdateFault, VersionFault, patched, update_version};
+use crate::{
+    Store, UpdateFault, VersionFault, first_example, merge_all, number_or, patched, tried,
+    update_version,
+};
+use json_patch::jsonptr::Pointer;
 use json_patch::{Patch, is_whole};
 use serde_json::Value;
 use std::test::Fail;
@@ -91,5 +95,49 @@ fn a_change_is_for_one_version(rt: HostRuntime) -> Result<(), Fail> {
         _ => panic!(rt; "there is no x"),
     }
     assert_eq!(rt; document.to_string(alloc)?.as_str(), text);
+    Ok(())
+}
+
+#[test]
+fn a_layer_overrides(rt: HostRuntime) -> Result<(), Fail> {
+    let alloc = rt.alloc();
+    let base = Value::from_str(alloc, r#"{"hosts":["a"],"log":{"level":1},"port":80}"#)?;
+    let site = Value::from_str(alloc, r#"{"log":{"level":null},"port":8080}"#)?;
+    let user = Value::from_str(alloc, r#"{"log":{"colour":"red"}}"#)?;
+    assert!(rt; is_whole(&base) && is_whole(&site) && is_whole(&user));
+    let settings = merge_all(alloc, &base, &[site, user])?;
+    assert_eq!(rt;
+        settings.to_string(alloc)?.as_str(),
+        r#"{"hosts":["a"],"log":{"colour":"red"},"port":8080}"#
+    );
+    let port = Pointer::parse("/port").expect(&rt, "a pointer");
+    assert_eq!(rt; number_or(&settings, port, 1), 8080);
+    let level = Pointer::parse("/log/level").expect(&rt, "a pointer");
+    assert_eq!(rt; number_or(&settings, level, 1), 1);
+    Ok(())
+}
+
+#[test]
+fn changes_are_kept_or_taken_back(rt: HostRuntime) -> Result<(), Fail> {
+    let alloc = rt.alloc();
+    let document = Value::from_str(alloc, "[1,2]")?;
+    assert!(rt; is_whole(&document));
+    let value = Value::from_str(alloc, r#"[{"op":"remove","path":"/0"}]"#)?;
+    let changes = Patch::from_value(alloc, &value).expect(&rt, "a patch");
+    let back = tried(alloc, document, &changes, false).expect(&rt, "an accepted patch");
+    assert_eq!(rt; back.to_string(alloc)?.as_str(), "[1,2]");
+    let kept = tried(alloc, back, &changes, true).expect(&rt, "an accepted patch");
+    assert_eq!(rt; kept.to_string(alloc)?.as_str(), "[2]");
+    Ok(())
+}
+
+#[test]
+fn the_example_is_made(rt: HostRuntime) -> Result<(), Fail> {
+    let alloc = rt.alloc();
+    let made = first_example(alloc).expect(&rt, "an accepted patch");
+    assert_eq!(rt;
+        made.to_string(alloc)?.as_str(),
+        r#"{"baz":"qux","foo":"bar"}"#
+    );
     Ok(())
 }
