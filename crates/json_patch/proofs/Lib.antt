@@ -27,6 +27,7 @@ pub mod Stepped
 pub mod Runs
 pub mod Level
 pub mod Undone
+pub mod InversesBelow
 pub mod Inverted
 pub mod Blocks
 pub mod Parents

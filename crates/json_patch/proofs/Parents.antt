@@ -61,7 +61,7 @@ found_none d P F t c is at here = ap (found d) is ∙ found_append d F (t ∷ []
 
 -- ---- what undoes an add
 
-undo_add_in : (d : Data) (P F : Pointer) (t : List ℕ) → P ≡ F ++ t ∷ [] → undo_add d P ≡ undo_in d F t P (found d F)
+pub undo_add_in : (d : Data) (P F : Pointer) (t : List ℕ) → P ≡ F ++ t ∷ [] → undo_add d P ≡ undo_in d F t P (found d F)
 undo_add_in d [] F t is = absurd (no_last F t is)
 undo_add_in d (s ∷ P) F t is = let e = split_is s P F t is in rw (e.0, e.1) refl
 
