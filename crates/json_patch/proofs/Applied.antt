@@ -11,7 +11,7 @@ use Rattle.json_patch.specs.Faulting.{Reports}
 use Rattle.json_patch.specs.InPlace.{AreInPlace, IsInPlace, NeverShort}
 use Rattle.json_patch.specs.Inverse.{ArePlain, IsInverse}
 use Rattle.json_patch.specs.InverseComputed.{block, inverse}
-use Rattle.json_patch.specs.Operation.{Operation, AreWhole, operation_of, operations, path_of}
+use Rattle.json_patch.specs.Operation.{Operation, AreWhole, IsWholeOp, operation_of, operations, path_of}
 use Rattle.json_patch.specs.Refusal.{NamesFirst, IfRefused, OnMemory}
 use Rattle.json_patch.specs.Run.{Accepts, RefusesAt, IsAccepted}
 use Rattle.json_patch.specs.RunComputed.{ran, stepped}
@@ -58,6 +58,11 @@ state_refused d m kind [] k o hd hv less is h s = absurd (omega arith)
 state_refused d m kind (x ∷ os) zero o hd hv less is h s = refuses_at d m kind x o hd (hv.0, tt) h is s
 state_refused d m kind (x ∷ os) (suc k) o hd hv less is h s =
     (h.0, h.1, state_refused h.0 m kind os k o (leaves_document d (operation_of x) h.0 hd hv.0 h.1) hv.1 (omega arith) is h.2 s)
+
+pub whole_at : (os : List PatchOperation) (k : ℕ) (o : PatchOperation) → k < length os → IsAt os k o → AreWhole (operations os) → IsWholeOp (operation_of o)
+whole_at [] k o less is h = absurd (omega arith)
+whole_at (x ∷ os) zero o less is h = subst (λ y. IsWholeOp (operation_of y)) (sym is) h.0
+whole_at (x ∷ os) (suc k) o less is h = whole_at os k o (omega arith) is h.1
 
 -- ---- its ends
 
@@ -173,7 +178,7 @@ recorded_back d m os k undo hd hv h so_far =
 
 -- ---- a run that takes no memory
 
-in_place_at : (os : List PatchOperation) (k : ℕ) (o : PatchOperation) → k < length os → IsAt os k o → AreInPlace (operations os) → IsInPlace (operation_of o)
+pub in_place_at : (os : List PatchOperation) (k : ℕ) (o : PatchOperation) → k < length os → IsAt os k o → AreInPlace (operations os) → IsInPlace (operation_of o)
 in_place_at [] k o less is h = absurd (omega arith)
 in_place_at (x ∷ os) zero o less is h = subst (λ y. IsInPlace (operation_of y)) (sym is) h.0
 in_place_at (x ∷ os) (suc k) o less is h = in_place_at os k o (omega arith) is h.1

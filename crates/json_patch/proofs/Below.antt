@@ -111,7 +111,7 @@ found_under d S P b at = found_append d S P ∙ ap (option_and_then (λ p. found
 
 -- ---- a pointer that begins with S, and its rest
 
-strip : (T Q : Pointer) → drop (length T) (T ++ Q) ≡ Q
+pub strip : (T Q : Pointer) → drop (length T) (T ++ Q) ≡ Q
 strip [] Q = refl
 strip (t ∷ T) Q = strip T Q
 

@@ -1,8 +1,8 @@
 -- What undoes a step or a run below a pointer is what undoes it on what stands there, with the pointer's tokens in front.
-use Rattle.std.proofs.Common.{◌≡◌, ◌↔◌, ℕ, List, [], ◌∷◌, ◌++◌, append_assoc, length, drop, Option, Some, None, Result, Ok, Err, refl, sym, ap, ap₂, ◌∙◌, subst}
+use Rattle.std.proofs.Common.{◌≡◌, ◌↔◌, ℕ, List, [], ◌∷◌, ◌++◌, append_assoc, Option, Some, None, Result, Ok, Err, refl, sym, ap, ap₂, ◌∙◌, subst}
 use Rattle.std.proofs.lemmas.List.{map-append}
 use Rattle.serde_json.specs.Data.{Data, array}
-use Rattle.jsonptr.specs.Text.{Pointer, IsProperPrefix}
+use Rattle.jsonptr.specs.Text.{Pointer}
 use Rattle.json_patch.specs.Document.{IsDocument}
 use Rattle.json_patch.specs.Resolve.{StandsAt}
 use Rattle.json_patch.specs.Operation.{Operation, add, remove, replace, move, copy, test, IsWholeOp, AreWhole}

@@ -33,7 +33,8 @@ pub mod Blocks
 pub mod Parents
 pub mod Plain
 pub mod Applied
-pub mod Logs
+pub mod Undoables
+pub mod PartRuns
 pub mod Undos
 pub mod PatchFaults
 pub mod PatchValues
@@ -45,4 +46,3 @@ pub mod MergeSteps
 pub mod Below
 pub mod Locality
 pub mod SharedTokens
-pub mod PartRuns
