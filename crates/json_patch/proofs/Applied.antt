@@ -97,17 +97,6 @@ reported_names U (Refused e) fault d m new os k o hd hv less is h s r =
     )
 reported_names U (Memory error) fault d m new os k o hd hv less is h s r = tt
 
--- and leaves the state before it, where the step left that
-pub reported_state : (U : Type 0) (out : PatchFault) (fault : StepFault) (P : Pointer) (d m new : Data) (os : List PatchOperation) (k : ℕ) → IsState d os k m → new ≡ m → Reports fault k P out
-    → IfRefused {T = U} (Err out) (λ e. Accepts d (take e.operation (operations os)) new)
-reported_state U (Refused e) fault P d m new os k h same r = subst (λ x. Accepts d (take e.operation (operations os)) x) (sym same) (subst (λ n. IsState d os n m) (sym r.1) h)
-reported_state U (Memory error) fault P d m new os k h same r = tt
-
-pub short_state : (U : Type 0) (out : PatchFault) (d m new : Data) (os : List PatchOperation) (k : ℕ) → k < length os → IsState d os k m → new ≡ m
-    → OnMemory {T = U} (Err out) ((j : ℕ) × (j ≤ length os) × Accepts d (take j (operations os)) new)
-short_state U (Refused e) d m new os k less h same = tt
-short_state U (Memory error) d m new os k less h same = (k, omega arith, subst (λ x. IsState d os k x) (sym same) h)
-
 -- ---- what a recorded run has recorded
 
 -- the inverse of the operations before k, last first

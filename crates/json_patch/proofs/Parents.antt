@@ -92,13 +92,6 @@ undo_taken (Ok (Taken w)) d P h = rw h refl
 undo_taken (Ok was) d P h = absurd h
 undo_taken (Err e) d P h = h
 
--- ---- attempts
-
--- an error that `?` passed on
-pub passed_on : {T : Type 0} (r : Result T StepFault) (fault : StepFault) (wanted wanted' : Option Data) (old new : Data) → IsErr r × IsErrAnd r (λ f. f ≡ fault) → wanted' ≡ wanted → Excuses fault wanted × (new ≡ old) → Attempts r wanted' old new
-passed_on (Ok x) fault wanted wanted' old new h same e = absurd h.1
-passed_on (Err f) fault wanted wanted' old new h same e = rw (h.1, same) e
-
 -- ---- a move
 
 pub inside : (b : Bool) (F P R : Pointer) → P ≡ F ++ R → (IsTrue b ↔ (R ≡ [])) → IsTrue (not b) ↔ IsProperPrefix F P
@@ -151,7 +144,3 @@ unescaped_parts P F t is h = split F (subst AreUnescaped is h)
     split : (G : Pointer) → AreUnescaped (G ++ t ∷ []) → AreUnescaped G × IsUnescaped t
     split [] g = (tt, g.0)
     split (s ∷ G) g = let more = split G g.1 in ((g.0, more.0), more.1)
-
-pub never_short : {T : Type 0} (U : Type 0) (r : Result T StepFault) (fault : StepFault) → IsErr r × IsErrAnd r (λ f. f ≡ fault) → NeverShort {T = U} (Err fault) → NeverShort r
-never_short U (Ok x) fault gives h = tt
-never_short U (Err f) fault gives h = subst (λ g. NeverShort {T = U} (Err g)) (sym gives.1) h

@@ -106,10 +106,6 @@ place_kept (Err e) S P R Q whole same h = h
 pub prefix_rest : (S P : Pointer) → IsPrefix S P → P ≡ S ++ drop (length S) P
 prefix_rest S P h = h.1 ∙ ap (λ R. S ++ R) (sym (ap (drop (length S)) h.1 ∙ strip S h.0))
 
-pub rest_not_root : (S P R F : Pointer) (t : List ℕ) → P ≡ S ++ R → R ≡ F ++ t ∷ [] → P ≡ [] → ⊥
-rest_not_root [] P R F t whole is root = no_last F t (sym root ∙ whole ∙ is)
-rest_not_root (s ∷ S) P R F t whole is root = cc
-
 pub count_here : (n : ℕ) (v : Value) (m : Vec Value Global) → n ≡ vec_len m → v ≡ Array m → Some n ≡ count_in (Some (view v))
 count_here n v m len is = let same : n ≡ length m.items = omega arith in rw (is, view-Array m) (ap Some (same ∙ sym (items_len-items_view m.items)))
 
@@ -120,22 +116,8 @@ at_place S P Nothing = refl
 at_place S P (Former w) = refl
 at_place S P (Taken w) = refl
 
-one_block : (d : Data) (S : Pointer) (op : Operation) (was : Displaced) → IsOne op → Undoes d (stripped S op) was → block d (stripped S op) ≡ undo_at_place (place_to_undo d (stripped S op)) was ∷ []
-one_block d S (add P v) was one h = h
-one_block d S (remove P) was one h = h
-one_block d S (replace P v) was one h = h
-one_block d S (move F P) was one h = absurd one
-one_block d S (copy F P) was one h = h
-one_block d S (test P v) was one h = absurd one
-
 one_more : (olds news : List PatchOperation) (u : PatchOperation) (op : Operation) → news ≡ olds ++ u ∷ [] → operation_of u ≡ op → operations news ≡ operations olds ++ op ∷ []
 one_more olds news u op is same = ap operations is ∙ map-append operation_of olds (u ∷ []) ∙ ap (λ o. operations olds ++ o ∷ []) same
-
-pub records_one : (olds held news : List PatchOperation) (u : PatchOperation) (d : Data) (S place : Pointer) (op : Operation) (was : Displaced) → held ≡ olds → news ≡ held ++ u ∷ [] → operation_of u ≡ undo_at_place place was
-    → place ≡ S ++ place_to_undo d (stripped S op) → IsOne op → Undoes d (stripped S op) was → operations news ≡ operations olds ++ reverse (block_at d S op)
-records_one olds held news u d S place op was room more takes at one h =
-    one_more olds news u (extended S (undo_at_place (place_to_undo d (stripped S op)) was)) (more ∙ ap (λ us. us ++ u ∷ []) room) (takes ∙ ap (λ Q. undo_at_place Q was) at ∙ sym (at_place S (place_to_undo d (stripped S op)) was))
-    ∙ sym (ap (λ B. operations olds ++ reverse (extended_all S B)) (one_block d S op was one h))
 
 first_of : (u w : Operation) (us ws : List Operation) → ◌≡◌ {A = List Operation} (u ∷ us) (w ∷ ws) → u ≡ w
 first_of u w us ws is = cc

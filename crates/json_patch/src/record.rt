@@ -176,8 +176,9 @@ fn record_move(
     let place = undo_place(alloc, doc, base, &operation.path)?;
     let was = add(alloc, doc, path, moved)?;
     let from = operation.from.clone(alloc)?;
+    let take_away = undo_of(place, was);
     undo.push_reserved(PatchOperation::Add(AddOperation { path: from, value }));
-    undo.push_reserved(undo_of(place, was));
+    undo.push_reserved(take_away);
     Ok(())
 }
 

@@ -72,7 +72,9 @@ pub fn patch_unsafe(
 {
     let mut undo = Vec::new(alloc);
     for number in 0..patch.len() {
-        run_part(alloc, doc, patch, number, number + 1, false, &mut undo)?;
+        if let Err(fault) = run_part(alloc, doc, patch, number, number + 1, false, &mut undo) {
+            return Err(fault);
+        }
     }
     Ok(())
 }

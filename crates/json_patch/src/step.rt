@@ -109,10 +109,10 @@ pub(crate) fn remove(
     ensures taken { IfOk result (IsTaken (view doc.old) (tokens_of path.entry)) }
     ensures in_place { AreUnescaped (tokens_of path.entry) → NeverShort result }
 {
-    match path.split_back() {
-        Some((parent, last)) => edit_at(alloc, doc, parent.tokens(), last, Edit::Take),
-        None => Err(StepFault::Refused(PatchErrorKind::InvalidPointer)),
-    }
+    let Some((parent, last)) = path.split_back() else {
+        return Err(StepFault::Refused(PatchErrorKind::InvalidPointer));
+    };
+    edit_at(alloc, doc, parent.tokens(), last, Edit::Take)
 }
 
 /// `replace` (section 4.3).

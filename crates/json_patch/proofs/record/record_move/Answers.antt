@@ -23,5 +23,5 @@ pub returns-clause-records : goal.returns-clause-records
 returns-clause-records c =
     let o = c.args.operation.now in
     records_move c.args.undo.now.items c.reserve.new.self.items c.push_reserved.new.self.items c.push_reserved-2.new.self.items _ _ (view c.args.doc.now) (view c.take_out.new.doc) c.in_ok-moved.moved (tokens_of c.args.base) o.from o.path c.in_ok-place.place c.in_ok-was.was'
-    (view c.in_ok-moved.moved) c.in_ok-reserve.ensures.items c.push_reserved.ensures.items c.push_reserved-2.ensures.items (ap₂ (λ P v. add P v) c.in_ok-from.ensures c.in_ok-value.ensures.cases) c.undo_of.ensures c.requires.0
+    (view c.in_ok-moved.moved) c.in_ok-reserve.ensures.items c.push_reserved.ensures.items c.push_reserved-2.ensures.items (ap₂ (λ P v. add P v) c.in_ok-from.ensures c.in_ok-value.ensures.cases) c.undo_of-take_away.ensures c.requires.0
     (rw (c.below.ensures, c.below-path.ensures) at c.in_ok-moved.ensures.taken) c.in_ok-place.ensures (rw c.below-path.ensures at c.in_ok-was.ensures.undo)
