@@ -344,3 +344,10 @@ def large_calls():
         line = f"patch: {operations[0]['op']} {name}, of 1000"
         arguments = ["patch", compact(first), compact(operations)]
         yield Bound(line, arguments, left("done", compact(last)), fewer_than)
+    removes = [remove("/x/a"), remove("/x/b")]
+    yield Bound(
+        "apply_patches: remove below a member, on a copy, of 1000",
+        ["apply_patches", compact(filled), compact(removes)],
+        left(printed_patch([add("/x/b", 2), add("/x/a", 1)]), compact(document)),
+        64,
+    )

@@ -11,7 +11,7 @@ use Rattle.json_patch.specs.Faulting.{Reports}
 use Rattle.json_patch.specs.InPlace.{AreInPlace, IsInPlace, NeverShort}
 use Rattle.json_patch.specs.Inverse.{ArePlain, IsInverse}
 use Rattle.json_patch.specs.InverseComputed.{block, inverse}
-use Rattle.json_patch.specs.Operation.{Operation, AreWhole, operation_of, operations, path_of}
+use Rattle.json_patch.specs.Operation.{Operation, AreWhole, IsWholeOp, operation_of, operations, path_of}
 use Rattle.json_patch.specs.Refusal.{NamesFirst, IfRefused, OnMemory}
 use Rattle.json_patch.specs.Run.{Accepts, RefusesAt, IsAccepted}
 use Rattle.json_patch.specs.RunComputed.{ran, stepped}
@@ -59,6 +59,11 @@ state_refused d m kind (x ∷ os) zero o hd hv less is h s = refuses_at d m kind
 state_refused d m kind (x ∷ os) (suc k) o hd hv less is h s =
     (h.0, h.1, state_refused h.0 m kind os k o (leaves_document d (operation_of x) h.0 hd hv.0 h.1) hv.1 (omega arith) is h.2 s)
 
+pub whole_at : (os : List PatchOperation) (k : ℕ) (o : PatchOperation) → k < length os → IsAt os k o → AreWhole (operations os) → IsWholeOp (operation_of o)
+whole_at [] k o less is h = absurd (omega arith)
+whole_at (x ∷ os) zero o less is h = subst (λ y. IsWholeOp (operation_of y)) (sym is) h.0
+whole_at (x ∷ os) (suc k) o less is h = whole_at os k o (omega arith) is h.1
+
 -- ---- its ends
 
 pub state_all : (d m : Data) (os : List PatchOperation) (k : ℕ) → length os ≤ k → IsState d os k m → Accepts d (operations os) m
@@ -91,17 +96,6 @@ reported_names U (Refused e) fault d m new os k o hd hv less is h s r =
       ap (λ n. option_map path_of (slice_get (operations os) n)) r.1 ∙ path_at os k o less is ∙ ap Some (sym r.2),
     )
 reported_names U (Memory error) fault d m new os k o hd hv less is h s r = tt
-
--- and leaves the state before it, where the step left that
-pub reported_state : (U : Type 0) (out : PatchFault) (fault : StepFault) (P : Pointer) (d m new : Data) (os : List PatchOperation) (k : ℕ) → IsState d os k m → new ≡ m → Reports fault k P out
-    → IfRefused {T = U} (Err out) (λ e. Accepts d (take e.operation (operations os)) new)
-reported_state U (Refused e) fault P d m new os k h same r = subst (λ x. Accepts d (take e.operation (operations os)) x) (sym same) (subst (λ n. IsState d os n m) (sym r.1) h)
-reported_state U (Memory error) fault P d m new os k h same r = tt
-
-pub short_state : (U : Type 0) (out : PatchFault) (d m new : Data) (os : List PatchOperation) (k : ℕ) → k < length os → IsState d os k m → new ≡ m
-    → OnMemory {T = U} (Err out) ((j : ℕ) × (j ≤ length os) × Accepts d (take j (operations os)) new)
-short_state U (Refused e) d m new os k less h same = tt
-short_state U (Memory error) d m new os k less h same = (k, omega arith, subst (λ x. IsState d os k x) (sym same) h)
 
 -- ---- what a recorded run has recorded
 
@@ -173,7 +167,7 @@ recorded_back d m os k undo hd hv h so_far =
 
 -- ---- a run that takes no memory
 
-in_place_at : (os : List PatchOperation) (k : ℕ) (o : PatchOperation) → k < length os → IsAt os k o → AreInPlace (operations os) → IsInPlace (operation_of o)
+pub in_place_at : (os : List PatchOperation) (k : ℕ) (o : PatchOperation) → k < length os → IsAt os k o → AreInPlace (operations os) → IsInPlace (operation_of o)
 in_place_at [] k o less is h = absurd (omega arith)
 in_place_at (x ∷ os) zero o less is h = subst (λ y. IsInPlace (operation_of y)) (sym is) h.0
 in_place_at (x ∷ os) (suc k) o less is h = in_place_at os k o (omega arith) is h.1

@@ -57,9 +57,9 @@ over_map s d c b None hd hb is h = refl
 over_map s d c b (Some a) hd hb is h = ap Some (set_set s d c b a hd hb (h a refl) is)
 
 pub record Replaces (d : Data) (S : Pointer) (e x : Data) : Type 0 where
-  found_there : found x S ≡ Some e
-  document : IsDocument x
-  again : (f : Data) → IsDocument f → replaced x S f ≡ replaced d S f
+  pub found_there : found x S ≡ Some e
+  pub document : IsDocument x
+  pub again : (f : Data) → IsDocument f → replaced x S f ≡ replaced d S f
 
 pub replaces : (d : Data) (S : Pointer) (e x : Data) → IsDocument d → IsDocument e → replaced d S e ≡ Some x → Replaces d S e x
 replaces d [] e x hd he is =
@@ -88,7 +88,7 @@ begins_under [] F P = refl
 begins_under (t ∷ S) F P = rw ((bytes_eq-Decides t t).1 refl) (begins_under S F P)
 
 -- what f, changing b, does to d, where b stands at S
-over : Data → Pointer → Option Data → Option Data
+unfoldable pub over : Data → Pointer → Option Data → Option Data
 over d S o = option_and_then (λ e. replaced d S e) o
 
 altered_under : (f : Data → Option Data) (d : Data) (S P : Pointer) (b : Data) → found d S ≡ Some b → altered f d (S ++ P) ≡ over d S (altered f b P)
@@ -96,18 +96,33 @@ unfolding over
 altered_under f d S P b at =
     altered_append f d S P ∙ altered_walks (λ c. altered f c P) d S ∙ ap (option_and_then (λ p. option_and_then (λ q. replaced d S q) (altered f p P))) at
 
-added_under : (d : Data) (S : Pointer) (t : List ℕ) (P : Pointer) (v b : Data) → found d S ≡ Some b → added d (S ++ t ∷ P) v ≡ over d S (added b (t ∷ P) v)
+pub added_under : (d : Data) (S : Pointer) (t : List ℕ) (P : Pointer) (v b : Data) → found d S ≡ Some b → added d (S ++ t ∷ P) v ≡ over d S (added b (t ∷ P) v)
 added_under d S t P v b at =
     ap (λ Q. added d Q v) (ap (λ Q. S ++ Q) (split_whole t P) ∙ sym (append_assoc S (front_of t P) (last_of t P ∷ []))) ∙ added_at d (S ++ front_of t P) (last_of t P) v
     ∙ altered_under (put_in v (last_of t P)) d S (front_of t P) b at
 
-removed_under : (d : Data) (S : Pointer) (t : List ℕ) (P : Pointer) (b : Data) → found d S ≡ Some b → removed d (S ++ t ∷ P) ≡ over d S (removed b (t ∷ P))
+pub removed_under : (d : Data) (S : Pointer) (t : List ℕ) (P : Pointer) (b : Data) → found d S ≡ Some b → removed d (S ++ t ∷ P) ≡ over d S (removed b (t ∷ P))
 removed_under d S t P b at =
     ap (removed d) (ap (λ Q. S ++ Q) (split_whole t P) ∙ sym (append_assoc S (front_of t P) (last_of t P ∷ []))) ∙ removed_at d (S ++ front_of t P) (last_of t P)
     ∙ altered_under (take_from (last_of t P)) d S (front_of t P) b at
 
-found_under : (d : Data) (S P : Pointer) (b : Data) → found d S ≡ Some b → found d (S ++ P) ≡ found b P
+pub found_under : (d : Data) (S P : Pointer) (b : Data) → found d S ≡ Some b → found d (S ++ P) ≡ found b P
 found_under d S P b at = found_append d S P ∙ ap (option_and_then (λ p. found p P)) at
+
+-- ---- a pointer that begins with S, and its rest
+
+pub strip : (T Q : Pointer) → drop (length T) (T ++ Q) ≡ Q
+strip [] Q = refl
+strip (t ∷ T) Q = strip T Q
+
+pub with_one : (S : Pointer) (R : Pointer → Pointer → Type 0) → ((t : List ℕ) (P : Pointer) → R (S ++ t ∷ P) (t ∷ P)) → (P : Pointer) → IsProperPrefix S P → R P (drop (length S) P)
+with_one S R core P h =
+    subst (λ Q. R Q (drop (length S) Q)) (sym h.2) (subst (R (S ++ h.0 ∷ h.1)) (sym (strip S (h.0 ∷ h.1))) (core h.0 h.1))
+
+pub with_two : (S : Pointer) (R : Pointer → Pointer → Pointer → Pointer → Type 0) → ((t : List ℕ) (F : Pointer) (u : List ℕ) (P : Pointer) → R (S ++ t ∷ F) (t ∷ F) (S ++ u ∷ P) (u ∷ P))
+    → (F P : Pointer) → IsProperPrefix S F → IsProperPrefix S P → R F (drop (length S) F) P (drop (length S) P)
+with_two S R core F P g h =
+    with_one S (R F (drop (length S) F)) (λ u Q. with_one S (λ G H. R G H (S ++ u ∷ Q) (u ∷ Q)) (λ t G. core t G u Q) F g) P h
 
 -- ---- one step
 
@@ -172,34 +187,20 @@ module _ (d : Data) (S : Pointer) (b : Data) (hd : IsDocument d) (at : found d S
       (on_test (begins (t ∷ F) (u ∷ P)) (moved (S ++ u ∷ P) (found b (t ∷ F)) (over d S (removed b (t ∷ F)))) (moved (u ∷ P) (found b (t ∷ F)) (removed b (t ∷ F)))
       (moved_under u P (found b (t ∷ F)) (removed b (t ∷ F)) (λ v is. found_document b (t ∷ F) v there is) (λ m is. (removed_is b (t ∷ F) m there is).4)))
 
-  strip : (T Q : Pointer) → drop (length T) (T ++ Q) ≡ Q
-  strip [] Q = refl
-  strip (t ∷ T) Q = strip T Q
-
-  with_one : (f : Pointer → Operation) → ((t : List ℕ) (P : Pointer) → stepped d (f (S ++ t ∷ P)) ≡ lifted d S (stepped b (f (t ∷ P))))
-      → (P : Pointer) → IsProperPrefix S P → stepped d (f P) ≡ lifted d S (stepped b (f (drop (length S) P)))
-  with_one f core P h =
-      subst (λ Q. stepped d (f Q) ≡ lifted d S (stepped b (f (drop (length S) Q)))) (sym h.2)
-      (core h.0 h.1 ∙ ap (λ Q. lifted d S (stepped b (f Q))) (sym (strip S (h.0 ∷ h.1))))
-
-  with_two : (f : Pointer → Pointer → Operation)
-      → ((t : List ℕ) (F : Pointer) (u : List ℕ) (P : Pointer) → stepped d (f (S ++ t ∷ F) (S ++ u ∷ P)) ≡ lifted d S (stepped b (f (t ∷ F) (u ∷ P))))
-      → (F P : Pointer) → IsProperPrefix S F → IsProperPrefix S P → stepped d (f F P) ≡ lifted d S (stepped b (f (drop (length S) F) (drop (length S) P)))
-  with_two f core F P g h =
-      subst (λ Q. stepped d (f F Q) ≡ lifted d S (stepped b (f (drop (length S) F) (drop (length S) Q)))) (sym h.2)
-      (subst (λ G. stepped d (f G (S ++ h.0 ∷ h.1)) ≡ lifted d S (stepped b (f (drop (length S) G) (drop (length S) (S ++ h.0 ∷ h.1))))) (sym g.2)
-      (core g.0 g.1 h.0 h.1 ∙ ap (λ Q. lifted d S (stepped b (f Q (h.0 ∷ h.1)))) (sym (strip S (g.0 ∷ g.1)))
-      ∙ ap (λ Q. lifted d S (stepped b (f (drop (length S) (S ++ g.0 ∷ g.1)) Q))) (sym (strip S (h.0 ∷ h.1)))))
-
   pub stepped_under : (op : Operation) → IsWithin S op → stepped d op ≡ lifted d S (stepped b (stripped S op))
-  stepped_under (add P v) h = with_one (λ Q. add Q v) (λ t Q. ap (or_refused InvalidPointer) (added_under d S t Q v b at) ∙ lifted_or d S (added b (t ∷ Q) v)) P h
-  stepped_under (remove P) h = with_one (λ Q. remove Q) (λ t Q. ap (or_refused InvalidPointer) (removed_under d S t Q b at) ∙ lifted_or d S (removed b (t ∷ Q))) P h
+  stepped_under (add P v) h =
+      with_one S (λ Q R. stepped d (add Q v) ≡ lifted d S (stepped b (add R v))) (λ t Q. ap (or_refused InvalidPointer) (added_under d S t Q v b at) ∙ lifted_or d S (added b (t ∷ Q) v)) P h
+  stepped_under (remove P) h =
+      with_one S (λ Q R. stepped d (remove Q) ≡ lifted d S (stepped b (remove R))) (λ t Q. ap (or_refused InvalidPointer) (removed_under d S t Q b at) ∙ lifted_or d S (removed b (t ∷ Q))) P h
   stepped_under (replace P v) h =
-      with_one (λ Q. replace Q v) (λ t Q. ap (or_refused InvalidPointer) (altered_under (λ c. Some v) d S (t ∷ Q) b at) ∙ lifted_or d S (replaced b (t ∷ Q) v)) P h
-  stepped_under (move F P) h = with_two (λ G Q. move G Q) (λ t G u Q. move_under t G u Q) F P h.0 h.1
+      with_one S (λ Q R. stepped d (replace Q v) ≡ lifted d S (stepped b (replace R v)))
+      (λ t Q. ap (or_refused InvalidPointer) (altered_under (λ c. Some v) d S (t ∷ Q) b at) ∙ lifted_or d S (replaced b (t ∷ Q) v)) P h
+  stepped_under (move F P) h = with_two S (λ G H Q R. stepped d (move G Q) ≡ lifted d S (stepped b (move H R))) (λ t G u Q. move_under t G u Q) F P h.0 h.1
   stepped_under (copy F P) h =
-      with_two (λ G Q. copy G Q) (λ t G u Q. ap (copied d (S ++ u ∷ Q)) (found_under d S (t ∷ G) b at) ∙ copied_under u Q (found b (t ∷ G))) F P h.0 h.1
-  stepped_under (test P v) h = with_one (λ Q. test Q v) (λ t Q. ap (tested d v) (found_under d S (t ∷ Q) b at) ∙ tested_under v (found b (t ∷ Q))) P h
+      with_two S (λ G H Q R. stepped d (copy G Q) ≡ lifted d S (stepped b (copy H R)))
+      (λ t G u Q. ap (copied d (S ++ u ∷ Q)) (found_under d S (t ∷ G) b at) ∙ copied_under u Q (found b (t ∷ G))) F P h.0 h.1
+  stepped_under (test P v) h =
+      with_one S (λ Q R. stepped d (test Q v) ≡ lifted d S (stepped b (test R v))) (λ t Q. ap (tested d v) (found_under d S (t ∷ Q) b at) ∙ tested_under v (found b (t ∷ Q))) P h
 
 -- ---- runs
 

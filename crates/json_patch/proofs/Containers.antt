@@ -10,8 +10,7 @@ use Rattle.serde_json.specs.declared.value.Value.{Value}
 use Rattle.serde_json.proofs.Views.{Entry, view-lookup, get_item_within, get_item_past, items_len-items_view, members_view-insert_entry}
 use Rattle.jsonptr.specs.Places.{place_of}
 use Rattle.json_patch.specs.Document.{Step, key, place, child}
-use Rattle.json_patch.specs.ChangeComputed.{slot_in, slot_of, step_of, put_in, take_from, set_child, drop_child, found, altered}
-use Rattle.json_patch.specs.Edits.{item_gone}
+use Rattle.json_patch.specs.ChangeComputed.{slot_in, step_of, put_in, take_from, set_child, drop_child, found, altered}
 use Rattle.json_patch.proofs.Writes.{is_named, AreInOrder, items_view-set, items_view-insert, items_view-remove, members_view-remove_entry, members_view-set_value}
 
 -- the token names the item at i, among so many
@@ -70,9 +69,6 @@ same_len m len e = omega arith
 pub inserts_item : (t : List ℕ) (m : Vec Value Global) (len i : ℕ) (v : Value) → len ≡ vec_len m → (i ≤ len) × (slot_in t len ≡ Some i) → put_in (view v) t (array (items_view m.items)) ≡ Some (array (items_view (insert m.items i v)))
 inserts_item t m len i v e at = rw (items_len-items_view m.items, same_len m len e, at.1) (ap (λ ds. Some (array ds)) (sym (items_view-insert m.items i v (omega arith))))
 
-pub slot_here : (t : List ℕ) (m : Vec Value Global) (len i : ℕ) → len ≡ vec_len m → (i ≤ len) × (slot_in t len ≡ Some i) → slot_of t (items_view m.items) ≡ Some i
-slot_here t m len i e at = rw (items_len-items_view m.items, same_len m len e) at.1
-
 pub inserts_nowhere : (t : List ℕ) (m : Vec Value Global) (len : ℕ) (d : Data) → len ≡ vec_len m → slot_in t len ≡ None → put_in d t (array (items_view m.items)) ≡ None
 inserts_nowhere t m len d e none = rw (items_len-items_view m.items, same_len m len e, none)
 
@@ -81,12 +77,6 @@ takes_item t m len i v e at is = rw (at.1, item_child t m len i v e at is) (ap (
 
 pub takes_no_item : (t : List ℕ) (m : Vec Value Global) (len : ℕ) → len ≡ vec_len m → IsNoItem t len → take_from t (array (items_view m.items)) ≡ None
 takes_no_item t m len e past = no_item t m len (λ s. option_map (λ c. drop_child s (array (items_view m.items))) (child s (array (items_view m.items)))) (λ s h. takes_none (array (items_view m.items)) (λ r c. drop_child r (array (items_view m.items))) s h) e past
-
-pub drops_item : (m : Vec Value Global) (len i : ℕ) (v : Value) → len ≡ vec_len m → i < len → v ≡ get_or m.items i v → item_gone i (array (items_view m.items)) ≡ Some (array (items_view (remove m.items i)))
-drops_item m len i v e less is = rw (sym (get_item_within m.items i v (omega arith))) (ap (λ ds. Some (array ds)) (sym (items_view-remove m.items i (omega arith))))
-
-pub drops_no_item : (m : Vec Value Global) (len i : ℕ) → len ≡ vec_len m → len ≤ i → item_gone i (array (items_view m.items)) ≡ None
-drops_no_item m len i e past = rw (sym (get_item_past m.items i (omega arith)))
 
 pub swaps_item : (t : List ℕ) (m : Vec Value Global) (len i : ℕ) (v w x : Value) → len ≡ vec_len m → IsItem t len i → x ≡ get_or m.items i x → w ≡ v
     → altered (λ c. Some (view v)) (array (items_view m.items)) (t ∷ []) ≡ Some (array (items_view (set m.items i w)))

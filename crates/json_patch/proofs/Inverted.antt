@@ -131,13 +131,3 @@ inverse_length [] d = omega arith
 inverse_length (op ∷ ops) d =
     let a : length (with_left (stepped d op) (λ m. inverse m ops)) ≤ 2 * length ops = left_length (stepped d op) (λ m. inverse m ops) (2 * length ops) (λ m. inverse_length ops m) in
     omega (arith, length-append (with_left (stepped d op) (λ m. inverse m ops)) (block d op), block_length op d)
-
--- ---- one operation more
-
-inverse_one : (m : Data) (op : Operation) (e : Data) → IsDocument m → IsWholeOp op → Leaves m op e → inverse m (op ∷ []) ≡ block m op
-inverse_one m op e hm hv h = inverse_step m op [] e hm hv h
-
-pub inverse_push : (d : Data) (xs : List Operation) (m : Data) (op : Operation) (e : Data) → IsDocument d → AreWhole xs → IsWholeOp op → Accepts d xs m → Leaves m op e
-    → inverse d (xs ++ op ∷ []) ≡ block m op ++ inverse d xs
-inverse_push d xs m op e hd hv ho h l =
-    inverse_joined d xs (op ∷ []) m hd hv h ∙ ap (λ I. I ++ inverse d xs) (inverse_one m op e (accepts_document d xs m hd hv h) ho l)

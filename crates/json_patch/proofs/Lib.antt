@@ -26,12 +26,14 @@ pub mod Stepped
 pub mod Runs
 pub mod Level
 pub mod Undone
+pub mod InversesBelow
 pub mod Inverted
 pub mod Blocks
 pub mod Parents
 pub mod Plain
 pub mod Applied
-pub mod Logs
+pub mod Undoables
+pub mod PartRuns
 pub mod Undos
 pub mod PatchFaults
 pub mod PatchValues
@@ -42,4 +44,3 @@ pub mod MergeSteps
 pub mod Below
 pub mod Locality
 pub mod SharedTokens
-pub mod PartRuns

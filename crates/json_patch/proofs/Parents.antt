@@ -1,32 +1,31 @@
 -- An operation as a change of its container, which the walk finds at all tokens but the last.
-use Rattle.std.proofs.Common.{◌≡◌, ◌<◌, ◌^◌, decimal, String, Global, string_bytes, ℕ, List, [], ◌∷◌, ◌++◌, not, true, false, Bool, IsTrue, Option, Some, None, option_map, option_and_then, Result, Ok, Err, IfOk, refl, sym, ap, ◌∙◌, subst}
+use Rattle.std.proofs.Common.{◌≡◌, ◌<◌, ◌^◌, decimal, String, Global, string_bytes, ℕ, List, [], ◌∷◌, ◌++◌, length, drop, not, true, false, Bool, IsTrue, Option, Some, None, option_map, option_and_then, Result, Ok, Err, IfOk, refl, sym, ap, ◌∙◌, subst}
 use Rattle.std.specs.Prelude.{◌↔◌}
 use Rattle.std.specs.declared.alloc.AllocError.{AllocError}
 use Rattle.std.specs.Result.{IsErr, IsErrAnd}
 use Rattle.std.proofs.lemmas.List.{append_cancel_left}
-use Rattle.serde_json.specs.Data.{Data, array, object, Items}
+use Rattle.serde_json.specs.Data.{Data, array, object}
 use Rattle.serde_json.specs.View.{view}
 use Rattle.serde_json.specs.declared.value.Value.{Value}
 use Rattle.jsonptr.specs.Text.{Pointer, IsProperPrefix}
 use Rattle.jsonptr.specs.Places.{token_of}
-use Rattle.jsonptr.specs.PlaceLaws.{place_is_token, token_is_decimal}
+use Rattle.jsonptr.specs.PlaceLaws.{token_is_decimal}
 use Rattle.json_patch.specs.Attempt.{Attempts, Excuses, Steps, TakesOut}
 use Rattle.json_patch.specs.Document.{child}
-use Rattle.json_patch.specs.Operation.{move, remove}
-use Rattle.json_patch.specs.ChangeComputed.{step_of, set_child, slot_of, put_in, take_from, found, altered, added, removed, replaced}
-use Rattle.json_patch.specs.Edits.{Displaces, DisplacesAt, undo_from}
+use Rattle.json_patch.specs.Operation.{add, move, remove, replace, path_of}
+use Rattle.json_patch.specs.ChangeComputed.{step_of, set_child, put_in, take_from, found, altered, added, removed, replaced}
+use Rattle.json_patch.specs.Edits.{Displaces, DisplacesAt, IsTaken, Undoes, undo_at_place}
 use Rattle.json_patch.specs.InPlace.{AreUnescaped, IsUnescaped, NeverShort}
-use Rattle.json_patch.specs.InverseComputed.{settled_token, undo_at, undo_in, undo_add}
+use Rattle.json_patch.specs.InverseComputed.{undo_in, undo_add}
 use Rattle.json_patch.specs.RunComputed.{moved, stepped}
+use Rattle.json_patch.specs.SharedComputed.{stripped}
 use Rattle.json_patch.specs.declared.error.PatchErrorKind.TheVariants.{InvalidFromPointer, CannotMoveInsideItself}
 use Rattle.json_patch.specs.declared.walk.Displaced.{Displaced}
-use Rattle.json_patch.specs.declared.walk.Displaced.TheVariants.{Nothing, LaterItems, Former}
-use Rattle.json_patch.specs.declared.walk.Edit.TheVariants.{Insert}
+use Rattle.json_patch.specs.declared.walk.Displaced.TheVariants.{Nothing, Former, Taken}
+use Rattle.json_patch.specs.declared.walk.Edit.TheVariants.{Insert, Take, Swap}
 use Rattle.json_patch.specs.declared.walk.StepFault.{StepFault}
 use Rattle.json_patch.specs.declared.walk.StepFault.TheVariants.{Refused, Memory}
-use Rattle.json_patch.proofs.Blocks.{settled_only}
 use Rattle.json_patch.proofs.Resolved.{split_is}
-use Rattle.json_patch.proofs.Slots.{slot_aims}
 use Rattle.json_patch.proofs.Stepped.{prefix_begins, not_begins}
 use Rattle.json_patch.proofs.Undone.{found_append}
 
@@ -61,33 +60,37 @@ found_none d P F t c is at here = ap (found d) is ∙ found_append d F (t ∷ []
 
 -- ---- what undoes an add
 
-undo_add_in : (d : Data) (P F : Pointer) (t : List ℕ) → P ≡ F ++ t ∷ [] → undo_add d P ≡ undo_in d F t P (found d F)
+pub undo_add_in : (d : Data) (P F : Pointer) (t : List ℕ) → P ≡ F ++ t ∷ [] → undo_add d P ≡ undo_in d F t P (found d F)
 undo_add_in d [] F t is = absurd (no_last F t is)
 undo_add_in d (s ∷ P) F t is = let e = split_is s P F t is in rw (e.0, e.1) refl
 
-undo_later : (P F : Pointer) (t : List ℕ) (i : ℕ) → P ≡ F ++ t ∷ [] → undo_from P (LaterItems i) ≡ remove (F ++ token_of i ∷ [])
-undo_later [] F t i is = absurd (no_last F t is)
-undo_later (s ∷ P) F t i is = let e = split_is s P F t is in rw e.0 refl
-
-settles : (t : List ℕ) (ds : Items) (i : ℕ) → slot_of t ds ≡ Some i → token_of i ≡ settled_token (Some (array ds)) t
-settles t ds i is = settled_only t ds i (token_of i) (slot_aims t ds i is) ((place_is_token (token_of i) i).1 refl)
-
-undo_found : (was : Displaced) (v : Value) (d c : Data) (P F : Pointer) (t : List ℕ) → P ≡ F ++ t ∷ [] → found d F ≡ Some c → Displaces (Insert v) t c was → undo_from P was ≡ undo_in d F t P (Some c)
-undo_found (LaterItems i) v d (array ds) P F t is at h = undo_later P F t i is ∙ ap (λ x. remove (F ++ x ∷ [])) (settles t ds i h)
-undo_found Nothing v d (object ms) P F t is at h = sym (ap (undo_at P) (found_none d P F t (object ms) is at h))
-undo_found (Former w) v d (object ms) P F t is at h = sym (ap (undo_at P) (found_in d P F t (object ms) (view w) is at h))
+undo_found : (was : Displaced) (v : Value) (d c : Data) (P F : Pointer) (t : List ℕ) → P ≡ F ++ t ∷ [] → found d F ≡ Some c → Displaces (Insert v) t c was
+    → undo_in d F t P (Some c) ≡ undo_at_place (path_of (undo_in d F t P (Some c))) was
+undo_found Nothing v d (array ds) P F t is at h = refl
+undo_found Nothing v d (object ms) P F t is at h = rw (found_none d P F t (object ms) is at h) refl
+undo_found (Former w) v d (object ms) P F t is at h = rw (found_in d P F t (object ms) (view w) is at h) refl
+undo_found (Taken w) v d (array ds) P F t is at h = absurd h
 undo_found was v d c P F t is at h = absurd h
 
-pub undo_as_found : (r : Result Displaced StepFault) (v : Value) (d : Data) (P F : Pointer) (t : List ℕ) → P ≡ F ++ t ∷ [] → IfOk r (DisplacesAt (Insert v) d F t) → IfOk r (λ was. undo_from P was ≡ undo_add d P)
-undo_as_found (Err e) v d P F t is h = h
-undo_as_found (Ok was) v d P F t is h = undo_found was v d h.0 P F t is h.1 h.2 ∙ sym (undo_add_in d P F t is ∙ ap (undo_in d F t P) h.1)
+pub undo_as_found : (r : Result Displaced StepFault) (v : Value) (d : Data) (P F : Pointer) (t : List ℕ) (x : Data) → P ≡ F ++ t ∷ [] → IfOk r (DisplacesAt (Insert v) d F t) → IfOk r (Undoes d (add P x))
+undo_as_found (Err e) v d P F t x is h = h
+undo_as_found (Ok was) v d P F t x is h =
+    ap (λ o. o ∷ []) (subst (λ u. u ≡ undo_at_place (path_of u) was) (sym (undo_add_in d P F t is ∙ ap (undo_in d F t P) h.1)) (undo_found was v d h.0 P F t is h.1 h.2))
 
--- ---- attempts
+pub undo_swapped : (r : Result Displaced StepFault) (v : Value) (d : Data) (P F : Pointer) (t : List ℕ) (x : Data) → P ≡ F ++ t ∷ [] → IfOk r (DisplacesAt (Swap v) d F t) → IfOk r (Undoes d (replace P x))
+undo_swapped (Ok (Former w)) v d P F t x is h = rw (found_in d P F t h.0 (view w) is h.1 h.2) refl
+undo_swapped (Ok was) v d P F t x is h = absurd h.2
+undo_swapped (Err e) v d P F t x is h = h
 
--- an error that `?` passed on
-pub passed_on : {T : Type 0} (r : Result T StepFault) (fault : StepFault) (wanted wanted' : Option Data) (old new : Data) → IsErr r × IsErrAnd r (λ f. f ≡ fault) → wanted' ≡ wanted → Excuses fault wanted × (new ≡ old) → Attempts r wanted' old new
-passed_on (Ok x) fault wanted wanted' old new h same e = absurd h.1
-passed_on (Err f) fault wanted wanted' old new h same e = rw (h.1, same) e
+pub taken_there : (r : Result Displaced StepFault) (d : Data) (P F : Pointer) (t : List ℕ) → P ≡ F ++ t ∷ [] → IfOk r (DisplacesAt Take d F t) → IfOk r (IsTaken d P)
+taken_there (Ok (Taken w)) d P F t is h = found_in d P F t h.0 (view w) is h.1 h.2
+taken_there (Ok was) d P F t is h = absurd h.2
+taken_there (Err e) d P F t is h = h
+
+pub undo_taken : (r : Result Displaced StepFault) (d : Data) (P : Pointer) → IfOk r (IsTaken d P) → IfOk r (Undoes d (remove P))
+undo_taken (Ok (Taken w)) d P h = rw h refl
+undo_taken (Ok was) d P h = absurd h
+undo_taken (Err e) d P h = h
 
 -- ---- a move
 
@@ -114,14 +117,18 @@ move_nowhere d F P out none = rw (not_begins F P out, none) (no_source P (found 
 pub not_inside : (F P : Pointer) → (IsTrue false ↔ IsProperPrefix F P) → IsProperPrefix F P → ⊥
 not_inside F P h p = let yes : false ≡ true = h.1 p in cc
 
--- the value is out, and can't be added
-pub move_stops : {T : Type 0} (r : Result T StepFault) (fault : StepFault) (d m e : Data) (v : Value) (F P : Pointer) → IsErr r × IsErrAnd r (λ f. f ≡ fault) → TakesOut d m F P v → Excuses fault (added m P (view v)) → Steps r (stepped d (move F P)) e
-move_stops (Ok x) fault d m e v F P gives out h = absurd gives.1
-move_stops {T} (Err f) fault d m e v F P gives out h =
-    moves {T = T} (Err f) d m m (view v) F P out.0 out.1 out.2 (subst (λ g. Excuses g (added m P (view v))) (sym gives.1) h, refl)
+-- the value is out, and is added or not
+pub move_goes : {T : Type 0} (r : Result T StepFault) (d m e : Data) (v : Value) (S F P G Q : Pointer) → F ≡ drop (length S) G → P ≡ drop (length S) Q → TakesOut d m F P v → Attempts r (added m P (view v)) m e
+    → Steps r (stepped d (stripped S (move G Q))) e
+move_goes r d m e v S F P G Q from path out h =
+    subst (λ X. Steps r (stepped d (move X (drop (length S) Q))) e) from (subst (λ X. Steps r (stepped d (move F X)) e) path (moves r d m e (view v) F P out.0 out.1 out.2 h))
 
-pub move_ends : (d m e : Data) (v : Value) (F P : Pointer) → TakesOut d m F P v → added m P (view v) ≡ Some e → stepped d (move F P) ≡ Ok e
-move_ends d m e v F P out h = moves {T = Unit {0}} (Ok tt) d m e (view v) F P out.0 out.1 out.2 h
+-- what `?` passed on
+pub move_stops : {T : Type 0} (U : Type 0) (r : Result T StepFault) (fault : StepFault) (d m e : Data) (v : Value) (S F P G Q : Pointer) → F ≡ drop (length S) G → P ≡ drop (length S) Q → IsErr r × IsErrAnd r (λ f. f ≡ fault) → TakesOut d m F P v
+    → Attempts {T = U} (Err fault) (added m P (view v)) m e → Steps r (stepped d (stripped S (move G Q))) e
+move_stops U (Ok x) fault d m e v S F P G Q from path gives out h = absurd gives.1
+move_stops {T} U (Err f) fault d m e v S F P G Q from path gives out h =
+    move_goes {T = T} (Err f) d m e v S F P G Q from path out (subst (λ g. Attempts {T = T} (Err g) (added m P (view v)) m e) (sym gives.1) h)
 
 -- ---- a place by its number
 
@@ -137,7 +144,3 @@ unescaped_parts P F t is h = split F (subst AreUnescaped is h)
     split : (G : Pointer) → AreUnescaped (G ++ t ∷ []) → AreUnescaped G × IsUnescaped t
     split [] g = (tt, g.0)
     split (s ∷ G) g = let more = split G g.1 in ((g.0, more.0), more.1)
-
-pub never_short : {T : Type 0} (U : Type 0) (r : Result T StepFault) (fault : StepFault) → IsErr r × IsErrAnd r (λ f. f ≡ fault) → NeverShort {T = U} (Err fault) → NeverShort r
-never_short U (Ok x) fault gives h = tt
-never_short U (Err f) fault gives h = subst (λ g. NeverShort {T = U} (Err g)) (sym gives.1) h

@@ -112,15 +112,6 @@ tests_end d [] e t h = sym h
 tests_end d (test P v ∷ ops) e t h = tests_end h.0 ops e t h.2 ∙ h.1.1
 tests_end d (op ∷ ops) e t h = absurd t
 
--- ---- one operation more
-
-pub accepts_push : (d : Data) (xs : List Operation) (m : Data) (op : Operation) (e : Data) → Accepts d xs m → Leaves m op e → Accepts d (xs ++ op ∷ []) e
-accepts_push d xs m op e h l = accepts_joined d xs (op ∷ []) m e h (e, l, refl)
-
-pub refuses_here : (d : Data) (xs : List Operation) (m : Data) (op : Operation) (ys : List Operation) (kind : PatchErrorKind) → Accepts d xs m → Refuses m op kind → RefusesAt d (xs ++ op ∷ ys) (length xs) kind
-refuses_here d xs m op ys kind h r =
-    let e : length xs + 0 ≡ length xs = omega arith in subst (λ n. RefusesAt d (xs ++ op ∷ ys) n kind) e (refuses_second d xs (op ∷ ys) m 0 kind h r)
-
 -- a refused list is accepted up to the operation that is refused
 pub refused_after : (d : Data) (ops : List Operation) (k : ℕ) (kind : PatchErrorKind) → RefusesAt d ops k kind → (m : Data) × Accepts d (take k ops) m
 refused_after d [] k kind h = absurd h

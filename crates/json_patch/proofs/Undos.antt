@@ -1,5 +1,5 @@
 -- A recorded run, undone.
-use Rattle.std.proofs.Common.{◌≡◌, ◌+◌, ◌<◌, ◌≤◌, ℕ, zero, suc, List, [], ◌∷◌, ◌++◌, length, take, map, Bool, true, false, bytes_eq, if◌then◌else◌, Vec, vec_len, Global, Option, Some, None, Result, Ok, Err, IfOk, refl, sym, ap, ◌∙◌, subst, append_assoc, arith}
+use Rattle.std.proofs.Common.{◌≡◌, ◌+◌, ◌<◌, ◌≤◌, ℕ, zero, suc, List, [], ◌∷◌, ◌++◌, length, drop, take, map, Bool, true, false, bytes_eq, if◌then◌else◌, Vec, vec_len, Global, Option, Some, None, Result, Ok, Err, IfOk, refl, sym, ap, ◌∙◌, subst, append_assoc, arith}
 use Rattle.std.specs.Int.Digits.{AllBelowBase, digits_of}
 use Rattle.std.specs.declared.alloc.AllocError.{AllocError}
 use Rattle.std.proofs.lemmas.Int.Digits.{all_below_base_digits_of}
@@ -10,21 +10,24 @@ use Rattle.serde_json.specs.Events.{items_len}
 use Rattle.serde_json.specs.View.{view}
 use Rattle.serde_json.specs.declared.value.Value.{Value, Array}
 use Rattle.serde_json.proofs.Views.{items_len-items_view, view-Array}
-use Rattle.jsonptr.specs.Text.{Pointer, ReplacesLast, encoded, encoded_byte}
+use Rattle.jsonptr.specs.Text.{Pointer, IsPrefix, ReplacesLast, encoded, encoded_byte}
 use Rattle.jsonptr.specs.Places.{next_token, token_of}
 use Rattle.std.proofs.lemmas.Bool.{ne_eqb}
 use Rattle.json_patch.specs.Attempt.{TakesOut}
 use Rattle.json_patch.specs.ChangeComputed.{found, front_of, last_of}
-use Rattle.json_patch.specs.Edits.{undo_from, undo_at_place}
+use Rattle.json_patch.specs.Edits.{Undoes, place_to_undo, undo_at_place}
 use Rattle.json_patch.specs.InPlace.{AreUnescaped, IsUnescaped}
 use Rattle.json_patch.specs.InverseComputed.{block, settled_token, undo_add, undo_at, undo_in, with_found}
 use Rattle.json_patch.specs.Operation.{Operation, add, remove, replace, move, copy, test, operation_of, operations, path_of}
 use Rattle.json_patch.specs.RunComputed.{Outcome, fault, counted, ran, ran_on, stepped}
-use Rattle.json_patch.specs.Undoing.{AreUndos, IsUndo, IsUndoable, count_in}
+use Rattle.json_patch.specs.PartRun.{block_at}
+use Rattle.json_patch.specs.SharedComputed.{stripped, extended, extended_all}
+use Rattle.json_patch.specs.Undoing.{AreUndos, IsOne, IsUndo, IsUndoable, count_in}
 use Rattle.json_patch.specs.declared.error.PatchErrorKind.{PatchErrorKind}
 use Rattle.json_patch.specs.declared.operation.PatchOperation.{PatchOperation}
 use Rattle.json_patch.specs.declared.walk.Displaced.{Displaced}
-use Rattle.json_patch.specs.declared.walk.Displaced.TheVariants.{Nothing, LaterItems, Former}
+use Rattle.json_patch.specs.declared.walk.Displaced.TheVariants.{Nothing, Former, Taken}
+use Rattle.json_patch.proofs.Below.{strip}
 use Rattle.json_patch.proofs.Indices.{not_next}
 use Rattle.json_patch.proofs.Parents.{no_last}
 use Rattle.json_patch.proofs.Resolved.{split_is, split_whole}
@@ -88,38 +91,47 @@ pub place_no_list : (d : Data) (P F : Pointer) (t : List ℕ) → P ≡ F ++ t �
 place_no_list d P F t is next none =
     is ∙ ap (λ u. F ++ u ∷ []) (next ∙ sym (settled_last (found d F) (sym none)) ∙ ap (settled_token (found d F)) (sym next)) ∙ sym (place_settled d P F t is)
 
-pub place_numbered : (r : Result Pointer AllocError) (d : Data) (P F : Pointer) (t u : List ℕ) (n : ℕ) → P ≡ F ++ t ∷ [] → t ≡ next_token → Some n ≡ count_in (found d F) → u ≡ token_of n → IfOk r (ReplacesLast P u) → IfOk r (λ Q. Q ≡ path_of (undo_add d P))
-place_numbered (Ok Q) d P F t u n is next count named at =
-    at F t is ∙ ap (λ x. F ++ x ∷ []) (named ∙ sym (settled_next (found d F) n (sym count)) ∙ ap (settled_token (found d F)) (sym next)) ∙ sym (place_settled d P F t is)
-place_numbered (Err e) d P F t u n is next count named at = at
+-- the place in the document, where the tokens of S lead to d
+pub place_numbered : (r : Result Pointer AllocError) (d : Data) (S P R F : Pointer) (t u : List ℕ) (n : ℕ) → P ≡ S ++ R → R ≡ F ++ t ∷ [] → t ≡ next_token → Some n ≡ count_in (found d F) → u ≡ token_of n → IfOk r (ReplacesLast P u)
+    → IfOk r (λ Q. Q ≡ S ++ path_of (undo_add d R))
+place_numbered (Ok Q) d S P R F t u n whole is next count named at =
+    at (S ++ F) t (whole ∙ ap (λ x. S ++ x) is ∙ sym (append_assoc S F (t ∷ []))) ∙ append_assoc S F (u ∷ [])
+    ∙ ap (λ x. S ++ (F ++ x ∷ [])) (named ∙ sym (settled_next (found d F) n (sym count)) ∙ ap (settled_token (found d F)) (sym next)) ∙ ap (λ x. S ++ x) (sym (place_settled d R F t is))
+place_numbered (Err e) d S P R F t u n whole is next count named at = at
 
-pub place_kept : (r : Result Pointer AllocError) (P Q : Pointer) → P ≡ Q → IfOk r (λ b. b ≡ P) → IfOk r (λ b. b ≡ Q)
-place_kept (Ok b) P Q same h = h ∙ same
-place_kept (Err e) P Q same h = h
+pub place_kept : (r : Result Pointer AllocError) (S P R Q : Pointer) → P ≡ S ++ R → R ≡ Q → IfOk r (λ b. b ≡ P) → IfOk r (λ b. b ≡ S ++ Q)
+place_kept (Ok b) S P R Q whole same h = h ∙ whole ∙ ap (λ x. S ++ x) same
+place_kept (Err e) S P R Q whole same h = h
+
+pub prefix_rest : (S P : Pointer) → IsPrefix S P → P ≡ S ++ drop (length S) P
+prefix_rest S P h = h.1 ∙ ap (λ R. S ++ R) (sym (ap (drop (length S)) h.1 ∙ strip S h.0))
 
 pub count_here : (n : ℕ) (v : Value) (m : Vec Value Global) → n ≡ vec_len m → v ≡ Array m → Some n ≡ count_in (Some (view v))
 count_here n v m len is = let same : n ≡ length m.items = omega arith in rw (is, view-Array m) (ap Some (same ∙ sym (items_len-items_view m.items)))
 
--- ---- what undoes an operation, at that place
-
-placed : (P : Pointer) (was : Displaced) → undo_at_place (path_of (undo_from P was)) was ≡ undo_from P was
-placed P Nothing = refl
-placed P (LaterItems i) = refl
-placed P (Former w) = refl
-
-pub undo_placed : (d : Data) (P place : Pointer) (was : Displaced) → place ≡ path_of (undo_add d P) → undo_from P was ≡ undo_add d P → undo_at_place place was ≡ undo_add d P
-undo_placed d P place was at is = ap (λ Q. undo_at_place Q was) (at ∙ sym (ap path_of is)) ∙ placed P was ∙ is
-
 -- ---- what is recorded
+
+at_place : (S P : Pointer) (was : Displaced) → extended S (undo_at_place P was) ≡ undo_at_place (S ++ P) was
+at_place S P Nothing = refl
+at_place S P (Former w) = refl
+at_place S P (Taken w) = refl
 
 one_more : (olds news : List PatchOperation) (u : PatchOperation) (op : Operation) → news ≡ olds ++ u ∷ [] → operation_of u ≡ op → operations news ≡ operations olds ++ op ∷ []
 one_more olds news u op is same = ap operations is ∙ map-append operation_of olds (u ∷ []) ∙ ap (λ o. operations olds ++ o ∷ []) same
 
-pub records_move : (olds held mids news : List PatchOperation) (a u : PatchOperation) (d m : Data) (v : Value) (F P place : Pointer) (was : Displaced) → held ≡ olds → mids ≡ held ++ a ∷ [] → news ≡ mids ++ u ∷ []
-    → operation_of a ≡ add F (view v) → operation_of u ≡ undo_at_place place was → TakesOut d m F P v → place ≡ path_of (undo_add m P) → undo_from P was ≡ undo_add m P → operations news ≡ operations olds ++ reverse (block d (move F P))
-records_move olds held mids news a u d m v F P place was room first second puts takes out at is =
-    one_more mids news u (undo_add m P) second (takes ∙ undo_placed m P place was at is) ∙ ap (λ B. B ++ undo_add m P ∷ []) (one_more olds mids a (add F (view v)) (first ∙ ap (λ us. us ++ a ∷ []) room) puts)
-    ∙ append_assoc (operations olds) (add F (view v) ∷ []) (undo_add m P ∷ []) ∙ rw (out.1, out.2) refl
+first_of : (u w : Operation) (us ws : List Operation) → ◌≡◌ {A = List Operation} (u ∷ us) (w ∷ ws) → u ≡ w
+first_of u w us ws is = cc
+
+pub records_move : (olds held mids news : List PatchOperation) (a u : PatchOperation) (d m : Data) (v : Value) (S G Q place : Pointer) (was : Displaced) (x : Data) → held ≡ olds → mids ≡ held ++ a ∷ [] → news ≡ mids ++ u ∷ []
+    → operation_of a ≡ add G (view v) → operation_of u ≡ undo_at_place place was → IsPrefix S G → TakesOut d m (drop (length S) G) (drop (length S) Q) v → place ≡ S ++ path_of (undo_add m (drop (length S) Q))
+    → Undoes m (add (drop (length S) Q) x) was → operations news ≡ operations olds ++ reverse (block_at d S (move G Q))
+records_move olds held mids news a u d m v S G Q place was x room first second puts takes begun out at is =
+    let F = drop (length S) G in let P = drop (length S) Q in
+    let taken : operation_of u ≡ extended S (undo_add m P) =
+    takes ∙ ap (λ R. undo_at_place R was) at ∙ sym (at_place S (path_of (undo_add m P)) was) ∙ ap (extended S) (sym (first_of (undo_add m P) (undo_at_place (path_of (undo_add m P)) was) [] [] is)) in
+    let put : operation_of a ≡ add (S ++ F) (view v) = puts ∙ ap (λ R. add R (view v)) (prefix_rest S G begun) in
+    one_more mids news u (extended S (undo_add m P)) second taken ∙ ap (λ B. B ++ extended S (undo_add m P) ∷ []) (one_more olds mids a (add (S ++ F) (view v)) (first ∙ ap (λ us. us ++ a ∷ []) room) put)
+    ∙ append_assoc (operations olds) (add (S ++ F) (view v) ∷ []) (extended S (undo_add m P) ∷ []) ∙ rw (out.1, out.2) refl
 
 -- ---- without memory
 

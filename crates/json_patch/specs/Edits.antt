@@ -1,63 +1,57 @@
 -- For private clauses: what an edit makes of a container, and what it finds at its place.
-use Rattle.std.specs.Prelude.{◌≡◌, ℕ, List, [], ◌∷◌, ◌++◌, Option, Some, None, option_map}
+use Rattle.std.specs.Prelude.{◌≡◌, ℕ, List, [], ◌∷◌, Option, Some, None}
 use Rattle.serde_json.specs.Data.{Data, array, object}
 use Rattle.serde_json.specs.View.{view}
 use Rattle.jsonptr.specs.Text.{Pointer}
-use Rattle.jsonptr.specs.Places.{token_of}
-use Rattle.json_patch.specs.Document.{place, child}
-use Rattle.json_patch.specs.ChangeComputed.{put_in, take_from, remove_item, slot_of, found, altered, removed, replaced, front_of}
-use Rattle.json_patch.specs.Operation.{Operation, remove, replace}
+use Rattle.json_patch.specs.ChangeComputed.{put_in, take_from, found, altered}
+use Rattle.json_patch.specs.InverseComputed.{block, undo_add}
+use Rattle.json_patch.specs.Operation.{Operation, add, remove, replace, move, copy, test, path_of}
 use Rattle.json_patch.specs.declared.walk.Edit.{Edit}
-use Rattle.json_patch.specs.declared.walk.Edit.TheVariants.{Insert, Take, TakeItem, Swap}
+use Rattle.json_patch.specs.declared.walk.Edit.TheVariants.{Insert, Take, Swap}
 use Rattle.json_patch.specs.declared.walk.Displaced.{Displaced}
-use Rattle.json_patch.specs.declared.walk.Displaced.TheVariants.{Nothing, LaterItems, Former}
-
--- the list without its item at i
-abbrev pub item_gone : ℕ → Data → Option Data
-item_gone i (array ds) = option_map (λ c. array (remove_item i ds)) (child (place i) (array ds))
-item_gone i d = None
+use Rattle.json_patch.specs.declared.walk.Displaced.TheVariants.{Nothing, Former, Taken}
 
 -- what the edit makes of a container, at a token
 abbrev pub made_by : Edit → List ℕ → Data → Option Data
 made_by (Insert v) t d = put_in (view v) t d
 made_by Take t d = take_from t d
-made_by (TakeItem i) t d = item_gone i d
 made_by (Swap v) t d = altered (λ c. Some (view v)) d (t ∷ [])
 
 -- what the edit finds in a container at a token
 abbrev pub Displaces : Edit → List ℕ → Data → Displaced → Type 0
-Displaces (Insert v) t (array ds) (LaterItems i) = slot_of t ds ≡ Some i
+Displaces (Insert v) t (array ds) Nothing = Unit {0}
 Displaces (Insert v) t (object ms) Nothing = found (object ms) (t ∷ []) ≡ None
 Displaces (Insert v) t (object ms) (Former w) = found (object ms) (t ∷ []) ≡ Some (view w)
-Displaces Take t d (Former w) = found d (t ∷ []) ≡ Some (view w)
+Displaces Take t d (Taken w) = found d (t ∷ []) ≡ Some (view w)
 Displaces (Swap v) t d (Former w) = found d (t ∷ []) ≡ Some (view w)
-Displaces (TakeItem i) t d was = Unit {0}
 Displaces edit t d was = ⊥
 
 -- the same in the container that stands at a pointer
 abbrev pub DisplacesAt : Edit → Data → Pointer → List ℕ → Displaced → Type 0
 DisplacesAt edit d P t was = (c : Data) × (found d P ≡ Some c) × Displaces edit t c was
 
--- P with another last token
-abbrev pub with_last : Pointer → List ℕ → Pointer
-with_last [] u = []
-with_last (t ∷ P) u = front_of t P ++ u ∷ []
-
--- what takes back an add at P that found this
-abbrev pub undo_from : Pointer → Displaced → Operation
-undo_from P Nothing = remove P
-undo_from P (LaterItems i) = remove (with_last P (token_of i))
-undo_from P (Former w) = replace P (view w)
-
--- the same, at the place where it works
+-- what takes back, at this place, a change that found this
 abbrev pub undo_at_place : Pointer → Displaced → Operation
 undo_at_place P Nothing = remove P
-undo_at_place P (LaterItems i) = remove P
 undo_at_place P (Former w) = replace P (view w)
+undo_at_place P (Taken w) = add P (view w)
 
--- the document before a change at P that found this
-abbrev pub undone : Displaced → Pointer → Data → Option Data
-undone Nothing P d = removed d P
-undone (LaterItems i) [] d = None
-undone (LaterItems i) (t ∷ P) d = altered (item_gone i) d (front_of t P)
-undone (Former w) P d = replaced d P (view w)
+-- it is what stood at P
+abbrev pub IsTaken : Data → Pointer → Displaced → Type 0
+IsTaken d P (Taken w) = found d P ≡ Some (view w)
+IsTaken d P was = ⊥
+
+-- where the operation works that takes back this one
+abbrev pub place_to_undo : Data → Operation → Pointer
+place_to_undo d (add P v) = path_of (undo_add d P)
+place_to_undo d (remove P) = P
+place_to_undo d (replace P v) = P
+place_to_undo d (move F P) = P
+place_to_undo d (copy F P) = path_of (undo_add d P)
+place_to_undo d (test P v) = P
+
+-- it tells what undoes op; of a `move` and a `test` nothing is said
+abbrev pub Undoes : Data → Operation → Displaced → Type 0
+Undoes d (move F P) was = Unit {0}
+Undoes d (test P v) was = Unit {0}
+Undoes d op was = block d op ≡ undo_at_place (place_to_undo d op) was ∷ []

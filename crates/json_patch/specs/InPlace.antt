@@ -3,7 +3,7 @@ use Rattle.std.specs.Prelude.{◌≡◌, ℕ, List, [], ◌∷◌, Result, Ok, E
 use Rattle.jsonptr.specs.Text.{Pointer, encoded}
 use Rattle.json_patch.specs.Operation.{Operation, add, remove, replace, move, copy, test}
 use Rattle.json_patch.specs.declared.walk.Edit.{Edit}
-use Rattle.json_patch.specs.declared.walk.Edit.TheVariants.{Insert, Take, TakeItem, Swap}
+use Rattle.json_patch.specs.declared.walk.Edit.TheVariants.{Insert, Take, Swap}
 use Rattle.json_patch.specs.declared.walk.StepFault.{StepFault}
 use Rattle.json_patch.specs.declared.walk.StepFault.TheVariants.{Refused, Memory}
 
@@ -43,7 +43,6 @@ AreTestsThenRemove (op ∷ ops) = ⊥
 abbrev pub IsLight : Edit → Type 0
 IsLight (Insert v) = ⊥
 IsLight Take = Unit {0}
-IsLight (TakeItem i) = Unit {0}
 IsLight (Swap v) = Unit {0}
 
 -- memory wasn't short

@@ -1,5 +1,5 @@
--- Operations without the tokens that all their pointers begin with, and those tokens, computed.
-use Rattle.std.specs.Prelude.{List, [], ◌∷◌, ◌++◌, length, drop, bytes_eq, Option, Some, None, if◌then◌else◌}
+-- Operations without the tokens that all their pointers begin with, operations with more of them, and those tokens, computed.
+use Rattle.std.specs.Prelude.{List, [], ◌∷◌, ◌++◌, length, drop, map, bytes_eq, Option, Some, None, if◌then◌else◌}
 use Rattle.jsonptr.specs.Text.{Pointer}
 use Rattle.json_patch.specs.Operation.{Operation, add, remove, replace, move, copy, test}
 use Rattle.json_patch.specs.ChangeComputed.{front_of}
@@ -16,6 +16,18 @@ stripped S (test P v) = test (drop (length S) P) v
 abbrev pub stripped_all : Pointer → List Operation → List Operation
 stripped_all S [] = []
 stripped_all S (op ∷ ops) = stripped S op ∷ stripped_all S ops
+
+-- op with the tokens of S in front of each pointer
+abbrev pub extended : Pointer → Operation → Operation
+extended S (add P v) = add (S ++ P) v
+extended S (remove P) = remove (S ++ P)
+extended S (replace P v) = replace (S ++ P) v
+extended S (move F P) = move (S ++ F) (S ++ P)
+extended S (copy F P) = copy (S ++ F) (S ++ P)
+extended S (test P v) = test (S ++ P) v
+
+abbrev pub extended_all : Pointer → List Operation → List Operation
+extended_all S ops = map (extended S) ops
 
 -- the longest list of tokens that begins both
 abbrev pub common : Pointer → Pointer → Pointer

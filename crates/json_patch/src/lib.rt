@@ -14,7 +14,6 @@ mod resolving;
 mod run;
 mod shared;
 mod step;
-mod undoing;
 mod walk;
 mod wholeness;
 mod writing;

@@ -1,90 +1,200 @@
 //! Operations that are recorded: each hands back what undoes it.
 
-ghost use Rattle.std.specs.Prelude.{◌≡◌, ◌++◌, IfOk, OnOk, OnErr, Ok, option_map, string_bytes};
+ghost use Rattle.std.specs.Prelude.{◌≡◌, ◌++◌, ◌↔◌, [], Bool, false, IfOk, IsTrue, OnOk, OnErr, Ok, if◌then◌else◌, drop, length, option_map, string_bytes};
 ghost use mathlib.Core.List.{reverse};
 ghost use Rattle.serde_json.specs.Data.{Data};
 ghost use Rattle.serde_json.specs.View.{view};
 ghost use Rattle.jsonptr.specs.Places.{token_of};
+ghost use Rattle.jsonptr.specs.Pointers.{tokens_of};
+ghost use Rattle.jsonptr.specs.Text.{IsPrefix};
 ghost use Rattle.json_patch.specs.Attempt.{Steps};
-ghost use Rattle.json_patch.specs.Edits.{undo_at_place};
+ghost use Rattle.json_patch.specs.Edits.{place_to_undo, undo_at_place};
+ghost use Rattle.json_patch.specs.InPlace.{AreUnescaped, IsInPlace, NeverShort};
 ghost use Rattle.json_patch.specs.InverseComputed.{block, undo_add};
-ghost use Rattle.json_patch.specs.Operation.{IsMove, move_of, operation_of, operations, path_of, remove_of};
+ghost use Rattle.json_patch.specs.Operation.{IsMove, move_of, operation_of, operations, path_of};
+ghost use Rattle.json_patch.specs.PartRun.{IsBegun, block_at};
 ghost use Rattle.json_patch.specs.RunComputed.{ran, stepped};
-ghost use Rattle.json_patch.specs.Undoing.{AreUndos, IsPut, IsUndo, count_in, place_to_undo};
+ghost use Rattle.json_patch.specs.SharedComputed.{stripped};
+ghost use Rattle.json_patch.specs.Undoing.{AreUndos, IsOne, IsUndo, IsUndoable, count_in};
 
 use crate::operation::{
     AddOperation, MoveOperation, PatchOperation, RemoveOperation, ReplaceOperation,
 };
-use crate::step::{add, remove, replace, take_out, test};
-use crate::undoing::put;
+use crate::step::{add, below, remove, replace, step, take_out};
 use crate::walk::{Displaced, StepFault, find};
-use jsonptr::PointerBuf;
+use jsonptr::{Pointer, PointerBuf};
 use serde_json::Value;
 use std::alloc::{AllocError, Global};
 
-/// Makes the operation and records, last first, the operations that undo it. Where it fails, the
-/// record is left as it was, and so is the document but for a `move`, which may have lost the value:
-/// it is for a copy of the document.
-pub(crate) fn record_step(
-    alloc: Global,
-    doc: &mut Value,
-    operation: &PatchOperation,
-    undo: &mut Vec<PatchOperation>,
-) -> Result<(), StepFault>
-    ensures leaves { Steps result (stepped (view doc.old) (operation_of operation.now)) (view doc.new) }
-    ensures records { OnOk result (operations undo.new.items
-        ≡ operations undo.old.items ++ reverse (block (view doc.old) (operation_of operation.now))) }
-    ensures kept { OnErr result (operations undo.new.items ≡ operations undo.old.items) }
-    ensures unchanged { OnErr result
-        ((IsMove (operation_of operation.now) → ⊥) → view doc.new ≡ view doc.old) }
+/// Whether the operation can be undone with no memory: a `test`, or an `add`, `replace` or `copy` at
+/// a path whose text holds no `~`.
+pub(crate) fn is_undoable(operation: &PatchOperation) -> bool
+    ensures { IsTrue result ↔ IsUndoable (operation_of operation.now) }
 {
     match operation {
-        PatchOperation::Add(made) => {
-            let place = undo_place(alloc, doc, &made.path)?;
-            record_put(alloc, doc, operation, place, undo)
-        }
-        PatchOperation::Remove(made) => record_remove(alloc, doc, made, undo),
-        PatchOperation::Replace(made) => {
-            let place = made.path.clone(alloc)?;
-            record_put(alloc, doc, operation, place, undo)
-        }
-        PatchOperation::Move(made) => record_move(alloc, doc, made, undo),
-        PatchOperation::Copy(made) => {
-            let place = undo_place(alloc, doc, &made.path)?;
-            record_put(alloc, doc, operation, place, undo)
-        }
-        PatchOperation::Test(made) => test(doc, made.path.as_pointer(), &made.value),
+        PatchOperation::Add(operation) => is_unescaped(operation.path.as_pointer()),
+        PatchOperation::Replace(operation) => is_unescaped(operation.path.as_pointer()),
+        PatchOperation::Copy(operation) => is_unescaped(operation.path.as_pointer()),
+        PatchOperation::Remove(_) | PatchOperation::Move(_) => false,
+        PatchOperation::Test(_) => true,
     }
 }
 
-/// Makes an `add`, `replace` or `copy`, and records what undoes it, which works at `place`.
-fn record_put(
+/// Whether the pointer's text holds no `~`.
+fn is_unescaped(path: Pointer<'_>) -> bool
+    ensures { IsTrue result ↔ AreUnescaped (tokens_of path.entry) }
+{
+    for token in path.tokens() {
+        if !token.is_key(token.encoded()) {
+            return false;
+        }
+    }
+    true
+}
+
+/// Makes the operation as [`step`] does, and where `keep` says so, records what undoes it.
+pub(crate) fn step_keeping(
     alloc: Global,
     doc: &mut Value,
+    base: Pointer<'_>,
+    operation: &PatchOperation,
+    keep: bool,
+    undo: &mut Vec<PatchOperation>,
+) -> Result<(), StepFault>
+    requires { IsBegun (tokens_of base) (operation_of operation.now) }
+    ensures leaves { Steps result
+        (stepped (view doc.old) (stripped (tokens_of base.entry) (operation_of operation.now)))
+        (view doc.new) }
+    ensures records { OnOk result (operations undo.new.items ≡ operations undo.old.items
+        ++ (if keep then reverse (block_at (view doc.old) (tokens_of base.entry) (operation_of operation.now)) else [])) }
+    ensures kept { OnErr result (operations undo.new.items ≡ operations undo.old.items) }
+    ensures unchanged { OnErr result
+        ((IsMove (operation_of operation.now) → ⊥) → view doc.new ≡ view doc.old) }
+    ensures in_place { keep ≡ false → IsInPlace (stripped (tokens_of base.entry) (operation_of operation.now))
+        → NeverShort result }
+{
+    if keep {
+        return record_step(alloc, doc, base, operation, undo);
+    }
+    step(alloc, doc, base, operation)?;
+    Ok(())
+}
+
+/// Makes the operation as [`step`] does, and records, last first, the operations that undo it, with
+/// all tokens of their pointers. Where it fails, the record is left as it was.
+pub(crate) fn record_step(
+    alloc: Global,
+    doc: &mut Value,
+    base: Pointer<'_>,
+    operation: &PatchOperation,
+    undo: &mut Vec<PatchOperation>,
+) -> Result<(), StepFault>
+    requires { IsBegun (tokens_of base) (operation_of operation.now) }
+    ensures leaves { Steps result
+        (stepped (view doc.old) (stripped (tokens_of base.entry) (operation_of operation.now)))
+        (view doc.new) }
+    ensures records { OnOk result (operations undo.new.items ≡ operations undo.old.items
+        ++ reverse (block_at (view doc.old) (tokens_of base.entry) (operation_of operation.now))) }
+    ensures kept { OnErr result (operations undo.new.items ≡ operations undo.old.items) }
+    ensures unchanged { OnErr result
+        ((IsMove (operation_of operation.now) → ⊥) → view doc.new ≡ view doc.old) }
+    ensures in_place { IsUndoable (operation_of operation.now)
+        → IsInPlace (operation_of operation.now) → NeverShort result }
+{
+    match operation {
+        PatchOperation::Add(made) => {
+            let place = undo_place(alloc, doc, base, &made.path)?;
+            record_one(alloc, doc, base, operation, place, undo)
+        }
+        PatchOperation::Remove(made) => {
+            let place = made.path.clone(alloc)?;
+            record_one(alloc, doc, base, operation, place, undo)
+        }
+        PatchOperation::Replace(made) => {
+            let place = made.path.clone(alloc)?;
+            record_one(alloc, doc, base, operation, place, undo)
+        }
+        PatchOperation::Move(made) => record_move(alloc, doc, base, made, undo),
+        PatchOperation::Copy(made) => {
+            let place = undo_place(alloc, doc, base, &made.path)?;
+            record_one(alloc, doc, base, operation, place, undo)
+        }
+        PatchOperation::Test(_) => {
+            step(alloc, doc, base, operation)?;
+            Ok(())
+        }
+    }
+}
+
+/// Makes the operation, and records the one that undoes it, which works at `place`.
+fn record_one(
+    alloc: Global,
+    doc: &mut Value,
+    base: Pointer<'_>,
     operation: &PatchOperation,
     place: PointerBuf,
     undo: &mut Vec<PatchOperation>,
 ) -> Result<(), StepFault>
-    requires put { IsPut (operation_of operation.now) }
-    requires at { place ≡ place_to_undo (view doc.old) (operation_of operation.now) }
-    ensures leaves { Steps result (stepped (view doc.old) (operation_of operation.now)) (view doc.new) }
-    ensures records { OnOk result (operations undo.new.items
-        ≡ operations undo.old.items ++ reverse (block (view doc.old) (operation_of operation.now))) }
+    requires begun { IsBegun (tokens_of base) (operation_of operation.now) }
+    requires one { IsOne (operation_of operation.now) }
+    requires at { place ≡ tokens_of base
+        ++ place_to_undo (view doc.old) (stripped (tokens_of base) (operation_of operation.now)) }
+    ensures leaves { Steps result
+        (stepped (view doc.old) (stripped (tokens_of base.entry) (operation_of operation.now)))
+        (view doc.new) }
+    ensures records { OnOk result (operations undo.new.items ≡ operations undo.old.items
+        ++ reverse (block_at (view doc.old) (tokens_of base.entry) (operation_of operation.now))) }
     ensures kept { OnErr result (operations undo.new.items ≡ operations undo.old.items) }
     ensures unchanged { OnErr result (view doc.new ≡ view doc.old) }
 {
     undo.reserve(1)?;
-    let was = put(alloc, doc, operation)?;
+    let was = step(alloc, doc, base, operation)?;
     undo.push_reserved(undo_of(place, was));
     Ok(())
 }
 
-/// Where the operation works that takes back an `add` at `path`: there, but that a `-` that stands
-/// for a place in a list gives way to its number.
-fn undo_place(alloc: Global, doc: &Value, path: &PointerBuf) -> Result<PointerBuf, AllocError>
-    ensures { IfOk result (λ place. place ≡ path_of (undo_add (view doc.now) path.now)) }
+/// The value stays in the document, so what puts it back holds a copy.
+fn record_move(
+    alloc: Global,
+    doc: &mut Value,
+    base: Pointer<'_>,
+    operation: &MoveOperation,
+    undo: &mut Vec<PatchOperation>,
+) -> Result<(), StepFault>
+    requires { IsBegun (tokens_of base) (move_of operation.now) }
+    ensures leaves { Steps result
+        (stepped (view doc.old) (stripped (tokens_of base.entry) (move_of operation.now)))
+        (view doc.new) }
+    ensures records { OnOk result (operations undo.new.items ≡ operations undo.old.items
+        ++ reverse (block_at (view doc.old) (tokens_of base.entry) (move_of operation.now))) }
+    ensures kept { OnErr result (operations undo.new.items ≡ operations undo.old.items) }
 {
-    if let Some((parent, last)) = path.as_pointer().split_back() {
+    undo.reserve(2)?;
+    let path = below(&operation.path, base);
+    let moved = take_out(alloc, doc, below(&operation.from, base), path)?;
+    let value = moved.clone()?;
+    let place = undo_place(alloc, doc, base, &operation.path)?;
+    let was = add(alloc, doc, path, moved)?;
+    let from = operation.from.clone(alloc)?;
+    let take_away = undo_of(place, was);
+    undo.push_reserved(PatchOperation::Add(AddOperation { path: from, value }));
+    undo.push_reserved(take_away);
+    Ok(())
+}
+
+/// Where the operation works that takes back an `add` at `path`: there, but that a `-` that stands
+/// for a place in a list gives way to its number. The tokens of `base` lead to `doc`.
+fn undo_place(
+    alloc: Global,
+    doc: &Value,
+    base: Pointer<'_>,
+    path: &PointerBuf,
+) -> Result<PointerBuf, AllocError>
+    requires { IsPrefix (tokens_of base) path.now }
+    ensures { IfOk result (λ place. place ≡ tokens_of base.entry
+        ++ path_of (undo_add (view doc.now) (drop (length (tokens_of base.entry)) path.now))) }
+{
+    if let Some((parent, last)) = below(path, base).split_back() {
         if last.is_key("-") {
             if let Some(count) = item_count(find(doc, parent.tokens())) {
                 let number = place_text(alloc, count)?;
@@ -105,13 +215,14 @@ fn item_count(list: Option<&Value>) -> Option<usize>
     }
 }
 
-/// What takes back, at this place, an `add` that found this.
+/// What takes back, at this place, a change that found this.
 fn undo_of(path: PointerBuf, was: Displaced) -> PatchOperation
     ensures { operation_of result ≡ undo_at_place path was }
 {
     match was {
+        Displaced::Nothing => PatchOperation::Remove(RemoveOperation { path }),
         Displaced::Former(value) => PatchOperation::Replace(ReplaceOperation { path, value }),
-        _ => PatchOperation::Remove(RemoveOperation { path }),
+        Displaced::Taken(value) => PatchOperation::Add(AddOperation { path, value }),
     }
 }
 
@@ -140,56 +251,6 @@ fn undo_one(alloc: Global, doc: &mut Value, operation: PatchOperation)
         }
         _ => {}
     }
-}
-
-fn record_remove(
-    alloc: Global,
-    doc: &mut Value,
-    operation: &RemoveOperation,
-    undo: &mut Vec<PatchOperation>,
-) -> Result<(), StepFault>
-    ensures leaves { Steps result (stepped (view doc.old) (remove_of operation.now)) (view doc.new) }
-    ensures records { OnOk result (operations undo.new.items
-        ≡ operations undo.old.items ++ reverse (block (view doc.old) (remove_of operation.now))) }
-    ensures kept { OnErr result (operations undo.new.items ≡ operations undo.old.items) }
-    ensures unchanged { OnErr result (view doc.new ≡ view doc.old) }
-{
-    undo.reserve(1)?;
-    let path = operation.path.clone(alloc)?;
-    let value = remove(alloc, doc, operation.path.as_pointer())?;
-    let way_back = PatchOperation::Add(AddOperation { path, value });
-    undo.push_reserved(way_back);
-    Ok(())
-}
-
-/// The value stays in the document, so what puts it back holds a copy.
-fn record_move(
-    alloc: Global,
-    doc: &mut Value,
-    operation: &MoveOperation,
-    undo: &mut Vec<PatchOperation>,
-) -> Result<(), StepFault>
-    ensures leaves { Steps result (stepped (view doc.old) (move_of operation.now)) (view doc.new) }
-    ensures records { OnOk result (operations undo.new.items
-        ≡ operations undo.old.items ++ reverse (block (view doc.old) (move_of operation.now))) }
-    ensures kept { OnErr result (operations undo.new.items ≡ operations undo.old.items) }
-{
-    undo.reserve(2)?;
-    let moved = take_out(
-        alloc,
-        doc,
-        operation.from.as_pointer(),
-        operation.path.as_pointer(),
-    )?;
-    let value = moved.clone()?;
-    let place = undo_place(alloc, doc, &operation.path)?;
-    let was = add(alloc, doc, operation.path.as_pointer(), moved)?;
-    let path = operation.from.clone(alloc)?;
-    let put_back = PatchOperation::Add(AddOperation { path, value });
-    let take_away = undo_of(place, was);
-    undo.push_reserved(put_back);
-    undo.push_reserved(take_away);
-    Ok(())
 }
 
 /// The token that names a place in a list (RFC 6901, section 4): its digits.

@@ -1,33 +1,28 @@
 //! A list of operations on a document (RFC 6902, section 5).
 
-ghost use Rattle.std.specs.Prelude.{◌≡◌, ◌≤◌, ◌+◌, ◌*◌, ◌++◌, [], ℕ, IfOk, IsOk, OnOk, OnErr, length, take};
+ghost use Rattle.std.specs.Prelude.{◌≡◌, ◌↔◌, ◌<◌, ◌≤◌, ◌+◌, ◌*◌, [], Bool, false, ℕ, IfOk, IsOk, IsTrue, OnOk, OnErr, length, take};
 ghost use mathlib.Core.List.{reverse};
 ghost use Rattle.serde_json.specs.Data.{Data};
 ghost use Rattle.serde_json.specs.View.{view};
-ghost use Rattle.json_patch.specs.Attempt.{Steps};
 ghost use Rattle.json_patch.specs.Document.{IsDocument};
 ghost use Rattle.json_patch.specs.Faulting.{Reports};
-ghost use Rattle.json_patch.specs.InPlace.{AreInPlace, AreTestsThenRemove, IsInPlace, NeverShort};
+ghost use Rattle.json_patch.specs.InPlace.{AreInPlace, AreTestsThenRemove};
 ghost use Rattle.json_patch.specs.Inverse.{ArePlain, IsInverse};
-ghost use Rattle.json_patch.specs.InverseComputed.{block, inverse};
-ghost use Rattle.json_patch.specs.Operation.{AreWhole, IsWholeOp, operation_of, operations, path_of};
-ghost use Rattle.json_patch.specs.PartRun.{IsIn, NamesIn, StopsAlone, counted_from};
+ghost use Rattle.json_patch.specs.InverseComputed.{inverse};
+ghost use Rattle.json_patch.specs.Operation.{AreWhole, IsMove, operation_of, operations, path_of};
 ghost use Rattle.json_patch.specs.Refusal.{IfRefused, NamesFirst, OnMemory};
 ghost use Rattle.json_patch.specs.Run.{Accepts, IsAccepted};
-ghost use Rattle.json_patch.specs.RunComputed.{stepped};
-ghost use Rattle.json_patch.specs.Undoing.{From};
+ghost use Rattle.json_patch.specs.Undoing.{AreRecorded, From};
 
 use crate::error::{PatchError, PatchFault};
 use crate::operation::{Patch, PatchOperation};
-use crate::record::{record_step, undo_recorded};
-use crate::shared::{RunFault, run_on_copy};
-use crate::step::step;
-use crate::undoing::{is_undoable, log_step, undo_all};
+use crate::record::{is_undoable, record_step, step_keeping, undo_recorded};
+use crate::shared::copied_part;
+use crate::step::replace;
 use crate::walk::StepFault;
 use jsonptr::Pointer;
 use serde_json::Value;
-use std::alloc::Global;
-use std::{mem, slice};
+use std::alloc::{AllocError, Global};
 
 /// Applies the operations one after another, or none of them. A refused patch leaves the document
 /// as it was, and so does one for which memory was short.
@@ -48,77 +43,9 @@ pub fn patch(alloc: Global, doc: &mut Value, patch: &[PatchOperation]) -> Result
     ensures in_place { AreTestsThenRemove (operations patch.now)
         → (e : Data) → Accepts (view doc.old) (operations patch.now) e → IsOk result }
 {
-    let mut log = Vec::new(alloc);
-    let mut number = 0;
-    while patch.len() - number > 1 && is_undoable(&patch[number]) {
-        let operation = &patch[number];
-        if let Err(fault) = log_step(alloc, doc, operation, &mut log) {
-            undo_all(alloc, doc, patch, number, log);
-            return Err(reported(alloc, number, operation, fault));
-        }
-        number += 1;
-    }
-    if let Err(fault) = run_rest(alloc, doc, patch, number) {
-        undo_all(alloc, doc, patch, number, log);
-        return Err(fault);
-    }
-    Ok(())
-}
-
-/// Makes the operations from this number on, or none of them: one in place, several on a copy.
-fn run_rest(
-    alloc: Global,
-    doc: &mut Value,
-    patch: &[PatchOperation],
-    start: usize,
-) -> Result<(), PatchFault>
-    requires document { IsDocument (view doc.old) }
-    requires whole { AreWhole (operations patch.now) }
-    requires within { start ≤ length patch.now }
-    ensures accepted { OnOk result (From (view doc.old) (operations patch.now) start
-        (λ d. Accepts d (operations patch.now) (view doc.new))) }
-    ensures refused { From (view doc.old) (operations patch.now) start
-        (λ d. IfRefused result (NamesFirst d (operations patch.now))) }
-    ensures unchanged { OnErr result (view doc.new ≡ view doc.old) }
-    ensures empty { start ≡ length patch.now → IsOk result }
-    ensures in_place { length patch.now ≤ start + 1 → AreInPlace (operations patch.now)
-        → From (view doc.old) (operations patch.now) start
-        (λ d. (e : Data) → Accepts d (operations patch.now) e → IsOk result) }
-{
-    if start == patch.len() {
-        return Ok(());
-    }
-    if patch.len() - start == 1 {
-        let operation = &patch[start];
-        return match step_in_place(alloc, doc, operation) {
-            Ok(()) => Ok(()),
-            Err(fault) => Err(reported(alloc, start, operation, fault)),
-        };
-    }
-    run_from(alloc, doc, patch, start)
-}
-
-/// Makes the operations from this number on, or none of them: they are made on a copy of the part
-/// that they share.
-fn run_from(
-    alloc: Global,
-    doc: &mut Value,
-    patch: &[PatchOperation],
-    start: usize,
-) -> Result<(), PatchFault>
-    requires document { IsDocument (view doc.old) }
-    requires whole { AreWhole (operations patch.now) }
-    requires within { start ≤ length patch.now }
-    ensures accepted { OnOk result (From (view doc.old) (operations patch.now) start
-        (λ d. Accepts d (operations patch.now) (view doc.new))) }
-    ensures refused { From (view doc.old) (operations patch.now) start
-        (λ d. IfRefused result (NamesFirst d (operations patch.now))) }
-    ensures unchanged { OnErr result (view doc.new ≡ view doc.old) }
-{
-    let rest = &patch[start..];
-    match run_on_copy(alloc, doc, rest) {
-        Ok(()) => Ok(()),
-        Err(fault) => Err(named(alloc, patch, start, fault)),
+    match run(alloc, doc, patch, false) {
+        Ok(_undo) => Ok(()),
+        Err(fault) => Err(fault),
     }
 }
 
@@ -143,9 +70,10 @@ pub fn patch_unsafe(
         → (e : Data) → Accepts (view doc.old) (operations patch.now) e → IsOk result }
     ensures document { IsDocument (view doc.new) }
 {
-    for (number, operation) in patch.iter().enumerate() {
-        if let Err(fault) = step_in_place(alloc, doc, operation) {
-            return Err(reported(alloc, number, operation, fault));
+    let mut undo = Vec::new(alloc);
+    for number in 0..patch.len() {
+        if let Err(fault) = run_part(alloc, doc, patch, number, number + 1, false, &mut undo) {
+            return Err(fault);
         }
     }
     Ok(())
@@ -175,156 +103,136 @@ pub fn apply_patches(
     ensures unchanged { OnErr result (view doc.new ≡ view doc.old) }
     ensures document { IsDocument (view doc.new) }
 {
+    let mut undo = run(alloc, doc, patches, true)?;
+    undo.reverse();
+    Ok(Patch(undo))
+}
+
+/// Makes the operations, or none of them, and answers, where `keep` says so, what undoes them, last
+/// first.
+fn run(
+    alloc: Global,
+    doc: &mut Value,
+    patch: &[PatchOperation],
+    keep: bool,
+) -> Result<Vec<PatchOperation>, PatchFault>
+    requires document { IsDocument (view doc.old) }
+    requires whole { AreWhole (operations patch.now) }
+    ensures accepted { OnOk result (Accepts (view doc.old) (operations patch.now) (view doc.new)) }
+    ensures recorded { IfOk result (λ undo. IsTrue keep
+        → reverse (operations undo.items) ≡ inverse (view doc.old) (operations patch.now)) }
+    ensures refused { IfRefused result (NamesFirst (view doc.old) (operations patch.now)) }
+    ensures unchanged { OnErr result (view doc.new ≡ view doc.old) }
+    ensures in_place { keep ≡ false → AreTestsThenRemove (operations patch.now)
+        → (e : Data) → Accepts (view doc.old) (operations patch.now) e → IsOk result }
+{
     let mut undo = Vec::new(alloc);
     let mut number = 0;
-    while number < patches.len() && is_undoable(&patches[number]) {
-        let operation = &patches[number];
-        if let Err(fault) = record_step(alloc, doc, operation, &mut undo) {
+    while patch.len() - number > 1 && is_undoable(&patch[number]) {
+        let operation = &patch[number];
+        if let Err(fault) = record_step(alloc, doc, Pointer::root(), operation, &mut undo) {
             undo_recorded(alloc, doc, undo);
             return Err(reported(alloc, number, operation, fault));
         }
         number += 1;
     }
-    if let Err(fault) = record_rest(alloc, doc, patches, number, &mut undo) {
+    if let Err(fault) = run_part(alloc, doc, patch, number, patch.len(), keep, &mut undo) {
         undo_recorded(alloc, doc, undo);
         return Err(fault);
     }
-    undo.reverse();
-    Ok(Patch(undo))
+    Ok(undo)
 }
 
-/// Makes the operations from this number on and records what undoes them, or none of them: one in
-/// place, several on a copy.
-fn record_rest(
+/// Makes the operations from the one at `start` to the one before `end`, or none of them: a single
+/// one in place, but for a `move`, and others on a copy.
+fn run_part(
     alloc: Global,
     doc: &mut Value,
-    patches: &[PatchOperation],
+    patch: &[PatchOperation],
     start: usize,
+    end: usize,
+    keep: bool,
     undo: &mut Vec<PatchOperation>,
 ) -> Result<(), PatchFault>
-    requires whole { AreWhole (operations patches.now) }
-    requires within { start ≤ length patches.now }
-    ensures accepted { OnOk result (From (view doc.old) (operations patches.now) start
-        (λ d. Accepts d (operations patches.now) (view doc.new))) }
-    ensures recorded { OnOk result (From (view doc.old) (operations patches.now) start
-        (λ d. reverse (operations undo.old.items) ≡ inverse d (take start (operations patches.now))
-        → reverse (operations undo.new.items) ≡ inverse d (operations patches.now))) }
-    ensures refused { From (view doc.old) (operations patches.now) start
-        (λ d. IfRefused result (NamesFirst d (operations patches.now))) }
+    requires whole { AreWhole (operations patch.now) }
+    requires order { start ≤ end }
+    requires within { end ≤ length patch.now }
+    ensures accepted { OnOk result (From (view doc.old) (operations patch.now) start
+        (λ d. Accepts d (take end (operations patch.now)) (view doc.new))) }
+    ensures recorded { OnOk result (IsTrue keep → From (view doc.old) (operations patch.now) start
+        (λ d. AreRecorded d (operations patch.now) start (operations undo.old.items)
+        → AreRecorded d (operations patch.now) end (operations undo.new.items))) }
+    ensures refused { From (view doc.old) (operations patch.now) start
+        (λ d. IfRefused result (NamesFirst d (operations patch.now))) }
+    ensures at { IfRefused result (λ e. (start ≤ e.operation) × (e.operation < end)) }
     ensures unchanged { OnErr result (view doc.new ≡ view doc.old) }
     ensures kept { OnErr result (operations undo.new.items ≡ operations undo.old.items) }
+    ensures in_place { keep ≡ false → end ≤ start + 1 → AreInPlace (operations patch.now)
+        → From (view doc.old) (operations patch.now) start
+        (λ d. (e : Data) → Accepts d (operations patch.now) e → IsOk result) }
 {
-    if start == patches.len() {
+    if start == end {
         return Ok(());
     }
-    if patches.len() - start == 1 {
-        let operation = &patches[start];
-        return match record_in_place(alloc, doc, operation, undo) {
-            Ok(()) => Ok(()),
-            Err(fault) => Err(reported(alloc, start, operation, fault)),
-        };
+    let operation = &patch[start];
+    if end - start > 1 || is_move(operation) {
+        return run_on_copy(alloc, doc, patch, start, end, keep, undo);
     }
-    record_on_copy(alloc, doc, patches, start, undo)
+    match step_keeping(alloc, doc, Pointer::root(), operation, keep, undo) {
+        Ok(()) => Ok(()),
+        Err(fault) => Err(reported(alloc, start, operation, fault)),
+    }
 }
 
-/// Makes the operations from this number on and records what undoes them, or none of them: they are
-/// made on a copy of the document, which takes its place at the end.
-fn record_on_copy(
+fn is_move(operation: &PatchOperation) -> bool
+    ensures { IsTrue result ↔ IsMove (operation_of operation.now) }
+{
+    match operation {
+        PatchOperation::Move(_) => true,
+        _ => false,
+    }
+}
+
+/// Makes these operations on a copy of the part of the document that they share, which takes its
+/// place at the end.
+fn run_on_copy(
     alloc: Global,
     doc: &mut Value,
-    patches: &[PatchOperation],
+    patch: &[PatchOperation],
     start: usize,
+    end: usize,
+    keep: bool,
     undo: &mut Vec<PatchOperation>,
 ) -> Result<(), PatchFault>
-    requires whole { AreWhole (operations patches.now) }
-    requires within { start ≤ length patches.now }
-    ensures accepted { OnOk result (From (view doc.old) (operations patches.now) start
-        (λ d. Accepts d (operations patches.now) (view doc.new))) }
-    ensures recorded { OnOk result (From (view doc.old) (operations patches.now) start
-        (λ d. reverse (operations undo.old.items) ≡ inverse d (take start (operations patches.now))
-        → reverse (operations undo.new.items) ≡ inverse d (operations patches.now))) }
-    ensures refused { From (view doc.old) (operations patches.now) start
-        (λ d. IfRefused result (NamesFirst d (operations patches.now))) }
+    requires whole { AreWhole (operations patch.now) }
+    requires order { start ≤ end }
+    requires within { end ≤ length patch.now }
+    ensures accepted { OnOk result (From (view doc.old) (operations patch.now) start
+        (λ d. Accepts d (take end (operations patch.now)) (view doc.new))) }
+    ensures recorded { OnOk result (IsTrue keep → From (view doc.old) (operations patch.now) start
+        (λ d. AreRecorded d (operations patch.now) start (operations undo.old.items)
+        → AreRecorded d (operations patch.now) end (operations undo.new.items))) }
+    ensures refused { From (view doc.old) (operations patch.now) start
+        (λ d. IfRefused result (NamesFirst d (operations patch.now))) }
+    ensures at { IfRefused result (λ e. (start ≤ e.operation) × (e.operation < end)) }
     ensures unchanged { OnErr result (view doc.new ≡ view doc.old) }
     ensures kept { OnErr result (operations undo.new.items ≡ operations undo.old.items) }
 {
     let kept = undo.len();
-    let mut work = doc.clone()?;
-    for number in start..patches.len() {
-        let operation = &patches[number];
-        if let Err(fault) = record_step(alloc, &mut work, operation, undo) {
+    let (base, part) = copied_part(doc, &patch[start..end])?;
+    let mut work = part;
+    for number in start..end {
+        let operation = &patch[number];
+        if let Err(fault) = step_keeping(alloc, &mut work, base, operation, keep, undo) {
             undo.truncate(kept);
             return Err(reported(alloc, number, operation, fault));
         }
     }
-    mem::swap(doc, &mut work);
-    Ok(())
-}
-
-/// Makes the operation, or leaves the document as it was.
-fn step_in_place(
-    alloc: Global,
-    doc: &mut Value,
-    operation: &PatchOperation,
-) -> Result<(), StepFault>
-    requires document { IsDocument (view doc.old) }
-    requires whole { IsWholeOp (operation_of operation.now) }
-    ensures leaves { Steps result (stepped (view doc.old) (operation_of operation.now)) (view doc.new) }
-    ensures unchanged { OnErr result (view doc.new ≡ view doc.old) }
-    ensures in_place { IsInPlace (operation_of operation.now) → NeverShort result }
-{
-    if let PatchOperation::Move(_) = operation {
-        return match run_on_copy(alloc, doc, slice::from_ref(operation)) {
-            Ok(()) => Ok(()),
-            Err(fault) => Err(fault_alone(fault)),
-        };
+    if replace(alloc, doc, base, work).is_err() {
+        // the part is there, so memory was short for a name on the way
+        undo.truncate(kept);
+        return Err(PatchFault::Memory(AllocError));
     }
-    step(alloc, doc, Pointer::root(), operation)
-}
-
-/// The fault of the only step of a run.
-fn fault_alone(fault: RunFault) -> StepFault
-    ensures { StopsAlone fault result }
-{
-    match fault {
-        RunFault::Refused(_number, kind) => StepFault::Refused(kind),
-        RunFault::Memory(error) => StepFault::Memory(error),
-    }
-}
-
-/// The fault of a run of the operations from this number on.
-fn named(alloc: Global, patch: &[PatchOperation], start: usize, fault: RunFault) -> PatchFault
-    requires { IsIn (counted_from start fault) patch.now }
-    ensures { NamesIn patch.now (counted_from start fault) result }
-{
-    match fault {
-        RunFault::Refused(number, kind) => {
-            let at = start + number;
-            reported(alloc, at, &patch[at], StepFault::Refused(kind))
-        }
-        RunFault::Memory(error) => PatchFault::Memory(error),
-    }
-}
-
-/// Makes the operation and records what undoes it, or leaves both as they were.
-fn record_in_place(
-    alloc: Global,
-    doc: &mut Value,
-    operation: &PatchOperation,
-    undo: &mut Vec<PatchOperation>,
-) -> Result<(), StepFault>
-    ensures leaves { Steps result (stepped (view doc.old) (operation_of operation.now)) (view doc.new) }
-    ensures records { OnOk result (operations undo.new.items
-        ≡ operations undo.old.items ++ reverse (block (view doc.old) (operation_of operation.now))) }
-    ensures kept { OnErr result (operations undo.new.items ≡ operations undo.old.items) }
-    ensures unchanged { OnErr result (view doc.new ≡ view doc.old) }
-{
-    let PatchOperation::Move(_) = operation else {
-        return record_step(alloc, doc, operation, undo);
-    };
-    let mut work = doc.clone()?;
-    record_step(alloc, &mut work, operation, undo)?;
-    mem::swap(doc, &mut work);
     Ok(())
 }
 

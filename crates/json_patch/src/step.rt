@@ -7,11 +7,9 @@ ghost use Rattle.jsonptr.specs.Pointers.{tokens_of};
 ghost use Rattle.jsonptr.specs.Text.{IsPrefix, IsProperPrefix};
 ghost use Rattle.json_patch.specs.Attempt.{Attempts, Refuses, Steps, TakesOut};
 ghost use Rattle.json_patch.specs.ChangeComputed.{added, removed, replaced, found};
-ghost use Rattle.json_patch.specs.Document.{IsDocument};
-ghost use Rattle.json_patch.specs.Edits.{undo_from, undone};
+ghost use Rattle.json_patch.specs.Edits.{IsTaken, Undoes};
 ghost use Rattle.json_patch.specs.InPlace.{AreUnescaped, IsInPlace, NeverShort};
-ghost use Rattle.json_patch.specs.InverseComputed.{undo_add};
-ghost use Rattle.json_patch.specs.Operation.{IsMove, operation_of, copy as copy_at, move as move_at, test as test_at};
+ghost use Rattle.json_patch.specs.Operation.{IsMove, operation_of, add as add_at, copy as copy_at, move as move_at, replace as replace_at, test as test_at};
 ghost use Rattle.json_patch.specs.PartRun.{IsBegun};
 ghost use Rattle.json_patch.specs.RunComputed.{stepped};
 ghost use Rattle.json_patch.specs.SharedComputed.{stripped};
@@ -25,18 +23,21 @@ use serde_json::Value;
 use std::alloc::Global;
 use std::mem;
 
-/// Makes the operation, without the tokens of `base`, on what stands there. A refused one leaves
-/// that as it was, but for a `move`, which may have lost the value: it is for a copy.
+/// Makes the operation, without the tokens of `base`, on what stands there, and answers what it
+/// displaced. A refused one leaves that as it was, but for a `move`, which may have lost the value:
+/// it is for a copy.
 pub(crate) fn step(
     alloc: Global,
     doc: &mut Value,
     base: Pointer<'_>,
     operation: &PatchOperation,
-) -> Result<(), StepFault>
+) -> Result<Displaced, StepFault>
     requires { IsBegun (tokens_of base) (operation_of operation.now) }
     ensures leaves { Steps result
         (stepped (view doc.old) (stripped (tokens_of base.entry) (operation_of operation.now)))
         (view doc.new) }
+    ensures undo { IfOk result
+        (Undoes (view doc.old) (stripped (tokens_of base.entry) (operation_of operation.now))) }
     ensures unchanged { OnErr result
         ((IsMove (operation_of operation.now) → ⊥) → view doc.new ≡ view doc.old) }
     ensures in_place { IsInPlace (stripped (tokens_of base.entry) (operation_of operation.now))
@@ -45,32 +46,31 @@ pub(crate) fn step(
     match operation {
         PatchOperation::Add(operation) => {
             let value = operation.value.clone()?;
-            add(alloc, doc, below(&operation.path, base), value)?;
+            add(alloc, doc, below(&operation.path, base), value)
         }
-        PatchOperation::Remove(operation) => {
-            remove(alloc, doc, below(&operation.path, base))?;
-        }
+        PatchOperation::Remove(operation) => remove(alloc, doc, below(&operation.path, base)),
         PatchOperation::Replace(operation) => {
             let value = operation.value.clone()?;
-            replace(alloc, doc, below(&operation.path, base), value)?;
+            replace(alloc, doc, below(&operation.path, base), value)
         }
         PatchOperation::Move(operation) => {
-            let from = below(&operation.from, base);
-            move_value(alloc, doc, from, below(&operation.path, base))?;
+            let path = below(&operation.path, base);
+            let value = take_out(alloc, doc, below(&operation.from, base), path)?;
+            add(alloc, doc, path, value)
         }
         PatchOperation::Copy(operation) => {
             let from = below(&operation.from, base);
-            copy_value(alloc, doc, from, below(&operation.path, base))?;
+            copy_value(alloc, doc, from, below(&operation.path, base))
         }
         PatchOperation::Test(operation) => {
             test(doc, below(&operation.path, base), &operation.value)?;
+            Ok(Displaced::Nothing)
         }
     }
-    Ok(())
 }
 
 /// The part of the pointer after the tokens of `base`.
-fn below<'a>(pointer: &'a PointerBuf, base: Pointer<'_>) -> Pointer<'a>
+pub(crate) fn below<'a>(pointer: &'a PointerBuf, base: Pointer<'_>) -> Pointer<'a>
     requires { IsPrefix (tokens_of base) pointer.now }
     ensures { tokens_of result ≡ drop (length (tokens_of base.entry)) pointer.now }
 {
@@ -89,10 +89,8 @@ pub(crate) fn add(
 ) -> Result<Displaced, StepFault>
     ensures leaves { Attempts result (added (view doc.old) (tokens_of path.entry) (view value))
         (view doc.old) (view doc.new) }
-    ensures undo { IfOk result (λ was. undo_from (tokens_of path.entry) was
-        ≡ undo_add (view doc.old) (tokens_of path.entry)) }
-    ensures back { IsDocument (view doc.old) → IsDocument (view value) → IfOk result
-        (λ was. undone was (tokens_of path.entry) (view doc.new) ≡ Some (view doc.old)) }
+    ensures undo { IfOk result
+        (Undoes (view doc.old) (add_at (tokens_of path.entry) (view value))) }
 {
     match path.split_back() {
         Some((parent, last)) => edit_at(alloc, doc, parent.tokens(), last, Edit::Insert(value)),
@@ -100,60 +98,44 @@ pub(crate) fn add(
     }
 }
 
-/// `remove` (section 4.2), with the value that stood there.
-pub(crate) fn remove(alloc: Global, doc: &mut Value, path: Pointer<'_>) -> Result<Value, StepFault>
+/// `remove` (section 4.2).
+pub(crate) fn remove(
+    alloc: Global,
+    doc: &mut Value,
+    path: Pointer<'_>,
+) -> Result<Displaced, StepFault>
     ensures leaves { Attempts result (removed (view doc.old) (tokens_of path.entry))
         (view doc.old) (view doc.new) }
-    ensures former { IfOk result (λ v. found (view doc.old) (tokens_of path.entry) ≡ Some (view v)) }
+    ensures taken { IfOk result (IsTaken (view doc.old) (tokens_of path.entry)) }
     ensures in_place { AreUnescaped (tokens_of path.entry) → NeverShort result }
 {
     let Some((parent, last)) = path.split_back() else {
         return Err(StepFault::Refused(PatchErrorKind::InvalidPointer));
     };
-    match edit_at(alloc, doc, parent.tokens(), last, Edit::Take)? {
-        Displaced::Former(value) => Ok(value),
-        _ => unreachable!(),
-    }
+    edit_at(alloc, doc, parent.tokens(), last, Edit::Take)
 }
 
-/// `replace` (section 4.3), with the value that stood there.
+/// `replace` (section 4.3).
 pub(crate) fn replace(
     alloc: Global,
     doc: &mut Value,
     path: Pointer<'_>,
     value: Value,
-) -> Result<Value, StepFault>
+) -> Result<Displaced, StepFault>
     ensures leaves { Attempts result (replaced (view doc.old) (tokens_of path.entry) (view value))
         (view doc.old) (view doc.new) }
-    ensures former { IfOk result (λ v. found (view doc.old) (tokens_of path.entry) ≡ Some (view v)) }
+    ensures undo { IfOk result
+        (Undoes (view doc.old) (replace_at (tokens_of path.entry) (view value))) }
     ensures in_place { AreUnescaped (tokens_of path.entry) → NeverShort result }
 {
-    let Some((parent, last)) = path.split_back() else {
-        return Ok(mem::replace(doc, value));
-    };
-    match edit_at(alloc, doc, parent.tokens(), last, Edit::Swap(value))? {
-        Displaced::Former(former) => Ok(former),
-        _ => unreachable!(),
+    match path.split_back() {
+        Some((parent, last)) => edit_at(alloc, doc, parent.tokens(), last, Edit::Swap(value)),
+        None => Ok(Displaced::Former(mem::replace(doc, value))),
     }
 }
 
-/// `move` (section 4.4). Where the place is refused or memory is short, the value is lost.
-fn move_value(
-    alloc: Global,
-    doc: &mut Value,
-    from: Pointer<'_>,
-    path: Pointer<'_>,
-) -> Result<(), StepFault>
-    ensures { Steps result
-        (stepped (view doc.old) (move_at (tokens_of from.entry) (tokens_of path.entry)))
-        (view doc.new) }
-{
-    let value = take_out(alloc, doc, from, path)?;
-    add(alloc, doc, path, value)?;
-    Ok(())
-}
-
-/// The value that a `move` takes out of the document.
+/// The value that a `move` (section 4.4) takes out of the document, to be added at `path`. Where
+/// that is refused or memory is short, the value is lost.
 pub(crate) fn take_out(
     alloc: Global,
     doc: &mut Value,
@@ -169,7 +151,8 @@ pub(crate) fn take_out(
         return Err(StepFault::Refused(PatchErrorKind::CannotMoveInsideItself));
     }
     match remove(alloc, doc, from) {
-        Ok(value) => Ok(value),
+        Ok(Displaced::Taken(value)) => Ok(value),
+        Ok(_) => unreachable!(),
         Err(StepFault::Refused(_)) => {
             Err(StepFault::Refused(PatchErrorKind::InvalidFromPointer))
         }
@@ -198,10 +181,8 @@ pub(crate) fn copy_value(
         (stepped (view doc.old) (copy_at (tokens_of from.entry) (tokens_of path.entry)))
         (view doc.new) }
     ensures unchanged { OnErr result (view doc.new ≡ view doc.old) }
-    ensures undo { IfOk result (λ was. undo_from (tokens_of path.entry) was
-        ≡ undo_add (view doc.old) (tokens_of path.entry)) }
-    ensures back { IsDocument (view doc.old) → IfOk result
-        (λ was. undone was (tokens_of path.entry) (view doc.new) ≡ Some (view doc.old)) }
+    ensures undo { IfOk result (Undoes (view doc.old)
+        (copy_at (tokens_of from.entry) (tokens_of path.entry))) }
 {
     let Some(value) = find(doc, from.tokens()) else {
         return Err(StepFault::Refused(PatchErrorKind::InvalidFromPointer));

@@ -26,20 +26,18 @@ use std::mem;
 pub(crate) enum Edit {
     Insert(Value),
     Take,
-    /// Of a list alone, with its place in the place of the token.
-    TakeItem(usize),
     Swap(Value),
 }
 
 /// What an edit found at its place.
 #[derive(Drop)]
 pub(crate) enum Displaced {
-    /// No member of that name.
+    /// No value: a member is new there, or an item, before those that stood there.
     Nothing,
-    /// The items from this place on, which are one place later now.
-    LaterItems(usize),
-    /// The value that stood there, and no longer does.
+    /// The value in whose place another stands now.
     Former(Value),
+    /// The value that stood there, and was taken out.
+    Taken(Value),
 }
 
 /// Why a step isn't made.
@@ -151,11 +149,10 @@ fn edit_members(
         Edit::Take => {
             let name = name_of(alloc, token)?;
             match members.remove(name.as_str()) {
-                Some(former) => Ok(Displaced::Former(former)),
+                Some(former) => Ok(Displaced::Taken(former)),
                 None => Err(StepFault::Refused(PatchErrorKind::InvalidPointer)),
             }
         }
-        Edit::TakeItem(_) => Err(StepFault::Refused(PatchErrorKind::InvalidPointer)),
         Edit::Swap(value) => {
             let name = name_of(alloc, token)?;
             match members.get_mut(name.as_str()) {
@@ -178,18 +175,11 @@ fn edit_items(items: &mut Vec<Value>, token: Token<'_>, edit: Edit) -> Result<Di
         Edit::Insert(value) => {
             let index = slot_index(token, items.len())?;
             items.insert(index, value)?;
-            Ok(Displaced::LaterItems(index))
+            Ok(Displaced::Nothing)
         }
         Edit::Take => {
             let index = item_index(token, items.len())?;
-            Ok(Displaced::Former(items.remove(index)))
-        }
-        Edit::TakeItem(index) => {
-            if index >= items.len() {
-                return Err(StepFault::Refused(PatchErrorKind::InvalidPointer));
-            }
-            let former = items.remove(index);
-            Ok(Displaced::Former(former))
+            Ok(Displaced::Taken(items.remove(index)))
         }
         Edit::Swap(value) => {
             let index = item_index(token, items.len())?;

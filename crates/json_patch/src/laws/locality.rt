@@ -6,11 +6,12 @@ ghost use Rattle.serde_json.specs.Data.{Data};
 ghost use Rattle.jsonptr.specs.Text.{Pointer};
 ghost use Rattle.json_patch.specs.Change.{IsReplaced};
 ghost use Rattle.json_patch.specs.Document.{IsDocument, Step};
+ghost use Rattle.json_patch.specs.Inverse.{IsInverse};
 ghost use Rattle.json_patch.specs.Operation.{AreWhole, IsWholeOp, Operation};
 ghost use Rattle.json_patch.specs.Resolve.{Resolves, StandsAt};
 ghost use Rattle.json_patch.specs.Run.{Accepts, RefusesAt};
 ghost use Rattle.json_patch.specs.Shared.{AreWithin, IsShared, IsWithin};
-ghost use Rattle.json_patch.specs.SharedComputed.{shared, stripped, stripped_all};
+ghost use Rattle.json_patch.specs.SharedComputed.{extended_all, shared, stripped, stripped_all};
 ghost use Rattle.json_patch.specs.Step.{Leaves, Refuses};
 ghost use Rattle.json_patch.specs.declared.error.PatchErrorKind.{PatchErrorKind};
 
@@ -50,6 +51,14 @@ pub fn local_run_refused()
     ensures { (d : Data) (S : Pointer) (b : Data) (ops : List Operation) → IsDocument d → AreWhole ops
         → StandsAt d S b → AreWithin S ops → (k : ℕ) (kind : PatchErrorKind)
         → RefusesAt d ops k kind ↔ RefusesAt b (stripped_all S ops) k kind }
+{}
+
+/// The inverse of a list is the inverse of the list without the shared tokens, on what stands there,
+/// with these tokens in front of each pointer.
+pub fn local_inverse()
+    ensures { (d : Data) (S : Pointer) (b : Data) (ops : List Operation) → IsDocument d → AreWhole ops
+        → StandsAt d S b → AreWithin S ops → (I : List Operation) → IsInverse d ops I
+        ↔ ((J : List Operation) × IsInverse b (stripped_all S ops) J × (I ≡ extended_all S J)) }
 {}
 
 /// A list shares one list of tokens at most.

@@ -1,7 +1,6 @@
 use Rattle.serde_json.specs.View.{view}
 use Rattle.jsonptr.specs.Pointers.{token_of, tokens_of}
 use Rattle.json_patch.proofs.Parents.{added_in, undo_as_found}
-use Rattle.json_patch.proofs.Logs.{added_back}
 use Rattle.json_patch.proofs.step.add.Goals as goal
 
 pub returns-in-Some-clause-leaves : goal.returns-in-Some-clause-leaves
@@ -11,10 +10,5 @@ returns-in-Some-clause-leaves c =
 
 pub returns-in-Some-clause-undo : goal.returns-in-Some-clause-undo
 returns-in-Some-clause-undo c =
-    undo_as_found _ c.args.value (view c.args.doc.now) (tokens_of c.args.path) (tokens_of c.in-Some.parent) (token_of c.in-Some.last) c.in-Some.ensures.last
+    undo_as_found _ c.args.value (view c.args.doc.now) (tokens_of c.args.path) (tokens_of c.in-Some.parent) (token_of c.in-Some.last) (view c.args.value) c.in-Some.ensures.last
     (rw c.tokens.ensures.value at c.edit_at.ensures.displaces)
-
-pub returns-in-Some-clause-back : goal.returns-in-Some-clause-back
-returns-in-Some-clause-back c =
-    added_back _ c.args.value (view c.args.doc.now) (view c.edit_at.new.target) (tokens_of c.args.path) (tokens_of c.in-Some.parent) (token_of c.in-Some.last) c.in-Some.ensures.last
-    (rw c.tokens.ensures.value at c.edit_at.ensures.leaves) (rw c.tokens.ensures.value at c.edit_at.ensures.displaces)

@@ -1,25 +1,18 @@
 use Rattle.serde_json.specs.View.{view}
 use Rattle.jsonptr.specs.Pointers.{token_of, tokens_of}
 use Rattle.json_patch.specs.InPlace.{AreUnescaped}
-use Rattle.json_patch.specs.declared.walk.Displaced.{Displaced}
-use Rattle.json_patch.proofs.Parents.{found_in, never_short, passed_on, removed_in, unescaped_parts}
+use Rattle.json_patch.proofs.Parents.{removed_in, taken_there, unescaped_parts}
 use Rattle.json_patch.proofs.step.remove.Goals as goal
-
-pub returns-in_err-value-clause-leaves : goal.returns-in_err-value-clause-leaves
-returns-in_err-value-clause-leaves c =
-    passed_on _ c.in_err-value.field-0.0 _ _ _ _ c.from_residual.ensures
-    (removed_in (view c.args.doc.now) (tokens_of c.args.path) (tokens_of c.in-Some.parent) (token_of c.in-Some.last) c.in-Some.ensures.last) (rw c.tokens.ensures.value at c.in_err-value.ensures.leaves)
 
 pub returns-clause-leaves : goal.returns-clause-leaves
 returns-clause-leaves c =
-    rw (removed_in (view c.args.doc.now) (tokens_of c.args.path) (tokens_of c.in-Some.parent) (token_of c.in-Some.last) c.in-Some.ensures.last) (rw c.tokens.ensures.value at c.in_ok-value.ensures.leaves)
+    rw (removed_in (view c.args.doc.now) (tokens_of c.args.path) (tokens_of c.in-Some.parent) (token_of c.in-Some.last) c.in-Some.ensures.last) (rw c.tokens.ensures.value at c.edit_at.ensures.leaves)
 
-pub returns-clause-former : goal.returns-clause-former
-returns-clause-former c =
-    let stood = rw (c.tokens.ensures.value, c.in-Former.is) at c.in_ok-value.ensures.displaces in
-    found_in (view c.args.doc.now) (tokens_of c.args.path) (tokens_of c.in-Some.parent) (token_of c.in-Some.last) stood.0 (view c.in-Former.value) c.in-Some.ensures.last stood.1 stood.2
+pub returns-clause-taken : goal.returns-clause-taken
+returns-clause-taken c =
+    taken_there _ (view c.args.doc.now) (tokens_of c.args.path) (tokens_of c.in-Some.parent) (token_of c.in-Some.last) c.in-Some.ensures.last (rw c.tokens.ensures.value at c.edit_at.ensures.displaces)
 
-pub returns-in_err-value-clause-in_place : goal.returns-in_err-value-clause-in_place
-returns-in_err-value-clause-in_place c = λ (plain : AreUnescaped (tokens_of c.args.path)).
+pub returns-clause-in_place : goal.returns-clause-in_place
+returns-clause-in_place c = λ (plain : AreUnescaped (tokens_of c.args.path)).
     let parts = unescaped_parts (tokens_of c.args.path) (tokens_of c.in-Some.parent) (token_of c.in-Some.last) c.in-Some.ensures.last plain in
-    never_short Displaced _ c.in_err-value.field-0.0 c.from_residual.ensures ((rw c.tokens.ensures.value at c.in_err-value.ensures.in_place) tt parts.0 parts.1)
+    (rw c.tokens.ensures.value at c.edit_at.ensures.in_place) tt parts.0 parts.1

@@ -1,8 +1,7 @@
-use Rattle.std.proofs.Common.{refl}
 use Rattle.serde_json.specs.View.{view}
 use Rattle.jsonptr.specs.Pointers.{token_of}
 use Rattle.json_patch.proofs.Attempts.{refused}
-use Rattle.json_patch.proofs.Containers.{drops_item, drops_no_item, found_item, inserts_item, inserts_nowhere, slot_here, swaps_item, swaps_no_item, takes_item, takes_no_item}
+use Rattle.json_patch.proofs.Containers.{found_item, inserts_item, inserts_nowhere, swaps_item, swaps_no_item, takes_item, takes_no_item}
 use Rattle.json_patch.proofs.walk.edit_items.Goals as goal
 
 pub returns-in_err-index-in-Insert-clause-leaves :
@@ -26,11 +25,6 @@ pub returns-in_ok-insert-in-Insert-clause-leaves :
 returns-in_ok-insert-in-Insert-clause-leaves c =
     rw (c.in-Insert.is, c.in_ok-insert-in-Insert.ensures.items) (inserts_item (token_of c.args.token) c.args.items.now c.len.result c.in_ok-index-in-Insert.index c.in-Insert.value c.len.ensures c.in_ok-index-in-Insert.ensures)
 
-pub returns-in_ok-insert-in-Insert-clause-displaces :
-    goal.returns-in_ok-insert-in-Insert-clause-displaces
-returns-in_ok-insert-in-Insert-clause-displaces c =
-    rw c.in-Insert.is (slot_here (token_of c.args.token) c.args.items.now c.len.result c.in_ok-index-in-Insert.index c.len.ensures c.in_ok-index-in-Insert.ensures)
-
 pub returns-in_ok-index-in-Take-clause-leaves : goal.returns-in_ok-index-in-Take-clause-leaves
 returns-in_ok-index-in-Take-clause-leaves c =
     rw (c.in-Take.is, c.remove.ensures.items) (takes_item (token_of c.args.token) c.args.items.now c.len-in-Take.result c.in_ok-index-in-Take.index c.remove.result c.len-in-Take.ensures c.in_ok-index-in-Take.ensures c.remove.ensures.value)
@@ -48,11 +42,3 @@ pub returns-in_ok-index-in-Swap-clause-displaces :
     goal.returns-in_ok-index-in-Swap-clause-displaces
 returns-in_ok-index-in-Swap-clause-displaces c =
     rw (c.in-Swap.is, c.replace.ensures.value) (found_item (token_of c.args.token) c.args.items.now c.len-in-Swap.result c.in_ok-index-in-Swap.index c.index_mut.result.now c.len-in-Swap.ensures c.in_ok-index-in-Swap.ensures c.index_mut.ensures.value)
-
-pub returns-then-index-len-clause-leaves : goal.returns-then-index-len-clause-leaves
-returns-then-index-len-clause-leaves c =
-    ((refl, rw c.in-TakeItem.is (drops_no_item c.args.items.now c.len-in-TakeItem.result c.in-TakeItem.index c.len-in-TakeItem.ensures c.if-index-len.true)), refl)
-
-pub returns-else-index-len-clause-leaves : goal.returns-else-index-len-clause-leaves
-returns-else-index-len-clause-leaves c =
-    rw (c.in-TakeItem.is, c.remove-former.ensures.items) (drops_item c.args.items.now c.len-in-TakeItem.result c.in-TakeItem.index c.remove-former.result c.len-in-TakeItem.ensures c.if-index-len.false c.remove-former.ensures.value)

@@ -1,7 +1,7 @@
 use Rattle.std.proofs.Common.{◌↔◌}
 use Rattle.jsonptr.specs.Pointers.{tokens_left, tokens_of}
 use Rattle.json_patch.specs.InPlace.{AreUnescaped}
-use Rattle.json_patch.proofs.undoing.is_unescaped.Given as goal
+use Rattle.json_patch.proofs.record.is_unescaped.Given as goal
 
 abbrev pub invariant-loop-token : goal.invariant-loop-token
 invariant-loop-token l =

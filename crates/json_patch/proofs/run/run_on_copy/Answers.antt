@@ -1,0 +1,69 @@
+use Rattle.std.proofs.Common.{◌≡◌, ◌<◌, ◌≤◌, take, length, sym, ap, ◌∙◌, arith}
+use Rattle.std.proofs.lemmas.List.{length-map, take-map}
+use Rattle.serde_json.specs.View.{view}
+use Rattle.jsonptr.specs.Pointers.{tokens_of}
+use Rattle.json_patch.specs.Operation.{operation_of, operations}
+use Rattle.json_patch.proofs.Applied.{reported_names, state_document, take_past}
+use Rattle.json_patch.proofs.PartRuns.{IsAtPart, Part, begun_part, made_put, part_at, part_end, part_first, part_more, part_recorded, part_stops, ended_at}
+use Rattle.json_patch.proofs.Undos.{same_count, take_more}
+use Rattle.json_patch.proofs.run.run_on_copy.Goals as goal
+
+pub loop-number-init : goal.loop-number-init
+loop-number-init c = record {
+  from = omega arith;
+  to = c.requires.order;
+  part = λ d hd s.
+      part_first d (view c.args.doc.now) c.args.patch.now c.args.start (tokens_of c.in_ok-base.base) (view c.in_ok-base.part) (state_document d (view c.args.doc.now) c.args.patch.now c.args.start hd c.requires.whole s) s c.in_ok-base.ensures.1;
+  recorded = λ y d hd s before. before;
+  kept = let n = same_count c.args.undo.now c.len-kept.result c.len-kept.ensures in take_past c.args.undo.now.items c.len-kept.result (omega (arith, n));
+}
+
+pub step_keeping-requires : goal.step_keeping-requires
+step_keeping-requires c =
+    begun_part (tokens_of c.in_ok-base.base) (operation_of c.index-patch-number.result)
+    (part_at (tokens_of c.in_ok-base.base) c.args.patch.now c.args.start c.args.end c.loop-number.number c.index-patch-number.result c.loop-number.invariant.from c.loop-number-test.true c.requires.within c.index-patch-number.is c.in_ok-base.ensures.0)
+
+pub returns-in-Err-clause-refused : goal.returns-in-Err-clause-refused
+returns-in-Err-clause-refused c = λ d hd s.
+    let o = c.index-patch-number.result in let k = c.loop-number.number in
+    let less : k < c.args.end = c.loop-number-test.true in let most : c.args.end ≤ length c.args.patch.now = c.requires.within in
+    let p : Part d (view c.args.doc.now) c.args.patch.now k (tokens_of c.in_ok-base.base) (view c.loop-number.work) = c.loop-number.invariant.part d hd s in
+    let at : IsAtPart (tokens_of c.in_ok-base.base) (operation_of o) =
+    part_at (tokens_of c.in_ok-base.base) c.args.patch.now c.args.start c.args.end k o c.loop-number.invariant.from less most c.index-patch-number.is c.in_ok-base.ensures.0 in
+    reported_names (Unit {0}) c.reported.result c.in-Err.fault d p.x p.x c.args.patch.now k o hd c.requires.whole (omega arith) c.index-patch-number.is p.state
+    (part_stops p.x (tokens_of c.in_ok-base.base) (view c.loop-number.work) (operation_of o) p.document p.there (Unit {0}) (Unit {0}) c.in-Err.fault (view c.step_keeping.new.doc) p.x at c.in-Err.ensures.leaves) c.reported.ensures
+
+pub returns-in-Err-clause-kept : goal.returns-in-Err-clause-kept
+returns-in-Err-clause-kept c =
+    ap operations c.truncate.ensures.items ∙ sym (take-map operation_of c.len-kept.result c.step_keeping.new.undo.items) ∙ ap (take c.len-kept.result) c.in-Err.ensures.kept ∙ c.loop-number.invariant.kept
+
+pub loop-number-preserved : goal.loop-number-preserved
+loop-number-preserved c =
+    let o = c.index-patch-number.result in let k = c.loop-number.number in let S = tokens_of c.in_ok-base.base in
+    let less : k < c.args.end = c.loop-number-test.true in let most : c.args.end ≤ length c.args.patch.now = c.requires.within in let past : c.args.start ≤ k = c.loop-number.invariant.from in
+    let at : IsAtPart S (operation_of o) = part_at S c.args.patch.now c.args.start c.args.end k o past less most c.index-patch-number.is c.in_ok-base.ensures.0 in
+    let m = view c.args.doc.now in let w = view c.loop-number.work in let e = view c.step_keeping.new.doc in
+    let in_list : k < length c.args.patch.now = omega arith in
+    record {
+      from = omega arith;
+      to = omega arith;
+      part = λ d hd s. part_more d m c.args.patch.now k S w (c.loop-number.invariant.part d hd s) o e hd c.requires.whole in_list c.index-patch-number.is at c.in_default.ensures.leaves;
+      recorded = λ y d hd s before.
+          part_recorded d m c.args.patch.now k S w (c.loop-number.invariant.part d hd s) o e hd c.requires.whole in_list c.index-patch-number.is at c.in_default.ensures.leaves c.args.keep c.loop-number.undo.items c.step_keeping.new.undo.items y
+          c.in_default.ensures.records (c.loop-number.invariant.recorded y d hd s before);
+      kept =
+          let same : length (operations c.args.undo.now.items) ≡ length c.args.undo.now.items = length-map c.args.undo.now.items operation_of in
+          ap (take c.len-kept.result) c.in_default.ensures.records
+          ∙ take_more c.len-kept.result (operations c.loop-number.undo.items) _ (operations c.args.undo.now.items) c.loop-number.invariant.kept (same ∙ same_count c.args.undo.now c.len-kept.result c.len-kept.ensures);
+    }
+
+pub returns-then-is_err-clause-kept : goal.returns-then-is_err-clause-kept
+returns-then-is_err-clause-kept c =
+    ap operations c.truncate-then-is_err.ensures.items ∙ sym (take-map operation_of c.len-kept.result c.loop-number.undo.items) ∙ c.loop-number.invariant.kept
+
+pub returns-clause-accepted : goal.returns-clause-accepted
+returns-clause-accepted c = λ d hd s.
+    let past : c.args.end ≤ c.loop-number.number = c.loop-number-test.false in let most : c.loop-number.number ≤ c.args.end = c.loop-number.invariant.to in
+    ended_at d (view c.replace.new.doc) c.args.patch.now c.loop-number.number c.args.end (omega arith)
+    (part_end d (view c.args.doc.now) c.args.patch.now c.loop-number.number (tokens_of c.in_ok-base.base) (view c.loop-number.work) (c.loop-number.invariant.part d hd s) (view c.replace.new.doc)
+    (made_put c.replace.result c.is_err.result _ (view c.args.doc.now) (view c.replace.new.doc) c.replace.ensures.leaves c.is_err.ensures.value c.if-is_err.false))
