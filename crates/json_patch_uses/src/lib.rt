@@ -1,6 +1,7 @@
 //! Proved programs over JSON Patch, of a page each, on the public contracts alone.
 #![tactic(auto)]
 
+pub mod examples;
 mod fault;
 mod store;
 #[cfg(test)]
