@@ -31,7 +31,7 @@ pub fn respond(alloc: Global, mode: Mode, input: &[u8]) -> Result<String, ToolFa
     ensures leads_back { IfOk result
         (λ line. mode ≡ Record → LeadsBack input.now (string_bytes line)) }
 {
-    let (document, patch) = read_pair(alloc, input)?; let mode = if let Mode::Merge = mode { Mode::Patch } else { mode };
+    let (document, patch) = read_pair(alloc, input)?;
     match mode {
         Mode::Patch => patched(alloc, document, &patch),
         Mode::Record => recorded(alloc, document, &patch),
