@@ -189,20 +189,26 @@ fn edit_items(items: &mut Vec<Value>, token: Token<'_>, edit: Edit) -> Result<Di
 }
 
 /// What stands where the tokens lead. It takes no memory.
-pub(crate) fn find<'v>(document: &'v Value, mut tokens: Tokens<'_>) -> Option<&'v Value>
+pub(crate) fn find<'v>(document: &'v Value, tokens: Tokens<'_>) -> Option<&'v Value>
     ensures { option_map (λ v. view v.now) result
         ≡ found (view document.now) (tokens_left tokens.entry) }
 {
-    let Some(token) = tokens.next() else {
-        return Some(document);
-    };
-    match document {
-        Value::Object(members) => match member_of(members, token) {
-            Some(child) => find(child, tokens),
-            None => None,
-        },
+    let mut place = document;
+    for token in tokens {
+        place = child_of(place, token)?;
+    }
+    Some(place)
+}
+
+/// The member or the item that the token names.
+fn child_of<'v>(container: &'v Value, token: Token<'_>) -> Option<&'v Value>
+    ensures { option_map (λ v. view v.now) result
+        ≡ found (view container.now) (token_of token.entry ∷ []) }
+{
+    match container {
+        Value::Object(members) => member_of(members, token),
         Value::Array(items) => match item_index(token, items.len()) {
-            Ok(index) => find(&items[index], tokens),
+            Ok(index) => Some(&items[index]),
             Err(_) => None,
         },
         _ => None,

@@ -1,11 +1,11 @@
 //! One error for callers, into which `?` turns those of the calls.
 
-ghost use Rattle.std.specs.Prelude.{◌≡◌};
+ghost use Rattle.std.specs.Prelude.{◌≡◌, alloc_error};
 ghost use Rattle.json_patch_uses.specs.Updates.{of_patch, of_read};
 ghost use Rattle.json_patch_uses.specs.declared.fault.UpdateFault.TheVariants.{Memory, Text};
 
 use json_patch::{PatchError, PatchFault, ReadError, ReadFault};
-use std::alloc::AllocError;
+use std::alloc::{AllocError, AllocFailed};
 use thiserror::Error;
 
 /// Why a text made no update.
@@ -63,5 +63,13 @@ impl From<AllocError> for UpdateFault {
 
     fn from(error: AllocError) -> UpdateFault {
         UpdateFault::Memory(error)
+    }
+}
+
+impl<T: Drop> From<AllocFailed<T>> for UpdateFault {
+    ghost from_gives = { λ _ fault. fault ≡ Memory alloc_error };
+
+    fn from(_failed: AllocFailed<T>) -> UpdateFault {
+        UpdateFault::Memory(AllocError)
     }
 }

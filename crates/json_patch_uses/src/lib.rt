@@ -4,6 +4,7 @@
 mod example;
 mod fault;
 mod layers;
+pub mod readme;
 mod session;
 mod store;
 #[cfg(test)]

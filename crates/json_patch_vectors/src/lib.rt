@@ -13,8 +13,6 @@ mod documentation;
 #[cfg(test)]
 mod equality;
 #[cfg(test)]
-mod examples;
-#[cfg(test)]
 mod hostile;
 #[cfg(test)]
 mod merges;

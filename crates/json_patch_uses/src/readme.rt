@@ -1,0 +1,91 @@
+//! The examples of the README, word for word.
+
+ghost use Rattle.serde_json.specs.View.{view};
+ghost use Rattle.json_patch.specs.Document.{IsDocument};
+ghost use Rattle.json_patch.specs.Operation.{AreWhole, operations};
+
+#[cfg(test)]
+mod tests;
+
+use crate::fault::UpdateFault;
+use json_patch::jsonptr::PointerBuf;
+use json_patch::{
+    AddOperation, Patch, PatchFault, PatchOperation, apply_patches, is_whole, lookup, merge, patch,
+};
+use json_patch_editor::Editor;
+use serde_json::{Value, json};
+use std::alloc::{AllocError, Global};
+
+pub fn from_texts(alloc: Global) -> Result<Value, UpdateFault> {
+    let mut document = Value::from_str(alloc, r#"{"a":1,"l":[1,2]}"#)?;
+    let value = Value::from_str(alloc, r#"[{"op":"add","path":"/l/-","value":3}]"#)?;
+    let changes = Patch::from_value(alloc, &value)?;
+    if is_whole(&document) {
+        patch(alloc, &mut document, changes.as_slice())?;
+    }
+    Ok(document)
+}
+
+pub fn what_was_refused(
+    alloc: Global,
+    document: &mut Value,
+    changes: &Patch,
+) -> Result<String, AllocError>
+    requires document { IsDocument (view document.old) }
+    requires whole { AreWhole (operations changes.now.0.items) }
+{
+    match patch(alloc, document, changes.as_slice()) {
+        Ok(()) => String::from_str(alloc, "accepted"),
+        Err(PatchFault::Refused(error)) => format!(in alloc; "{error}"),
+        Err(PatchFault::Memory(error)) => Err(error),
+    }
+}
+
+pub fn there_and_back(
+    alloc: Global,
+    document: &mut Value,
+    changes: &Patch,
+) -> Result<String, UpdateFault>
+    requires document { IsDocument (view document.old) }
+    requires whole { AreWhole (operations changes.now.0.items) }
+{
+    let undo = apply_patches(alloc, document, changes.as_slice())?;
+    let told = format!(in alloc; "{undo}")?;
+    patch(alloc, document, undo.as_slice())?;
+    Ok(told)
+}
+
+pub fn written_and_read(alloc: Global, value: Value) -> Result<bool, UpdateFault> {
+    let mut path = PointerBuf::new();
+    path.push_back(alloc, "a/b")?;
+    path.push_back(alloc, "-")?;
+    let changes = Patch(vec![in alloc; PatchOperation::Add(AddOperation { path, value })]?);
+    let read = Patch::from_value(alloc, &changes.to_value(alloc)?)?;
+    Ok(read == changes)
+}
+
+pub fn merged_and_looked_up(
+    alloc: Global,
+    document: &mut Value,
+) -> Result<Option<Value>, AllocError>
+    requires { IsDocument (view document.old) }
+{
+    let mut path = PointerBuf::new();
+    path.push_back(alloc, "d")?;
+    let changes = json!(in alloc; {"a": {"b": null}, "d": [3]})?;
+    merge(alloc, document, &changes)?;
+    match lookup(document, path.as_pointer()) {
+        Some(found) => Ok(Some(found.clone()?)),
+        None => Ok(None),
+    }
+}
+
+pub fn taken_back(alloc: Global, document: Value, changes: &Patch) -> Result<Value, UpdateFault>
+    requires document { IsDocument (view document) }
+    requires whole { AreWhole (operations changes.now.0.items) }
+{
+    let mut editor = Editor::open(alloc, document, 100);
+    editor.apply(alloc, changes.as_slice())?;
+    editor.undo(alloc)?;
+    Ok(editor.into_document())
+}

@@ -1,0 +1,107 @@
+//! What each example answers.
+
+ghost use Rattle.serde_json.specs.View.{view};
+ghost use Rattle.json_patch.specs.Document.{IsDocument};
+ghost use Rattle.json_patch.specs.Operation.{AreWhole, operations};
+
+use crate::readme::{
+    from_texts, merged_and_looked_up, taken_back, there_and_back, what_was_refused,
+    written_and_read,
+};
+use json_patch::{Patch, is_whole};
+use serde_json::Value;
+use std::alloc::Global;
+use std::test::Fail;
+
+fn whole(alloc: Global, text: &str) -> Value
+    ensures { IsDocument (view result) }
+{
+    match Value::from_str(alloc, text) {
+        Ok(document) if is_whole(&document) => document,
+        _ => Value::Null,
+    }
+}
+
+fn changes(alloc: Global, text: &str) -> Patch
+    ensures { AreWhole (operations result.0.items) }
+{
+    let Ok(value) = Value::from_str(alloc, text) else {
+        return Patch::new(alloc);
+    };
+    match Patch::from_value(alloc, &value) {
+        Ok(changes) => changes,
+        Err(_) => Patch::new(alloc),
+    }
+}
+
+#[test]
+fn an_item_is_added(rt: HostRuntime) -> Result<(), Fail> {
+    let document = from_texts(rt.alloc()).expect(&rt, "an accepted patch");
+    let text = document.to_string(rt.alloc())?;
+    assert_eq!(rt; text.as_str(), r#"{"a":1,"l":[1,2,3]}"#);
+    Ok(())
+}
+
+#[test]
+fn a_refusal_names_its_operation(rt: HostRuntime) -> Result<(), Fail> {
+    let alloc = rt.alloc();
+    let mut document = whole(alloc, r#"{"a":1}"#);
+    let operations = r#"[{"op":"add","path":"/b","value":2},{"op":"remove","path":"/c/d"}]"#;
+    let told = what_was_refused(alloc, &mut document, &changes(alloc, operations))?;
+    assert_eq!(rt;
+        told.as_str(),
+        "operation '/1' failed at path '/c/d': path is invalid"
+    );
+    assert_eq!(rt; document.to_string(alloc)?.as_str(), r#"{"a":1}"#);
+    Ok(())
+}
+
+#[test]
+fn a_patch_leads_back(rt: HostRuntime) -> Result<(), Fail> {
+    let alloc = rt.alloc();
+    let mut document = whole(alloc, r#"{"a":{"b":1,"c":2}}"#);
+    let moved = changes(alloc, r#"[{"op":"move","from":"/a/b","path":"/a"}]"#);
+    let told = there_and_back(alloc, &mut document, &moved).expect(&rt, "an accepted patch");
+    let undo = concat!(
+        r#"[{"op":"replace","path":"/a","value":{"c":2}},"#,
+        r#"{"op":"add","path":"/a/b","value":1}]"#
+    );
+    assert_eq!(rt; told.as_str(), undo);
+    assert_eq!(rt;
+        document.to_string(alloc)?.as_str(),
+        r#"{"a":{"b":1,"c":2}}"#
+    );
+    Ok(())
+}
+
+#[test]
+fn what_is_written_is_read(rt: HostRuntime) -> Result<(), Fail> {
+    let value = Value::from_str(rt.alloc(), r#"[1,"x"]"#)?;
+    assert!(rt; written_and_read(rt.alloc(), value).expect(&rt, "a patch"));
+    Ok(())
+}
+
+#[test]
+fn a_merge_is_looked_up(rt: HostRuntime) -> Result<(), Fail> {
+    let alloc = rt.alloc();
+    let mut document = whole(alloc, r#"{"a":{"b":1},"c":2}"#);
+    let found = merged_and_looked_up(alloc, &mut document)?.expect(&rt, "a member");
+    assert_eq!(rt; found.to_string(alloc)?.as_str(), "[3]");
+    assert_eq!(rt;
+        document.to_string(alloc)?.as_str(),
+        r#"{"a":{},"c":2,"d":[3]}"#
+    );
+    Ok(())
+}
+
+#[test]
+fn an_edit_is_taken_back(rt: HostRuntime) -> Result<(), Fail> {
+    let alloc = rt.alloc();
+    let added = changes(alloc, r#"[{"op":"add","path":"/l/-","value":3}]"#);
+    let document = taken_back(alloc, whole(alloc, r#"{"l":[1,2]}"#), &added).expect(
+        &rt,
+        "no refusal",
+    );
+    assert_eq!(rt; document.to_string(alloc)?.as_str(), r#"{"l":[1,2]}"#);
+    Ok(())
+}
