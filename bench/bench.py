@@ -1,69 +1,183 @@
 #!/usr/bin/env python3
-"""Times json_patch_tool against Python's jsonpatch, end to end and in turn, and prints the ratios.
+"""Times single calls and whole programs beside three other implementations, in turn, and draws a picture.
 
-Both read `[document, patch]` from standard input and write the new document. Debian's package
-python3-jsonpatch has the other side. Build the program first: (cd crates/json_patch_tool && rt run -- patch < stdin)
+    bench/bench.py --calls DRIVER --tool TOOL [--rust-calls R --rust-tool S] [--rounds N] [--picture FILE]
+
+DRIVER is the program of bench/driver.rt.txt, which `diff/build FOLDER json_patch_timing
+bench/driver.rt.txt json_patch_editor` proves and builds; TOOL is json_patch_tool, which `rt run --
+patch < stdin` leaves in its folder out/. R and S are the programs of bench/rust/main.rs and
+diff/rust/main.rs, both round the Rust crate json-patch 5.0.0. nlohmann/json (Debian's
+nlohmann-json3-dev, with g++) and Python's jsonpatch (Debian's python3-jsonpatch) are taken where they
+are installed. In each round each program is called once, one after another; what is printed is the
+ratio of the medians, with the least and the greatest ratio of a round. The picture shows the time of
+one `replace` against the document's size. An edit and its undo by the editor are timed beside the same
+edit through a copy of the document.
 """
+import argparse
 import json
+import os
+import shutil
+import statistics
 import subprocess
+import tempfile
 import time
 
-TOOL = ["crates/json_patch_tool/out/json_patch_tool", "patch"]
-OTHER = ["/usr/bin/python3", "-c", """
-import json, sys
-import jsonpatch
-document, patch = json.load(sys.stdin)
-document = jsonpatch.apply_patch(document, patch, in_place=True)
-sys.stdout.write(json.dumps(document, separators=(",", ":")))
-"""]
-RUNS = 15
+import picture
+import workloads
+
+HERE = os.path.dirname(os.path.abspath(__file__))
+TOP = os.path.dirname(HERE)
+PYTHON = "/usr/bin/python3"
 
 
-def operations(count):
-    """Adds to a list and to an object, moves, copies, tests and removes."""
-    for i in range(count):
-        yield {"op": "add", "path": f"/rows/{i % 50}/tags/-", "value": i}
-        yield {"op": "test", "path": f"/rows/{i % 50}/id", "value": i % 50}
-        yield {"op": "add", "path": f"/names/n{i}", "value": {"k": [i, None, "text"]}}
-        yield {"op": "copy", "from": f"/names/n{i}", "path": "/last"}
-        yield {"op": "move", "from": f"/names/n{i}", "path": f"/names/m{i}"}
-        yield {"op": "replace", "path": f"/names/m{i}/k", "value": True}
+def compiled(folder, source):
+    program = os.path.join(folder, os.path.basename(os.path.dirname(source)) + "_nlohmann")
+    subprocess.run(["g++", "-O2", "-w", "-std=c++17", "-o", program, source], check=True)
+    return program
 
 
-def document(rows):
-    return {
-        "last": None,
-        "names": {},
-        "rows": [{"id": i, "tags": ["a", "b"], "text": "x" * 40} for i in range(rows)],
-    }
+class Side:
+    """An implementation: its timer of calls with their modes, and its whole program."""
+
+    def __init__(self, name, timer, modes, program):
+        self.name, self.timer, self.modes, self.program = name, timer, modes, program
 
 
-CASES = {
-    "startup: a small document, one operation": (document(1), list(operations(1))[:1]),
-    "50 rows, 6000 operations": (document(50), list(operations(1000))),
-    "50000 rows, 6 operations": (document(50_000), list(operations(1))),
-}
+def sides(asked, folder):
+    modes = {"patch": "patch", "merge": "merge"}
+    found = [Side("here", [asked.calls], modes, [asked.tool, "patch"])]
+    if asked.rust_calls and asked.rust_tool:
+        found.append(Side("json-patch 5.0.0", [asked.rust_calls], modes, [asked.rust_tool, "patch"]))
+    if shutil.which("g++") and os.path.isdir("/usr/include/nlohmann"):
+        timer = compiled(folder, os.path.join(HERE, "nlohmann.cpp"))
+        program = compiled(folder, os.path.join(TOP, "diff", "nlohmann.cpp"))
+        found.append(Side("nlohmann/json", [timer], {**modes, "in place": "inplace"}, [program, "patch"]))
+    if subprocess.run([PYTHON, "-c", "import jsonpatch"], capture_output=True).returncode == 0:
+        timer = [PYTHON, os.path.join(HERE, "python_peer.py")]
+        program = [PYTHON, os.path.join(TOP, "diff", "python_peer.py")]
+        modes = {"patch": "patch", "in place": "inplace"}
+        found.append(Side("jsonpatch (Python)", timer, modes, program))
+    return found
 
 
-def timed(command, text):
-    start = time.perf_counter()
-    done = subprocess.run(command, input=text, capture_output=True, check=True)
-    return time.perf_counter() - start, done.stdout
+def line_of(case):
+    return (json.dumps(case, separators=(",", ":")) + "\n").encode()
+
+
+def call(side, mode, count, line):
+    """The nanoseconds of one call."""
+    command = [*side.timer, side.modes[mode], str(count)]
+    spent = int(subprocess.run(command, input=line, capture_output=True, check=True).stdout)
+    assert spent > 0, f"{side.name}: a call was refused"
+    return spent
+
+
+def program(side, line):
+    """The nanoseconds of the whole program, and the document that it wrote."""
+    start = time.perf_counter_ns()
+    out = subprocess.run(side.program, input=line, capture_output=True, check=True).stdout
+    spent = time.perf_counter_ns() - start
+    return spent, json.loads(out.removeprefix(b"ok "))
+
+
+def rounds_of(asked, found, measure):
+    """The times of each side, a list each, made in turn."""
+    times = {side.name: [] for side in found}
+    for _ in range(asked.rounds):
+        for side in found:
+            times[side.name].append(measure(side))
+    return times
+
+
+def shown(nanoseconds):
+    for unit, size in (("s", 1e9), ("ms", 1e6), ("µs", 1e3)):
+        if nanoseconds >= size:
+            return f"{nanoseconds / size:.3g} {unit}"
+    return f"{nanoseconds} ns"
+
+
+def report(name, times):
+    ours = times.pop("here")
+    told = [f"{name}: {shown(statistics.median(ours))}"]
+    for other, theirs in times.items():
+        ratio = statistics.median(ours) / statistics.median(theirs)
+        each = [mine / other_time for mine, other_time in zip(ours, theirs)]
+        told.append(f"{other} {ratio:.2g} ({min(each):.2g} to {max(each):.2g})")
+    print("; ".join(told), flush=True)
+
+
+def calls(asked, found):
+    print("Calls: our median, and its ratio to each other (least and greatest of a round)")
+    for name, mode, count, case in workloads.CALLS:
+        line = line_of(case)
+        able = [side for side in found if mode in side.modes]
+        # a slow peer makes fewer calls
+        some = lambda side: max(1, count // 10) if side.timer[0] == PYTHON else count
+        report(name, rounds_of(asked, able, lambda side: call(side, mode, some(side), line)))
+
+
+def programs(asked, found):
+    print("Whole programs: reading, patching and writing")
+    for name, case in workloads.PROGRAMS:
+        line, written = line_of(case), []
+
+        def measure(side):
+            spent, document = program(side, line)
+            written.append(document)
+            return spent
+
+        times = rounds_of(asked, found, measure)
+        assert all(document == written[0] for document in written), name
+        report(name, times)
+
+
+def sizes(asked, found):
+    """One replace in documents of several sizes: the median time of each call, by its name."""
+    lines = {}
+    for size, rows, count in workloads.SIZES:
+        line = line_of(workloads.replace_in_the_middle(rows))
+        for side in found:
+            for mode in side.modes:
+                if mode != "merge":
+                    some = max(1, count // 20) if side.timer[0] == PYTHON else count
+                    times = [call(side, mode, some, line) for _ in range(asked.rounds)]
+                    name = side.name if mode == "patch" else f"{side.name}, in place"
+                    lines.setdefault(name, []).append((size, statistics.median(times)))
+    for name, points in lines.items():
+        print(f"{name}: " + ", ".join(f"{size} B {shown(spent)}" for size, spent in points))
+    return lines
+
+
+def edits(asked):
+    """An edit and its undo: by the editor, and through a copy of the document that is let go."""
+    print("The editor: an edit and its undo, and the same edit on a copy of the document")
+    for size, rows, count in workloads.SIZES[1::2] + workloads.SIZES[-1:]:
+        line, told = line_of(workloads.replace_in_the_middle(rows)), []
+        for mode, calls_made in (("editor", 20_000), ("clone", max(1, count // 10))):
+            side = Side("here", [asked.calls], {mode: mode}, None)
+            times = [call(side, mode, calls_made, line) for _ in range(asked.rounds)]
+            told.append(f"{mode} {shown(statistics.median(times))}")
+        print(f"{size} B: " + ", ".join(told), flush=True)
 
 
 def main():
-    for name, case in CASES.items():
-        text = json.dumps(case, separators=(",", ":")).encode()
-        best = {}
-        for _ in range(RUNS):
-            answers = []
-            for side, command in (("tool", TOOL), ("other", OTHER)):
-                seconds, out = timed(command, text)
-                best[side] = min(seconds, best.get(side, seconds))
-                answers.append(json.loads(out))
-            assert answers[0] == answers[1], name
-        ratio = best["tool"] / best["other"]
-        print(f"{name}: {best['tool'] * 1000:.1f} ms / {best['other'] * 1000:.1f} ms = {ratio:.2f}")
+    words = argparse.ArgumentParser()
+    words.add_argument("--calls", required=True)
+    words.add_argument("--tool", required=True)
+    words.add_argument("--rust-calls")
+    words.add_argument("--rust-tool")
+    words.add_argument("--rounds", type=int, default=7)
+    words.add_argument("--picture")
+    asked = words.parse_args()
+    with tempfile.TemporaryDirectory() as folder:
+        found = sides(asked, folder)
+        calls(asked, found)
+        programs(asked, found)
+        edits(asked)
+        lines = sizes(asked, found)
+        if asked.picture:
+            with open(asked.picture, "w", encoding="utf-8") as file:
+                file.write(picture.of(lines))
 
 
 if __name__ == "__main__":

@@ -1,0 +1,21 @@
+"""Times the calls of Python's jsonpatch as bench/driver.rt.txt times those here: its arguments are
+`MODE COUNT`, its input is `[document,patch]`, and it prints the nanoseconds of one call. The modes are
+`patch`, which answers a new document, and `inplace`, which leaves a refused patch part-way and works
+on a fresh copy, whose making isn't counted."""
+import copy
+import json
+import sys
+import time
+
+import jsonpatch
+
+mode, count = sys.argv[1], int(sys.argv[2])
+document, operations = json.load(sys.stdin)
+changes = jsonpatch.JsonPatch(operations)
+spent = 0
+for _ in range(count):
+    work = copy.deepcopy(document) if mode == "inplace" else document
+    start = time.perf_counter_ns()
+    changes.apply(work, in_place=mode == "inplace")
+    spent += time.perf_counter_ns() - start
+print(spent // count)
