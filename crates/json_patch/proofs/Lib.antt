@@ -40,8 +40,9 @@ pub mod ReadStages
 pub mod ReadItems
 pub mod Back
 pub mod Merges
-pub mod MergeSteps
 pub mod Below
 pub mod Locality
 pub mod SharedTokens
 pub mod PartRuns
+pub mod Passing
+pub mod Filling

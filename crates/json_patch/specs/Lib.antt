@@ -27,3 +27,4 @@ pub mod RunComputed
 pub mod InverseComputed
 pub mod MergedComputed
 pub mod SharedComputed
+pub mod Filled
