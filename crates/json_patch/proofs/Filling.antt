@@ -10,7 +10,7 @@ use Rattle.std.specs.Ordering.{match_ordering}
 use Rattle.serde_json.specs.Data.{Data, null, object, Members, no_members, member, put}
 use Rattle.serde_json.specs.Find.{get, get_member, as_null, as_object}
 use Rattle.serde_json.specs.View.{view, members_view}
-use Rattle.serde_json.specs.declared.value.Value.{Value, Null, Object, the_lemmas}
+use Rattle.serde_json.specs.declared.value.Value.{Value, Object, the_lemmas}
 use Rattle.serde_json.proofs.Views.{Entry, get_member-put, members_view-insert_entry, view-lookup, view-Object}
 use Rattle.json_patch.specs.Document.{IsDocument, AreMembers, sight_of, key, map as an_object}
 use Rattle.json_patch.specs.ChangeComputed.{without}
@@ -72,12 +72,12 @@ prunes_found t es d q e found other step = subst (λ o. IsPrunedMember o (Some q
 pub prunes_missing : (t : List ℕ) (es : List Entry) (q : Data) → None ≡ lookup (is_named t) es → q ≢ null → IsPrunedMember (get_member t (members_view es)) (Some q) (get_member t (members_view es))
 prunes_missing t es q found other = subst (λ o. IsPrunedMember o (Some q) o) (sym (found_at t es None found)) (prunes_absent q other)
 
-pub other_value : (v : Value) → ((m : BTreeMap (String Global) Value) → v ≡ Object m → ⊥) → None ≡ as_object (view v)
-other_value v out = search (rules, the_lemmas, out)
-
-pub no_object : (d : Data) → None ≡ as_object d → sight_of d ≢ an_object
+no_object : (d : Data) → None ≡ as_object d → sight_of d ≢ an_object
 no_object (object ms) none is = cc
 no_object d none is = cc
+
+pub other_value : (v : Value) → ((m : BTreeMap (String Global) Value) → v ≡ Object m → ⊥) → sight_of (view v) ≢ an_object
+other_value v out = no_object (view v) (search (rules, the_lemmas, out))
 
 pub pruned_other : {d p w : Data} → (sight_of p ≡ an_object → sight_of w ≢ an_object) → IsFilled d p w → IsMerged d p w
 pruned_other out (replaces other) = m.replaces other
@@ -144,21 +144,32 @@ other_stays log d is = search (rules, of_formers)
 
 -- ---- filled
 
-pub filled_atom : (target patch dest former : Value) → None ≡ as_object (view patch) → view dest ≡ view patch → former ≡ target → IsDocument (view patch)
-    → IsFilled (view target) (view patch) (view dest) × IsDocument (view dest) × (formerly (Replaced former) (Some (view dest)) ≡ Some (view target))
-filled_atom target patch dest former atom is was hp =
-    (subst (IsFilled (view target) (view patch)) (sym is) (replaces (no_object (view patch) atom)), subst IsDocument (sym is) hp, rw was (search (rules, of_formers)))
-
-absent_in : (d : Data) (k : List ℕ) → None ≡ as_object d → get k d ≡ None
-absent_in (object ms) k other = cc
+absent_in : (d : Data) (k : List ℕ) → sight_of d ≢ an_object → get k d ≡ None
+absent_in (object ms) k other = absurd (other refl)
 absent_in d k other = refl
 
-pub filled_anew : (target patch dest former : Value) (n ps : BTreeMap (String Global) Value) (es : List Entry) → None ≡ as_object (view target) → patch ≡ Object ps → dest ≡ Object n → former ≡ target → es ≡ []
-    → AreFilled (members_view es) (members_view ps.entries) (members_view n.entries) → AreMembers (members_view n.entries)
+on_cases : (o : Ordering) (found : Option Data) (q : Data) → IsFilledMember None found found → IsFilledMember None (Some q) (Some q) → IsFilledMember None (match_ordering o found (Some q) found) (match_ordering o found (Some q) found)
+on_cases Less found q later here = later
+on_cases Equal found q later here = here
+on_cases Greater found q later here = later
+
+value_itself : (q : Data) → IsFilled null q q → IsFilledMember None (Some q) (Some q)
+value_itself null h = left
+value_itself q h = fills (λ h. cc) h
+
+-- a value of the patch fills a name as it is: what the patch removes within it goes later
+mutual
+  pub filled_itself : (p d : Data) → (sight_of p ≡ an_object → sight_of d ≢ an_object) → IsFilled d p p
+  filled_itself (object ps) d other = by_key refl refl (λ k. subst (λ o. IsFilledMember o (get_member k ps) (get_member k ps)) (sym (absent_in d k (other refl))) (member_itself k ps))
+  filled_itself p d other = replaces (λ h. cc)
+
+  member_itself : (k : List ℕ) (ps : Members) → IsFilledMember None (get_member k ps) (get_member k ps)
+  member_itself k no_members = stays
+  member_itself k (member l q ps) = on_cases (slice_cmp nat_cmp k l) (get_member k ps) q (member_itself k ps) (value_itself q (filled_itself q null (λ h. λ e. cc)))
+
+pub filled_whole : (target patch dest former : Value) → (sight_of (view patch) ≡ an_object → sight_of (view target) ≢ an_object) → view dest ≡ view patch → former ≡ target → IsDocument (view patch)
     → IsFilled (view target) (view patch) (view dest) × IsDocument (view dest) × (formerly (Replaced former) (Some (view dest)) ≡ Some (view target))
-filled_anew target patch dest former n ps es other named is was empty each hn =
-    rw (named, is, was, view-Object n, view-Object ps)
-    (by_key refl refl (λ k. subst (λ o. IsFilledMember o (get_member k (members_view ps.entries)) (get_member k (members_view n.entries))) (ap (λ x. get_member k (members_view x)) empty ∙ sym (absent_in (view target) k other)) (each k)), hn, search (rules, of_formers))
+filled_whole target patch dest former other is was hp = (subst (IsFilled (view target) (view patch)) (sym is) (filled_itself (view patch) (view target) other), subst IsDocument (sym is) hp, rw was (search (rules, of_formers)))
 
 pub filled_object : (log : Vec (Bor (List ℕ) × Former) Global) (old new patch : Value) (m n ps : BTreeMap (String Global) Value) → old ≡ Object m → new ≡ Object n → patch ≡ Object ps
     → (AreMembers (members_view m.entries) → AreMembers (members_view ps.entries)
@@ -184,14 +195,16 @@ fills_found (Ok former) t es new d w q order found is h step =
 fills_found (Err e) t es new d w q order found is h step =
     ap members_view is ∙ members_view-set_same t es w d (sym found) (step (found_document t es d found h))
 
-pub view-Null : view Null ≡ null
-view-Null = search (rules, the_lemmas)
-
-pub fills_missing : (t : List ℕ) (es new : List Entry) (k : String Global) (w : Value) (q : Data) → None ≡ lookup (is_named t) es → string_bytes k ≡ t → new ≡ insert_entry string_cmp es k w → IsFilled null q (view w) → IsDocument (view w)
+pub fills_missing : (t : List ℕ) (es new : List Entry) (k : String Global) (w : Value) (q : Data) → None ≡ lookup (is_named t) es → string_bytes k ≡ t → new ≡ insert_entry string_cmp es k w → view w ≡ q → IsDocument q
     → (x : Data) × (members_view new ≡ put t x (members_view es)) × IsFilled (unwrap_or (get_member t (members_view es)) null) q x × IsDocument x × (formerly Nothing (Some x) ≡ get_member t (members_view es))
-fills_missing t es new k w q found named is f hw =
-    let here = found_at t es None found in
-    (view w, ap members_view is ∙ members_view-insert_entry es k w ∙ ap (λ x. put x (view w) (members_view es)) named, subst (λ o. IsFilled (unwrap_or o null) q (view w)) (sym here) f, hw, search (rules, of_formers) ∙ sym here)
+fills_missing t es new k w q found named is same hq =
+    let here = found_at t es None found in (
+      q,
+      ap members_view is ∙ members_view-insert_entry es k w ∙ ap (λ x. put x (view w) (members_view es)) named ∙ ap (λ d. put t d (members_view es)) same,
+      subst (λ o. IsFilled (unwrap_or o null) q q) (sym here) (filled_itself q null (λ h. λ e. cc)),
+      hq,
+      search (rules, of_formers) ∙ sym here,
+    )
 
 pub fills_step : (t : List ℕ) (ms ns : Members) (q : Data) (former : Former) → q ≢ null → AreMembers ms → FillsAt (Ok former) t ms q ns
     → (o : Option Data) × ChangesAt t ms ns o × IsFilledMember (get_member t ms) (Some q) o

@@ -3,11 +3,11 @@
 ghost use Rattle.json_patch.specs.Document.{AreMembers, IsDocument};
 ghost use Rattle.json_patch.specs.Filled.{AreFilled, ArePruned, Fills, FillsAll, FillsAt, IsFilled, formerly, members_before, with_member};
 ghost use Rattle.json_patch.specs.Merged.{IsMerged};
+ghost use Rattle.json_patch.specs.declared.merging.Former.{Filled};
 ghost use Rattle.serde_json.specs.Data.{Data};
 ghost use Rattle.serde_json.specs.Find.{get_member};
 ghost use Rattle.serde_json.specs.View.{view, members_view};
-ghost use Rattle.std.specs.Prelude.{◌≡◌, OnOk, OnErr, string_bytes, Some};
-ghost use Rattle.json_patch.specs.declared.merging.Former.{Filled};
+ghost use Rattle.std.specs.Prelude.{◌≡◌, OnOk, OnErr, Some, string_bytes};
 
 use serde_json::{Map, Value};
 use std::alloc::{AllocError, Global};
@@ -51,16 +51,13 @@ fn fill<'a>(alloc: Global, patch: &'a Value, target: &mut Value) -> Result<Forme
     ensures { IsDocument (view target.old) → IsDocument (view patch.now)
         → Fills result (view target.old) (view patch.now) (view target.new) }
 {
-    let Value::Object(changes) = patch else {
-        let value = patch.clone()?;
-        return Ok(Former::Replaced(mem::replace(target, value)));
-    };
-    if let Value::Object(members) = target {
-        return Ok(Former::Filled(fill_members(alloc, changes, members)?));
+    if let Value::Object(changes) = patch {
+        if let Value::Object(members) = target {
+            return Ok(Former::Filled(fill_members(alloc, changes, members)?));
+        }
     }
-    let mut members = Map::new(alloc);
-    drop(fill_members(alloc, changes, &mut members)?);
-    Ok(Former::Replaced(mem::replace(target, Value::Object(members))))
+    let value = patch.clone()?;
+    Ok(Former::Replaced(mem::replace(target, value)))
 }
 
 /// Fills the members, and answers what it found, in the order of the changes.
@@ -125,9 +122,7 @@ fn fill_member<'a>(
     if let Some(member) = members.get_mut(name.as_str()) {
         return fill(alloc, change, member);
     }
-    let mut member = Value::Null;
-    drop(fill(alloc, change, &mut member)?);
-    drop(members.insert(name.clone()?, member)?);
+    drop(members.insert(name.clone()?, change.clone()?)?);
     Ok(Former::Nothing)
 }
 

@@ -1,30 +1,28 @@
-use Rattle.std.proofs.Common.{string_bytes, subst, rules, refl, sym, ap, ◌∙◌}
-use Rattle.serde_json.specs.View.{view, members_view}
+use Rattle.std.proofs.Common.{string_bytes, rules, refl, sym, ap, ◌∙◌}
+use Rattle.serde_json.specs.View.{view}
 use Rattle.serde_json.specs.declared.value.Value.{Object, the_lemmas}
-use Rattle.serde_json.proofs.Views.{view-Object}
-use Rattle.json_patch.specs.Document.{IsDocument, AreMembers}
-use Rattle.json_patch.specs.Filled.{IsFilled, IsFilledMember, stays, left}
+use Rattle.json_patch.specs.Filled.{IsFilledMember, stays, left}
 use Rattle.json_patch.proofs.Passing.{starts, steps_at, changes_nothing, next_document}
-use Rattle.json_patch.proofs.Filling.{null_here, other_here, other_value, filled_atom, filled_anew, filled_object, filled_no_object, fills_found, fills_missing, fills_step, fills_back, view-Null}
+use Rattle.json_patch.proofs.Filling.{null_here, other_here, other_value, filled_whole, filled_object, filled_no_object, fills_found, fills_missing, fills_step, fills_back}
+use Rattle.json_patch.proofs.merging.+filling.Goals.{fill-in-Object+in_default-target, fill-in_default}
 use Rattle.json_patch.proofs.merging.+filling.Goals as goal
 
-pub fill-returns-in_default : goal.fill-returns-in_default
-fill-returns-in_default t c hd hp =
-    filled_atom c.args.target.now c.args.patch.now c.replace.new.dest c.replace.result (other_value c.args.patch.now c.in_default.not-Object) (ap view c.replace.ensures.after ∙ c.in_ok-value.ensures.cases) c.replace.ensures.value hp
+pub fill-returns : goal.fill-returns
+fill-returns t c hd hp =
+    filled_whole c.args.target.now c.args.patch.now c.replace.new.dest c.replace.result
+    (elim c.match-patch.branch [
+      | fill-in-Object+in_default-target w ↦ λ named. other_value c.args.target.now w.in_default-target.not-Object
+      | fill-in_default w ↦ λ named. absurd (other_value c.args.patch.now w.in_default.not-Object named)
+    ])
+    (ap view c.replace.ensures.after ∙ c.in_ok-value.ensures.cases) c.replace.ensures.value hp
 
 pub fill-returns-in_err-fill_members : goal.fill-returns-in_err-fill_members
 fill-returns-in_err-fill_members t c =
-    filled_no_object _ _ _ _ _ c.fill_members.new.members c.in-Object.changes c.from_residual-in_err-fill_members.ensures.0 (c.in-Object-target.is ∙ ap Object (sym c.in-Object-target.members-is)) (search (rules, the_lemmas)) c.in-Object.is c.in_err-fill_members.ensures
+    filled_no_object _ _ _ _ _ c.fill_members.new.members c.in-Object.changes c.from_residual.ensures.0 (c.in-Object-target.is ∙ ap Object (sym c.in-Object-target.members-is)) (search (rules, the_lemmas)) c.in-Object.is c.in_err-fill_members.ensures
 
 pub fill-returns-in-Object-target : goal.fill-returns-in-Object-target
 fill-returns-in-Object-target t c =
     filled_object c.in_ok-fill_members.field-0 _ _ _ _ c.fill_members.new.members c.in-Object.changes (c.in-Object-target.is ∙ ap Object (sym c.in-Object-target.members-is)) (search (rules, the_lemmas)) c.in-Object.is c.in_ok-fill_members.ensures
-
-pub fill-returns : goal.fill-returns
-fill-returns t c hd hp =
-    let r = c.in_ok-fill_members-2.ensures (subst (λ es. AreMembers (members_view es)) (sym c.new-members.ensures.empty) tt) (subst IsDocument (ap view c.in-Object.is ∙ view-Object c.in-Object.changes) hp) in
-    filled_anew c.args.target.now c.args.patch.now c.replace-2.new.dest c.replace-2.result c.fill_members-2.new.members c.in-Object.changes c.new-members.result.entries
-    (other_value c.args.target.now c.in_default-target.not-Object) c.in-Object.is c.replace-2.ensures.after c.replace-2.ensures.value c.new-members.ensures.empty r.0 r.1
 
 pub fill_each-loop-name-init : goal.fill_each-loop-name-init
 fill_each-loop-name-init t c hs hp = (starts IsFilledMember (λ was. stays) _ _ _ (search rules) hs hp, refl)
@@ -55,6 +53,5 @@ fill_member-returns-in-Some t c h hq =
 
 pub fill_member-returns : goal.fill_member-returns
 fill_member-returns t c h hq =
-    let f = c.in_ok-fill.ensures (subst IsDocument (sym view-Null) tt) hq in
-    fills_missing (string_bytes c.args.name.now) c.args.members.now.entries c.insert.new.self.entries c.in_ok-clone.field-0 c.fill-2.new.target (view c.args.change.now) (rw c.as_str.ensures.value at c.in_default.ensures.value)
-    c.in_ok-clone.ensures.cases (rw c.get_mut.follows.holds-at-none at c.in_ok-insert.ensures.entries) (subst (λ d. IsFilled d (view c.args.change.now) (view c.fill-2.new.target)) view-Null f.0) f.1
+    fills_missing (string_bytes c.args.name.now) c.args.members.now.entries c.insert.new.self.entries c.in_ok-clone.field-0 c.in_ok-clone-2.field-0 (view c.args.change.now) (rw c.as_str.ensures.value at c.in_default.ensures.value)
+    c.in_ok-clone.ensures.cases (rw c.get_mut.follows.holds-at-none at c.in_ok-insert.ensures.entries) c.in_ok-clone-2.ensures.cases hq

@@ -3,7 +3,7 @@ use Rattle.serde_json.specs.View.{view, members_view}
 use Rattle.serde_json.specs.declared.value.Value.{Object, the_lemmas}
 use Rattle.json_patch.specs.Filled.{IsPrunedMember}
 use Rattle.json_patch.proofs.Passing.{starts, steps_at, changes_nothing, changes_written, changes_removed}
-use Rattle.json_patch.proofs.Filling.{null_here, other_here, atom_here, pruned_object, pruned_other, other_value, no_object, prunes_unnamed, prunes_null, prunes_found, prunes_missing, prunes_atom, found_document}
+use Rattle.json_patch.proofs.Filling.{null_here, other_here, atom_here, pruned_object, pruned_other, other_value, prunes_unnamed, prunes_null, prunes_found, prunes_missing, prunes_atom, found_document}
 use Rattle.json_patch.proofs.merging.+pruning.Goals as goal
 
 pub prune-returns-in-Object-target : goal.prune-returns-in-Object-target
@@ -11,10 +11,10 @@ prune-returns-in-Object-target t c =
     pruned_object _ _ _ _ c.prune_members.new.members c.in-Object.changes (c.in-Object-target.is ∙ ap Object (sym c.in-Object-target.members-is)) (search (rules, the_lemmas)) c.in-Object.is c.prune_members.ensures
 
 pub prune-returns-in_default-target : goal.prune-returns-in_default-target
-prune-returns-in_default-target t c hd hp = (hd, λ d. pruned_other (λ named. no_object (view c.args.target.now) (other_value c.args.target.now c.in_default-target.not-Object)))
+prune-returns-in_default-target t c hd hp = (hd, λ d. pruned_other (λ named. other_value c.args.target.now c.in_default-target.not-Object))
 
 pub prune-returns-in_default : goal.prune-returns-in_default
-prune-returns-in_default t c hd hp = (hd, λ d. pruned_other (λ named. absurd (no_object (view c.args.patch.now) (other_value c.args.patch.now c.in_default.not-Object) named)))
+prune-returns-in_default t c hd hp = (hd, λ d. pruned_other (λ named. absurd (other_value c.args.patch.now c.in_default.not-Object named)))
 
 pub prune_members-loop-name-init : goal.prune_members-loop-name-init
 prune_members-loop-name-init t c = starts IsPrunedMember prunes_unnamed _ _ _ (search rules)
