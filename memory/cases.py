@@ -160,6 +160,11 @@ MERGES = {
     "a null in an object": ({}, {"a": {"b": None}}, {"a": {}}),
     "an object for a list": ([1], {"a": 1}, {"a": 1}),
     "null for an object": ({"a": 1}, None, None),
+    "objects at two depths": (
+        {"a": {"b": 1, "c": "text", "d": {"e": "text"}}, "f": "text", "z": [1]},
+        {"a": {"b": {"m": "text", "n": None}, "c": None, "d": {"e": 2}}, "f": [1], "g": {"h": 3}},
+        {"a": {"b": {"m": "text"}, "d": {"e": 2}}, "f": [1], "g": {"h": 3}, "z": [1]},
+    ),
 }
 
 

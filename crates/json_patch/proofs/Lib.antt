@@ -40,7 +40,8 @@ pub mod PatchValues
 pub mod ReadItems
 pub mod Back
 pub mod Merges
-pub mod MergeSteps
 pub mod Below
 pub mod Locality
 pub mod SharedTokens
+pub mod Passing
+pub mod Filling

@@ -50,7 +50,7 @@ mutual
 
 -- ---- it is Merged
 
-name_cases : (q k : List ℕ) → (q ≡ k) ⊎ (q ≢ k)
+pub name_cases : (q k : List ℕ) → (q ≡ k) ⊎ (q ≢ k)
 name_cases q k = ⊎_elim (λ (e : key q ≡ key k). inl cc) (λ (out : key q ≡ key k → ⊥). inr (λ h. out (ap key h))) (step_cases (key q) (key k))
 
 get_members : (q : List ℕ) (d : Data) → get_member q (members_of d) ≡ get q d

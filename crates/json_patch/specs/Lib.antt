@@ -28,3 +28,4 @@ pub mod RunComputed
 pub mod InverseComputed
 pub mod MergedComputed
 pub mod SharedComputed
+pub mod Filled

@@ -1,13 +1,28 @@
 //! JSON Merge Patch (RFC 7396, section 2).
 
 ghost use Rattle.json_patch.specs.Document.{AreMembers, IsDocument};
+ghost use Rattle.json_patch.specs.Filled.{AreFilled, ArePruned, Fills, FillsAll, FillsAt, IsFilled, formerly, members_before, with_member};
 ghost use Rattle.json_patch.specs.Merged.{IsMerged};
-ghost use Rattle.json_patch.specs.MergedComputed.{merged, merged_members};
+ghost use Rattle.json_patch.specs.declared.merging.Former.{Filled};
+ghost use Rattle.serde_json.specs.Data.{Data};
+ghost use Rattle.serde_json.specs.Find.{get_member};
 ghost use Rattle.serde_json.specs.View.{view, members_view};
-ghost use Rattle.std.specs.Prelude.{◌≡◌, OnOk, OnErr};
+ghost use Rattle.std.specs.Prelude.{◌≡◌, OnOk, OnErr, Some, string_bytes};
 
 use serde_json::{Map, Value};
 use std::alloc::{AllocError, Global};
+use std::mem;
+
+/// What a merge found at a name that it fills.
+#[derive(Drop)]
+enum Former<'a> {
+    /// No member of that name.
+    Nothing,
+    /// The value that another replaced.
+    Replaced(Value),
+    /// An object, and what was found in it, by name.
+    Filled(Vec<(&'a str, Former<'a>)>),
+}
 
 /// Merges a merge patch into a document (RFC 7396, section 2).
 ///
@@ -16,67 +31,170 @@ use std::alloc::{AllocError, Global};
 /// into null where there is none. Members that the patch doesn't name stay, and a document that is
 /// no object counts as one with no members.
 ///
-/// It works on a copy, which takes the document's place at the end. The only error is want of
-/// memory.
+/// It copies nothing of the document. All that takes memory comes first and is taken back where
+/// memory is short, which is the only error.
 pub fn merge(alloc: Global, doc: &mut Value, patch: &Value) -> Result<(), AllocError>
     requires document { IsDocument (view doc.old) }
     requires whole { IsDocument (view patch.now) }
     ensures merged { OnOk result (IsMerged (view doc.old) (view patch.now) (view doc.new)) }
-    ensures unchanged { OnErr result (doc.new ≡ doc.old) }
+    ensures unchanged { OnErr result (view doc.new ≡ view doc.old) }
     ensures document { IsDocument (view doc.new) }
 {
-    // Members alone can stay, and only under a patch that has members too.
-    let mut merged = if doc.is_object() && patch.is_object() {
-        doc.clone()?
-    } else {
-        Value::Null
-    };
-    merge_value(alloc, patch, &mut merged)?;
-    *doc = merged;
+    drop(fill(alloc, patch, doc)?);
+    prune(patch, doc);
     Ok(())
 }
 
-// Where it fails, the target is left part-way. The patch comes first: the recursion goes down it.
-#[cycle(merging)]
-fn merge_value(alloc: Global, patch: &Value, target: &mut Value) -> Result<(), AllocError>
-    ensures { OnOk result (IsDocument (view target.old) → IsDocument (view patch.now)
-        → view target.new ≡ merged (view target.old) (view patch.now)) }
+/// Merges the patch but for its removals, and answers what it found.
+#[cycle(filling)]
+fn fill<'a>(alloc: Global, patch: &'a Value, target: &mut Value) -> Result<Former<'a>, AllocError>
+    ensures { IsDocument (view target.old) → IsDocument (view patch.now)
+        → Fills result (view target.old) (view patch.now) (view target.new) }
 {
-    let Value::Object(changes) = patch else {
-        *target = patch.clone()?;
-        return Ok(());
-    };
-    if let Value::Object(members) = target {
-        return merge_members(alloc, changes, members);
+    if let Value::Object(changes) = patch {
+        if let Value::Object(members) = target {
+            return Ok(Former::Filled(fill_members(alloc, changes, members)?));
+        }
     }
-    let mut members = Map::new(alloc);
-    merge_members(alloc, changes, &mut members)?;
-    *target = Value::Object(members);
+    let value = patch.clone()?;
+    Ok(Former::Replaced(mem::replace(target, value)))
+}
+
+/// Fills the members, and answers what it found, in the order of the changes.
+#[cycle(filling)]
+fn fill_members<'a>(
+    alloc: Global,
+    changes: &'a Map<String, Value>,
+    members: &mut Map<String, Value>,
+) -> Result<Vec<(&'a str, Former<'a>)>, AllocError>
+    ensures { AreMembers (members_view members.old.entries)
+        → AreMembers (members_view changes.now.entries)
+        → FillsAll result (members_view members.old.entries) (members_view changes.now.entries)
+        (members_view members.new.entries) }
+{
+    let mut log = Vec::new(alloc);
+    if fill_each(alloc, changes, members, &mut log).is_err() {
+        restore(log, members);
+        return Err(AllocError);
+    }
+    Ok(log)
+}
+
+/// Fills the members up to the first for which memory is short.
+#[cycle(filling)]
+fn fill_each<'a>(
+    alloc: Global,
+    changes: &'a Map<String, Value>,
+    members: &mut Map<String, Value>,
+    log: &mut Vec<(&'a str, Former<'a>)>,
+) -> Result<(), AllocError>
+    ensures filled { OnOk result (AreMembers (members_view members.old.entries)
+        → AreMembers (members_view changes.now.entries)
+        → AreFilled (members_view members.old.entries) (members_view changes.now.entries)
+        (members_view members.new.entries)) }
+    ensures back { AreMembers (members_view members.old.entries)
+        → AreMembers (members_view changes.now.entries)
+        → AreMembers (members_view members.new.entries)
+        × (members_before log.new.items (members_view members.new.entries)
+        ≡ members_before log.old.items (members_view members.old.entries)) }
+{
+    for (name, change) in changes {
+        if !change.is_null() {
+            log.reserve(1)?;
+            let former = fill_member(alloc, name, change, members)?;
+            log.push_reserved((name.as_str(), former));
+        }
+    }
     Ok(())
 }
 
-#[cycle(merging)]
-fn merge_members(
+#[cycle(filling)]
+fn fill_member<'a>(
     alloc: Global,
-    changes: &Map<String, Value>,
+    name: &String,
+    change: &'a Value,
     members: &mut Map<String, Value>,
-) -> Result<(), AllocError>
-    ensures { OnOk result (AreMembers (members_view members.old.entries)
+) -> Result<Former<'a>, AllocError>
+    ensures { AreMembers (members_view members.old.entries) → IsDocument (view change.now)
+        → FillsAt result (string_bytes name.now) (members_view members.old.entries)
+        (view change.now) (members_view members.new.entries) }
+{
+    if let Some(member) = members.get_mut(name.as_str()) {
+        return fill(alloc, change, member);
+    }
+    drop(members.insert(name.clone()?, change.clone()?)?);
+    Ok(Former::Nothing)
+}
+
+/// Takes back the changes of this log, the last one first.
+#[cycle(restoring)]
+fn restore(mut log: Vec<(&str, Former<'_>)>, members: &mut Map<String, Value>)
+    ensures { members_view members.new.entries
+        ≡ members_before log.entry.items (members_view members.old.entries) }
+{
+    while let Some((name, former)) = log.pop() {
+        restore_member(name, former, members);
+    }
+}
+
+#[cycle(restoring)]
+fn restore_member(name: &str, former: Former<'_>, members: &mut Map<String, Value>)
+    ensures { let ms = members_view members.old.entries in members_view members.new.entries
+        ≡ with_member name.now (formerly former.entry (get_member name.now ms)) ms }
+{
+    match former {
+        Former::Nothing => drop(members.remove(name)),
+        Former::Replaced(value) => {
+            if let Some(member) = members.get_mut(name) {
+                *member = value;
+            }
+        }
+        Former::Filled(log) => {
+            if let Some(member) = members.get_mut(name) {
+                restore_in(log, member);
+            }
+        }
+    }
+}
+
+#[cycle(restoring)]
+fn restore_in(log: Vec<(&str, Former<'_>)>, target: &mut Value)
+    ensures { formerly (Filled log.entry) (Some (view target.old)) ≡ Some (view target.new) }
+{
+    if let Value::Object(members) = target {
+        restore(log, members);
+    }
+}
+
+/// Removes what the patch removes.
+#[cycle(pruning)]
+fn prune(patch: &Value, target: &mut Value)
+    ensures { IsDocument (view target.old) → IsDocument (view patch.now)
+        → IsDocument (view target.new) × ((d : Data) → IsFilled d (view patch.now) (view target.old)
+        → IsMerged d (view patch.now) (view target.new)) }
+{
+    if let Value::Object(changes) = patch {
+        if let Value::Object(members) = target {
+            prune_members(changes, members);
+        }
+    }
+}
+
+#[cycle(pruning)]
+fn prune_members(changes: &Map<String, Value>, members: &mut Map<String, Value>)
+    ensures { AreMembers (members_view members.old.entries)
         → AreMembers (members_view changes.now.entries)
-        → members_view members.new.entries
-        ≡ merged_members (members_view members.old.entries)
-        (members_view changes.now.entries)) }
+        → AreMembers (members_view members.new.entries)
+        × ArePruned (members_view members.old.entries) (members_view changes.now.entries)
+        (members_view members.new.entries) }
 {
     for (name, change) in changes {
         if change.is_null() {
             drop(members.remove(name.as_str()));
-        } else if let Some(member) = members.get_mut(name.as_str()) {
-            merge_value(alloc, change, member)?;
-        } else {
-            let mut member = Value::Null;
-            merge_value(alloc, change, &mut member)?;
-            drop(members.insert(name.clone()?, member)?);
+        } else if change.is_object() {
+            if let Some(member) = members.get_mut(name.as_str()) {
+                prune(change, member);
+            }
         }
     }
-    Ok(())
 }

@@ -1,0 +1,240 @@
+-- What is filled and then pruned is merged, and what was found leads back.
+use Rattle.std.proofs.Common.{◌≡◌, ◌≢◌, Vec, BTreeMap, String, Global, Result, Ok, Err, IsErr, Bool, true, false, is_some, string_bytes, string_cmp, rules, ℕ, suc, ◌+◌, arith, List, [], ◌∷◌, ◌++◌, map, Option, Some, None, option_map, unwrap_or, Less, Equal, Greater, Ordering, nat_cmp, refl, sym, ap, ◌∙◌, subst}
+use Rattle.std.proofs.lemmas.List.{map-append}
+use Rattle.std.specs.Borrow.{Bor}
+use Rattle.std.specs.declared.alloc.AllocError.{AllocError}
+use Rattle.std.specs.BTreeMap.{insert_entry}
+use Rattle.std.specs.Map.{lookup, remove_entry, set_value}
+use Rattle.std.specs.Cmp.Lexicographic.{slice_cmp}
+use Rattle.std.specs.Ordering.{match_ordering}
+use Rattle.serde_json.specs.Data.{Data, null, object, Members, no_members, member, put}
+use Rattle.serde_json.specs.Find.{get, get_member, as_null, as_object}
+use Rattle.serde_json.specs.View.{view, members_view}
+use Rattle.serde_json.specs.declared.value.Value.{Value, Object, the_lemmas}
+use Rattle.serde_json.proofs.Views.{Entry, get_member-put, members_view-insert_entry, view-lookup, view-Object}
+use Rattle.json_patch.specs.Document.{IsDocument, AreMembers, sight_of, key, map as an_object}
+use Rattle.json_patch.specs.ChangeComputed.{without}
+use Rattle.json_patch.specs.Filled.{IsFilled, IsFilledMember, AreFilled, replaces, by_key, stays, left, fills, Fills, FillsAt, IsPrunedMember, ArePruned, with_member, formerly, restored, members_before}
+use Rattle.json_patch.specs.Merged as m
+use Rattle.json_patch.specs.Merged.{IsMerged}
+use Rattle.json_patch.specs.MergedComputed.{members_of}
+use Rattle.json_patch.specs.declared.merging.Former.{Former, Filled, Replaced, Nothing, fold-Former, the_lemmas as of_formers}
+use Rattle.json_patch.specs.declared.merging.Former.TheOpen.{Former-F}
+use Rattle.json_patch.proofs.Members.{member_document}
+use Rattle.json_patch.proofs.Writes.{is_named, AreInOrder, members_view-remove_entry, members_view-set_value, members_view-set_same}
+use Rattle.json_patch.proofs.Level.{set_back, without_put}
+use Rattle.json_patch.proofs.Passing.{ChangesAt, changes_put}
+
+pub null_here : (d : Data) (b : Bool) → b ≡ is_some (as_null d) → b ≡ true → d ≡ null
+null_here null b is tested = refl
+null_here d b is tested = cc
+
+pub other_here : (d : Data) (b : Bool) → b ≡ is_some (as_null d) → b ≡ false → d ≢ null
+other_here null b is tested h = cc
+other_here d b is tested h = cc
+
+pub atom_here : (d : Data) (b : Bool) → b ≡ is_some (as_object d) → b ≡ false → sight_of d ≢ an_object
+atom_here (object ms) b is tested h = cc
+atom_here d b is tested h = cc
+
+found_at : (t : List ℕ) (es : List Entry) (o : Option Value) → o ≡ lookup (is_named t) es → get_member t (members_view es) ≡ option_map view o
+found_at t es o found = sym (view-lookup t es) ∙ ap (option_map view) (sym found)
+
+pub found_document : (t : List ℕ) (es : List Entry) (d : Value) → Some d ≡ lookup (is_named t) es → AreMembers (members_view es) → IsDocument (view d)
+found_document t es d found h = member_document t (view d) (members_view es) h (found_at t es (Some d) found)
+
+-- ---- pruned
+
+pub prunes_unnamed : (was : Option Data) → IsPrunedMember was None was
+prunes_unnamed now was stays = m.stays
+
+pub prunes_null : (now : Option Data) (q : Data) → q ≡ null → IsPrunedMember now (Some q) None
+prunes_null now q is was h = rw is m.goes
+
+pub prunes_value : (q w e : Data) → q ≢ null → ((d : Data) → IsFilled d q w → IsMerged d q e) → IsPrunedMember (Some w) (Some q) (Some e)
+prunes_value q w e other step was left = absurd (other refl)
+prunes_value q w e other step was (fills o h) = m.merges o (step (unwrap_or was null) h)
+
+-- an atom needs no step
+pub prunes_atom : (q : Data) (now : Option Data) → q ≢ null → sight_of q ≢ an_object → IsPrunedMember now (Some q) now
+prunes_atom q now other atom was left = absurd (other refl)
+prunes_atom q now other atom was (fills o (replaces out)) = m.merges o (m.replaces out)
+prunes_atom q now other atom was (fills o (by_key named held each)) = absurd (atom named)
+
+-- what is filled with an object stands
+pub prunes_absent : (q : Data) → q ≢ null → IsPrunedMember None (Some q) None
+prunes_absent q other was left = absurd (other refl)
+
+pub prunes_found : (t : List ℕ) (es : List Entry) (d : Value) (q e : Data) → Some d ≡ lookup (is_named t) es → q ≢ null → ((x : Data) → IsFilled x q (view d) → IsMerged x q e)
+    → IsPrunedMember (get_member t (members_view es)) (Some q) (Some e)
+prunes_found t es d q e found other step = subst (λ o. IsPrunedMember o (Some q) (Some e)) (sym (found_at t es (Some d) found)) (prunes_value q (view d) e other step)
+
+pub prunes_missing : (t : List ℕ) (es : List Entry) (q : Data) → None ≡ lookup (is_named t) es → q ≢ null → IsPrunedMember (get_member t (members_view es)) (Some q) (get_member t (members_view es))
+prunes_missing t es q found other = subst (λ o. IsPrunedMember o (Some q) o) (sym (found_at t es None found)) (prunes_absent q other)
+
+no_object : (d : Data) → None ≡ as_object d → sight_of d ≢ an_object
+no_object (object ms) none is = cc
+no_object d none is = cc
+
+pub other_value : (v : Value) → ((m : BTreeMap (String Global) Value) → v ≡ Object m → ⊥) → sight_of (view v) ≢ an_object
+other_value v out = no_object (view v) (search (rules, the_lemmas, out))
+
+pub pruned_other : {d p w : Data} → (sight_of p ≡ an_object → sight_of w ≢ an_object) → IsFilled d p w → IsMerged d p w
+pruned_other out (replaces other) = m.replaces other
+pruned_other out (by_key named held each) = absurd (out named held)
+
+merged_members : (ps ms ns : Members) → ArePruned ms ps ns → (d : Data) → IsFilled d (object ps) (object ms) → IsMerged d (object ps) (object ns)
+merged_members ps ms ns h d (replaces other) = absurd (other refl)
+merged_members ps ms ns h d (by_key named held each) = m.by_key refl refl (λ k. h k (get k d) (each k))
+
+pub pruned_object : (old new patch : Value) (m n ps : BTreeMap (String Global) Value) → old ≡ Object m → new ≡ Object n → patch ≡ Object ps
+    → (AreMembers (members_view m.entries) → AreMembers (members_view ps.entries) → AreMembers (members_view n.entries) × ArePruned (members_view m.entries) (members_view ps.entries) (members_view n.entries))
+    → IsDocument (view old) → IsDocument (view patch) → IsDocument (view new) × ((d : Data) → IsFilled d (view patch) (view old) → IsMerged d (view patch) (view new))
+pruned_object old new patch m n ps is after named h =
+    rw (is, after, named, view-Object m, view-Object n, view-Object ps) (λ hd hp. (let r = h hd hp in (r.0, merged_members _ _ _ r.1)))
+
+-- ---- taken back
+
+absent_at : (o : Ordering) (found : Option Data) (l : List ℕ) (d : Data) (ms ns : Members) → match_ordering o found (Some d) found ≡ None → (found ≡ None → ns ≡ ms)
+    → match_ordering o (member l d ns) ms (member l d ns) ≡ member l d ms
+absent_at Less found l d ms ns is more = ap (member l d) (more is)
+absent_at Equal found l d ms ns is more = cc
+absent_at Greater found l d ms ns is more = ap (member l d) (more is)
+
+pub without_absent : (k : List ℕ) (ms : Members) → get_member k ms ≡ None → without k ms ≡ ms
+without_absent k no_members is = refl
+without_absent k (member l d ms) is = absent_at (slice_cmp nat_cmp k l) (get_member k ms) l d ms (without k ms) is (without_absent k ms)
+
+pub back_at : (t : List ℕ) (d : Data) (o : Option Data) (ms : Members) → AreMembers ms → IsDocument d → get_member t ms ≡ o → with_member t o (put t d ms) ≡ ms
+back_at t d None ms h hd is = ap members_of (without_put t d ms h hd is)
+back_at t d (Some c) ms h hd is = ap members_of (set_back (key t) (object ms) c d h hd is)
+
+restored_last : (log : List (Bor (List ℕ) × (Option Data → Option Data))) (e : Bor (List ℕ) × (Option Data → Option Data)) (ms : Members) → restored (log ++ e ∷ []) ms ≡ restored log (restored (e ∷ []) ms)
+restored_last [] e ms = refl
+restored_last (f ∷ log) e ms = ap (λ ns. with_member f.0.now (f.1 (get_member f.0.now ns)) ns) (restored_last log e ms)
+
+pub before_last : (log : List (Bor (List ℕ) × Former)) (e : Bor (List ℕ) × Former) (ms : Members) → members_before (log ++ e ∷ []) ms ≡ members_before log (with_member e.0.now (formerly e.1 (get_member e.0.now ms)) ms)
+before_last log e ms = ap (λ l. restored l ms) (map-append (λ (f : Bor (List ℕ) × Former). (f.0, formerly f.1)) log (e ∷ [])) ∙ restored_last (map (λ (f : Bor (List ℕ) × Former). (f.0, formerly f.1)) log) (e.0, formerly e.1) ms
+
+-- ---- a member is put back
+
+pub puts_back : (t : List ℕ) (es new : List Entry) (f : Former) (d w : Value) → AreInOrder es → Some d ≡ lookup (is_named t) es → new ≡ set_value (is_named t) es w → formerly f (Some (view d)) ≡ Some (view w)
+    → members_view new ≡ with_member t (formerly f (get_member t (members_view es))) (members_view es)
+puts_back t es new f d w order found is back =
+    let here : get_member t (members_view es) ≡ Some (view d) = sym (view-lookup t es) ∙ ap (option_map view) (sym found) in
+    ap members_view is ∙ members_view-set_value t es w d order (sym found) ∙ ap (λ o. with_member t o (members_view es)) (sym (ap (formerly f) here ∙ back))
+
+pub puts_nothing_back : (t : List ℕ) (es new : List Entry) (f : Former) → None ≡ lookup (is_named t) es → new ≡ es → formerly f None ≡ None
+    → members_view new ≡ with_member t (formerly f (get_member t (members_view es))) (members_view es)
+puts_nothing_back t es new f found is back =
+    let here : get_member t (members_view es) ≡ None = sym (view-lookup t es) ∙ ap (option_map view) (sym found) in
+    ap members_view is ∙ sym (without_absent t (members_view es) here) ∙ ap (λ o. with_member t o (members_view es)) (sym (ap (formerly f) here ∙ back))
+
+pub takes_out : (t : List ℕ) (es new : List Entry) (f : Former) → new ≡ remove_entry (is_named t) es → ((o : Option Data) → formerly f o ≡ None)
+    → members_view new ≡ with_member t (formerly f (get_member t (members_view es))) (members_view es)
+takes_out t es new f is back = ap members_view is ∙ members_view-remove_entry t es ∙ ap (λ o. with_member t o (members_view es)) (sym (back (get_member t (members_view es))))
+
+pub restored_object : (log : Vec (Bor (List ℕ) × Former) Global) (old new : Value) (m n : BTreeMap (String Global) Value) → old ≡ Object m → new ≡ Object n → members_view n.entries ≡ members_before log.items (members_view m.entries)
+    → formerly (Filled log) (Some (view old)) ≡ Some (view new)
+restored_object log old new m n is after back = rw (is, after, view-Object m, view-Object n, back) (search (rules, of_formers))
+
+pub other_stays : (log : Vec (Bor (List ℕ) × Former) Global) (d : Data) → is_some (as_object d) ≡ false → formerly (Filled log) (Some d) ≡ Some d
+other_stays log (object ms) is = cc
+other_stays log d is = search (rules, of_formers)
+
+-- ---- filled
+
+absent_in : (d : Data) (k : List ℕ) → sight_of d ≢ an_object → get k d ≡ None
+absent_in (object ms) k other = absurd (other refl)
+absent_in d k other = refl
+
+on_cases : (o : Ordering) (found : Option Data) (q : Data) → IsFilledMember None found found → IsFilledMember None (Some q) (Some q) → IsFilledMember None (match_ordering o found (Some q) found) (match_ordering o found (Some q) found)
+on_cases Less found q later here = later
+on_cases Equal found q later here = here
+on_cases Greater found q later here = later
+
+value_itself : (q : Data) → IsFilled null q q → IsFilledMember None (Some q) (Some q)
+value_itself null h = left
+value_itself q h = fills (λ h. cc) h
+
+-- a value of the patch fills a name as it is: what the patch removes within it goes later
+mutual
+  pub filled_itself : (p d : Data) → (sight_of p ≡ an_object → sight_of d ≢ an_object) → IsFilled d p p
+  filled_itself (object ps) d other = by_key refl refl (λ k. subst (λ o. IsFilledMember o (get_member k ps) (get_member k ps)) (sym (absent_in d k (other refl))) (member_itself k ps))
+  filled_itself p d other = replaces (λ h. cc)
+
+  member_itself : (k : List ℕ) (ps : Members) → IsFilledMember None (get_member k ps) (get_member k ps)
+  member_itself k no_members = stays
+  member_itself k (member l q ps) = on_cases (slice_cmp nat_cmp k l) (get_member k ps) q (member_itself k ps) (value_itself q (filled_itself q null (λ h. λ e. cc)))
+
+pub filled_whole : (target patch dest former : Value) → (sight_of (view patch) ≡ an_object → sight_of (view target) ≢ an_object) → view dest ≡ view patch → former ≡ target → IsDocument (view patch)
+    → IsFilled (view target) (view patch) (view dest) × IsDocument (view dest) × (formerly (Replaced former) (Some (view dest)) ≡ Some (view target))
+filled_whole target patch dest former other is was hp = (subst (IsFilled (view target) (view patch)) (sym is) (filled_itself (view patch) (view target) other), subst IsDocument (sym is) hp, rw was (search (rules, of_formers)))
+
+pub filled_object : (log : Vec (Bor (List ℕ) × Former) Global) (old new patch : Value) (m n ps : BTreeMap (String Global) Value) → old ≡ Object m → new ≡ Object n → patch ≡ Object ps
+    → (AreMembers (members_view m.entries) → AreMembers (members_view ps.entries)
+    → AreFilled (members_view m.entries) (members_view ps.entries) (members_view n.entries) × AreMembers (members_view n.entries) × (members_before log.items (members_view n.entries) ≡ members_view m.entries))
+    → IsDocument (view old) → IsDocument (view patch) → IsFilled (view old) (view patch) (view new) × IsDocument (view new) × (formerly (Filled log) (Some (view new)) ≡ Some (view old))
+filled_object log old new patch m n ps is after named h hd hp =
+    let r = h (subst IsDocument (ap view is ∙ view-Object m) hd) (subst IsDocument (ap view named ∙ view-Object ps) hp) in
+    let f : IsFilled (view old) (view patch) (view new) = rw (is, after, named, view-Object m, view-Object n, view-Object ps) (by_key refl refl r.0) in
+    (f, subst IsDocument (sym (ap view after ∙ view-Object n)) r.1, restored_object log new old n m after is (sym r.2))
+
+pub filled_no_object : (r : Result Former AllocError) (old new patch : Value) (m n ps : BTreeMap (String Global) Value) → IsErr r → old ≡ Object m → new ≡ Object n → patch ≡ Object ps
+    → (AreMembers (members_view m.entries) → AreMembers (members_view ps.entries) → members_view n.entries ≡ members_view m.entries)
+    → IsDocument (view old) → IsDocument (view patch) → Fills r (view old) (view patch) (view new)
+filled_no_object (Ok former) old new patch m n ps err is after named h = cc
+filled_no_object (Err e) old new patch m n ps err is after named h = rw (is, after, named, view-Object m, view-Object n, view-Object ps) (λ hd hp. ap object (h hd hp))
+
+pub fills_found : (r : Result Former AllocError) (t : List ℕ) (es new : List Entry) (d w : Value) (q : Data) → AreInOrder es → Some d ≡ lookup (is_named t) es → new ≡ set_value (is_named t) es w
+    → AreMembers (members_view es) → (IsDocument (view d) → Fills r (view d) q (view w)) → FillsAt r t (members_view es) q (members_view new)
+fills_found (Ok former) t es new d w q order found is h step =
+    let here = found_at t es (Some d) found in
+    let f = step (found_document t es d found h) in
+    (view w, ap members_view is ∙ members_view-set_value t es w d order (sym found), subst (λ o. IsFilled (unwrap_or o null) q (view w)) (sym here) f.0, f.1, f.2 ∙ sym here)
+fills_found (Err e) t es new d w q order found is h step =
+    ap members_view is ∙ members_view-set_same t es w d (sym found) (step (found_document t es d found h))
+
+pub fills_missing : (t : List ℕ) (es new : List Entry) (k : String Global) (w : Value) (q : Data) → None ≡ lookup (is_named t) es → string_bytes k ≡ t → new ≡ insert_entry string_cmp es k w → view w ≡ q → IsDocument q
+    → (x : Data) × (members_view new ≡ put t x (members_view es)) × IsFilled (unwrap_or (get_member t (members_view es)) null) q x × IsDocument x × (formerly Nothing (Some x) ≡ get_member t (members_view es))
+fills_missing t es new k w q found named is same hq =
+    let here = found_at t es None found in (
+      q,
+      ap members_view is ∙ members_view-insert_entry es k w ∙ ap (λ x. put x (view w) (members_view es)) named ∙ ap (λ d. put t d (members_view es)) same,
+      subst (λ o. IsFilled (unwrap_or o null) q q) (sym here) (filled_itself q null (λ h. λ e. cc)),
+      hq,
+      search (rules, of_formers) ∙ sym here,
+    )
+
+pub fills_step : (t : List ℕ) (ms ns : Members) (q : Data) (former : Former) → q ≢ null → AreMembers ms → FillsAt (Ok former) t ms q ns
+    → (o : Option Data) × ChangesAt t ms ns o × IsFilledMember (get_member t ms) (Some q) o
+fills_step t ms ns q former other h r = (Some r.0, changes_put t r.0 ms ns h r.3 r.1, fills other r.2)
+
+pub fills_back : (log held now : List (Bor (List ℕ) × Former)) (name : Bor (List ℕ)) (ms ns : Members) (q : Data) (former : Former) → held ≡ log → now ≡ held ++ (name, former) ∷ [] → AreMembers ms
+    → FillsAt (Ok former) name.now ms q ns → members_before now ns ≡ members_before log ms
+fills_back log held now name ms ns q former keeps pushed h r =
+    ap (λ l. members_before l ns) (pushed ∙ ap (λ l. l ++ (name, former) ∷ []) keeps) ∙ before_last log (name, former) ns
+    ∙ ap (members_before log) (ap (λ x. with_member name.now (formerly former (get_member name.now x)) x) r.1
+    ∙ ap (λ o. with_member name.now (formerly former o) (put name.now r.0 ms)) (get_member-put name.now r.0 ms) ∙ ap (λ o. with_member name.now o (put name.now r.0 ms)) r.4
+    ∙ back_at name.now r.0 (get_member name.now ms) ms h r.3 refl)
+
+-- ---- a log ends
+
+abbrev total : List (Bor (List ℕ) × ℕ) → ℕ
+total [] = 0
+total (e ∷ es) = suc (e.1 + total es)
+
+abbrev weight_step : Former-F ℕ → ℕ
+weight_step Former-F.Nothing = 0
+weight_step (Former-F.Replaced v) = 0
+weight_step (Former-F.Filled log) = suc (total log.items)
+
+abbrev pub weight : Former → ℕ
+weight = fold-Former ℕ weight_step
+
+abbrev pub weights : List (Bor (List ℕ) × Former) → ℕ
+weights log = total (map (λ e. (e.0, weight e.1)) log)
+
+pub weights_last : (log : List (Bor (List ℕ) × Former)) (e : Bor (List ℕ) × Former) → weights (log ++ e ∷ []) ≡ suc (weight e.1 + weights log)
+weights_last [] e = refl
+weights_last (f ∷ log) e = rw (weights_last log e) (omega arith)

@@ -1,0 +1,98 @@
+-- A loop over a patch's members, each of which changes the document's member of its name alone.
+use Rattle.std.proofs.Common.{◌≡◌, ◌≢◌, ℕ, List, ◌∷◌, ⊎_elim, Option, Some, None, string_bytes, refl, sym, ap, ◌∙◌, subst}
+use Rattle.std.specs.Map.{lookup, remove_entry, set_value}
+use Rattle.serde_json.specs.Data.{Data, Members, member, put}
+use Rattle.serde_json.specs.Find.{get_member}
+use Rattle.serde_json.specs.View.{view, members_view}
+use Rattle.serde_json.specs.declared.value.Value.{Value}
+use Rattle.serde_json.proofs.Views.{Entry, get_member-put, get_member-put_other}
+use Rattle.json_patch.specs.Document.{IsDocument, AreMembers}
+use Rattle.json_patch.specs.ChangeComputed.{without}
+use Rattle.json_patch.proofs.Members.{below_absent, found_first, skips, put_members, without_members, get_without, get_without_other}
+use Rattle.json_patch.proofs.Merges.{name_cases}
+use Rattle.json_patch.proofs.Writes.{is_named, AreInOrder, members_view-remove_entry, members_view-set_value}
+
+-- what is changed at the name t alone, where o stands now
+pub record ChangesAt (t : List ℕ) (now new : Members) (o : Option Data) : Type 0 where
+  pub document : AreMembers new
+  pub others : (k : List ℕ) → k ≢ t → get_member k new ≡ get_member k now
+  pub here : get_member t new ≡ o
+
+pub changes_nothing : (t : List ℕ) (now new : Members) → AreMembers now → new ≡ now → ChangesAt t now new (get_member t now)
+changes_nothing t now new h is = record { document = subst AreMembers (sym is) h; others = λ k other. ap (get_member k) is; here = ap (get_member t) is }
+
+pub changes_put : (t : List ℕ) (d : Data) (now new : Members) → AreMembers now → IsDocument d → new ≡ put t d now → ChangesAt t now new (Some d)
+changes_put t d now new h hd is = record {
+  document = subst AreMembers (sym is) (put_members t d now h hd);
+  others = λ k other. ap (get_member k) is ∙ get_member-put_other k t d now other;
+  here = ap (get_member t) is ∙ get_member-put t d now;
+}
+
+pub changes_without : (t : List ℕ) (now new : Members) → AreMembers now → new ≡ without t now → ChangesAt t now new None
+changes_without t now new h is = record {
+  document = subst AreMembers (sym is) (without_members t now h);
+  others = λ k other. ap (get_member k) is ∙ get_without_other k t now other;
+  here = ap (get_member t) is ∙ get_without t now h;
+}
+
+pub changes_written : (t : List ℕ) (es new : List Entry) (d w : Value) → AreInOrder es → Some d ≡ lookup (is_named t) es → new ≡ set_value (is_named t) es w → AreMembers (members_view es) → IsDocument (view w)
+    → ChangesAt t (members_view es) (members_view new) (Some (view w))
+changes_written t es new d w order found is h hw =
+    changes_put t (view w) (members_view es) (members_view new) h hw (ap members_view is ∙ members_view-set_value t es w d order (sym found))
+
+pub changes_removed : (t : List ℕ) (es new : List Entry) → new ≡ remove_entry (is_named t) es → AreMembers (members_view es) → ChangesAt t (members_view es) (members_view new) None
+changes_removed t es new is h = changes_without t (members_view es) (members_view new) h (ap members_view is ∙ members_view-remove_entry t es)
+
+-- of all the patch's members some are left: at the names of those, now is as at the start
+pub record Passes (M : Option Data → Option Data → Option Data → Type 0) (start all now left : Members) : Type 0 where
+  pub members : AreMembers left
+  pub document : AreMembers now
+  pub named : (k : List ℕ) (q : Data) → get_member k left ≡ Some q → get_member k all ≡ Some q
+  pub kept : (k : List ℕ) (q : Data) → get_member k left ≡ Some q → get_member k now ≡ get_member k start
+  pub passed : (k : List ℕ) → get_member k left ≡ None → M (get_member k start) (get_member k all) (get_member k now)
+
+module _ (M : Option Data → Option Data → Option Data → Type 0) where
+  pub begins : ((was : Option Data) → M was None was) → (start all : Members) → AreMembers start → AreMembers all → Passes M start all start all
+  begins unnamed start all h hp = record {
+    members = hp;
+    document = h;
+    named = λ k q is. is;
+    kept = λ k q is. refl;
+    passed = λ k is. subst (λ o. M (get_member k start) o (get_member k start)) (sym is) (unnamed (get_member k start));
+  }
+
+  module _ (start all now new ps : Members) (l : List ℕ) (q : Data) (o : Option Data) (h : Passes M start all now (member l q ps)) (changes : ChangesAt l now new o) (here : M (get_member l now) (Some q) o) where
+    apart : (k : List ℕ) (p : Data) → get_member k ps ≡ Some p → k ≢ l
+    apart k p is same = let e : get_member k ps ≡ None = ap (λ x. get_member x ps) same ∙ below_absent l ps h.members.0 in cc
+
+    at_l : M (get_member l start) (get_member l all) (get_member l new)
+    at_l = rw (sym (h.kept l q (found_first l q ps)), h.named l q (found_first l q ps), changes.here) here
+
+    at_other : (k : List ℕ) → get_member k ps ≡ None → k ≢ l → M (get_member k start) (get_member k all) (get_member k new)
+    at_other k is other = subst (M (get_member k start) (get_member k all)) (sym (changes.others k other)) (h.passed k (skips k l q ps other ∙ is))
+
+    pub steps : Passes M start all new ps
+    steps = record {
+      members = h.members.2;
+      document = changes.document;
+      named = λ k p is. h.named k p (skips k l q ps (apart k p is) ∙ is);
+      kept = λ k p is. changes.others k (apart k p is) ∙ h.kept k p (skips k l q ps (apart k p is) ∙ is);
+      passed = λ k is. ⊎_elim (λ (same : k ≡ l). subst (λ x. M (get_member x start) (get_member x all) (get_member x new)) (sym same) at_l) (at_other k is) (name_cases k l);
+    }
+
+pub starts : (M : Option Data → Option Data → Option Data → Type 0) → ((was : Option Data) → M was None was) → (start : Members) (all items : List Entry) → items ≡ all
+    → AreMembers start → AreMembers (members_view all) → Passes M start (members_view all) start (members_view items)
+starts M unnamed start all items is h hp = subst (λ es. Passes M start (members_view all) start (members_view es)) (sym is) (begins M unnamed start (members_view all) h hp)
+
+-- the entry e is next, and t is its name
+pub steps_at : (M : Option Data → Option Data → Option Data → Type 0) (start all now new : Members) (items left : List Entry) (e : Entry) (t : List ℕ)
+    → items ≡ e ∷ left → t ≡ string_bytes e.0 → Passes M start all now (members_view items)
+    → (IsDocument (view e.1) → (o : Option Data) × ChangesAt t now new o × M (get_member t now) (Some (view e.1)) o) → Passes M start all new (members_view left)
+steps_at M start all now new items left e t is_next named before step =
+    let h : Passes M start all now (member t (view e.1) (members_view left)) =
+    subst (λ x. Passes M start all now (member x (view e.1) (members_view left))) (sym named) (subst (λ es. Passes M start all now (members_view es)) is_next before) in
+    let s = step h.members.1 in
+    steps M start all now new (members_view left) t (view e.1) s.0 h s.1 s.2
+
+pub next_document : (items left : List Entry) (e : Entry) → items ≡ e ∷ left → AreMembers (members_view items) → IsDocument (view e.1)
+next_document items left e is_next h = (subst (λ es. AreMembers (members_view es)) is_next h).1

@@ -1,0 +1,12 @@
+use Rattle.std.proofs.Common.{◌≡◌}
+use Rattle.serde_json.specs.View.{members_view}
+use Rattle.json_patch.specs.Document.{AreMembers}
+use Rattle.json_patch.specs.Filled.{IsFilledMember, members_before}
+use Rattle.json_patch.proofs.Passing.{Passes}
+use Rattle.json_patch.proofs.merging.+filling.Given as goal
+
+abbrev pub invariant-fill_each-loop-name : goal.invariant-fill_each-loop-name
+invariant-fill_each-loop-name l =
+    AreMembers (members_view l.initial.members.entries) → AreMembers (members_view l.changes.entries)
+    → Passes IsFilledMember (members_view l.initial.members.entries) (members_view l.changes.entries) (members_view l.members.entries) (members_view l.name-iterator)
+    × (members_before l.log.items (members_view l.members.entries) ≡ members_before l.initial.log.items (members_view l.initial.members.entries))

@@ -1,0 +1,10 @@
+use Rattle.serde_json.specs.View.{members_view}
+use Rattle.json_patch.specs.Document.{AreMembers}
+use Rattle.json_patch.specs.Filled.{IsPrunedMember}
+use Rattle.json_patch.proofs.Passing.{Passes}
+use Rattle.json_patch.proofs.merging.+pruning.Given as goal
+
+abbrev pub invariant-prune_members-loop-name : goal.invariant-prune_members-loop-name
+invariant-prune_members-loop-name l =
+    AreMembers (members_view l.initial.members.entries) → AreMembers (members_view l.changes.entries)
+    → Passes IsPrunedMember (members_view l.initial.members.entries) (members_view l.changes.entries) (members_view l.members.entries) (members_view l.name-iterator)

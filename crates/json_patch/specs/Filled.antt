@@ -1,0 +1,76 @@
+-- For private clauses: a merge but for its removals, and what takes it back.
+use Rattle.std.specs.Prelude.{◌≡◌, ◌≢◌, ℕ, List, [], ◌∷◌, map, Option, Some, None, unwrap_or, Result, Ok, Err, Vec}
+use Rattle.std.specs.Borrow.{Bor}
+use Rattle.std.specs.declared.alloc.AllocError.{AllocError}
+use Rattle.std.specs.declared.alloc.Global.{Global}
+use Rattle.serde_json.specs.Data.{Data, null, object, Members, put}
+use Rattle.serde_json.specs.Find.{get, get_member}
+use Rattle.serde_json.specs.View.{view}
+use Rattle.json_patch.specs.ChangeComputed.{without}
+use Rattle.json_patch.specs.Document.{IsDocument, AreMembers, sight_of, map as an_object}
+use Rattle.json_patch.specs.Merged.{IsMergedMember}
+use Rattle.json_patch.specs.declared.merging.Former.{Former, fold-Former}
+use Rattle.json_patch.specs.declared.merging.Former.TheOpen.{Former-F}
+
+mutual
+  -- w is d with the merge patch p merged into it, but for the members that p removes
+  pub data IsFilled : Data → Data → Data → Type 0 where
+    replaces : {d p : Data} → sight_of p ≢ an_object → IsFilled d p p
+    by_key : {d p w : Data} → sight_of p ≡ an_object → sight_of w ≡ an_object → ((k : List ℕ) → IsFilledMember (get k d) (get k p) (get k w)) → IsFilled d p w
+
+  pub data IsFilledMember : Option Data → Option Data → Option Data → Type 0 where
+    stays : {was : Option Data} → IsFilledMember was None was
+    left : {was now : Option Data} → IsFilledMember was (Some null) now
+    fills : {was : Option Data} {q w : Data} → q ≢ null → IsFilled (unwrap_or was null) q w → IsFilledMember was (Some q) (Some w)
+
+-- the members ms, with this or nothing at the name k
+abbrev pub with_member : List ℕ → Option Data → Members → Members
+with_member k None ms = without k ms
+with_member k (Some d) ms = put k d ms
+
+-- the members before the changes of a log, the last of which is taken back first
+abbrev pub restored : List (Bor (List ℕ) × (Option Data → Option Data)) → Members → Members
+restored [] ms = ms
+restored (e ∷ log) ms = let ns = restored log ms in with_member e.0.now (e.1 (get_member e.0.now ns)) ns
+
+-- one level, with what is within already seen as what takes it back
+abbrev pub formerly_step : Former-F (Option Data → Option Data) → Option Data → Option Data
+formerly_step Former-F.Nothing now = None
+formerly_step (Former-F.Replaced v) None = None
+formerly_step (Former-F.Replaced v) (Some d) = Some (view v)
+formerly_step (Former-F.Filled log) (Some (object ms)) = Some (object (restored log.items ms))
+formerly_step (Former-F.Filled log) now = now
+
+-- what stood where now this stands
+abbrev pub formerly : Former → Option Data → Option Data
+formerly = fold-Former (Option Data → Option Data) formerly_step
+
+-- the members before the changes of this log
+abbrev pub members_before : List (Bor (List ℕ) × Former) → Members → Members
+members_before log ms = restored (map (λ e. (e.0, formerly e.1)) log) ms
+
+-- at each name
+abbrev pub AreFilled : Members → Members → Members → Type 0
+AreFilled ms ps ns = (k : List ℕ) → IsFilledMember (get_member k ms) (get_member k ps) (get_member k ns)
+
+-- a document is filled, and what was found leads back; or it is as it was
+abbrev pub Fills : Result Former AllocError → Data → Data → Data → Type 0
+Fills (Ok former) d p w = IsFilled d p w × IsDocument w × (formerly former (Some w) ≡ Some d)
+Fills (Err e) d p w = w ≡ d
+
+-- the same of members
+abbrev pub FillsAll : Result (Vec (Bor (List ℕ) × Former) Global) AllocError → Members → Members → Members → Type 0
+FillsAll (Ok log) ms ps ns = AreFilled ms ps ns × AreMembers ns × (members_before log.items ns ≡ ms)
+FillsAll (Err e) ms ps ns = ns ≡ ms
+
+-- and of the member at the name t
+abbrev pub FillsAt : Result Former AllocError → List ℕ → Members → Data → Members → Type 0
+FillsAt (Ok former) t ms q ns = (w : Data) × (ns ≡ put t w ms) × IsFilled (unwrap_or (get_member t ms) null) q w × IsDocument w × (formerly former (Some w) ≡ get_member t ms)
+FillsAt (Err e) t ms q ns = ns ≡ ms
+
+-- one member that is filled, whatever it was before, and is left or removed
+abbrev pub IsPrunedMember : Option Data → Option Data → Option Data → Type 0
+IsPrunedMember now named end = (was : Option Data) → IsFilledMember was named now → IsMergedMember was named end
+
+abbrev pub ArePruned : Members → Members → Members → Type 0
+ArePruned ms ps ns = (k : List ℕ) → IsPrunedMember (get_member k ms) (get_member k ps) (get_member k ns)
