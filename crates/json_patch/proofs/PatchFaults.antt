@@ -169,53 +169,39 @@ module _ (names : List (List ℕ)) (v : Data) where
   past_from o has UnknownOp l f = f
   past_from o has _ l f = absurd (omega arith)
 
-  module _ (below : NoneBelow At 6) where
-    module _ (has : IsOneOf names (codes "from")) where
-      pub from_missing : Lacks v (codes "from") → IsFirst At MissingFrom
-      from_missing h = record { here = (has, h); none_before = below }
+  module _ (below : NoneBelow At 6) (has : IsOneOf names (codes "from")) where
+    up_to : (r : ℕ) → r ≤ 8 → (6 < r → Lacks v (codes "from") → ⊥) → (7 < r → HasNoText v (codes "from") → ⊥) → NoneBelow At r
+    up_to r small a t MissingFrom l f = a l f.1
+    up_to r small a t FromNotText l f = t l f.1
+    up_to r small a t other l f = below other (omega (arith, l, small)) f
 
-      pub from_no_text : HasNoText v (codes "from") → IsFirst At FromNotText
-      from_no_text h = record { here = (has, h); none_before = λ other l f. ⊎_elim (λ low. below other low f) (λ high. at other high l f) (cases_lt (rank other) 6) }
-        where
-          at : (other : ReadKind) → 6 ≤ rank other → rank other < 7 → At other → ⊥
-          at MissingFrom g l f = found_lacks v (codes "from") _ h.1 f.1
-          at _ g l f = absurd (omega arith)
+    pub from_missing : Lacks v (codes "from") → IsFirst At MissingFrom
+    from_missing h = record { here = (has, h); none_before = below }
 
-      pub from_no_pointer : (e : ParseError) → HasNoPointer v (codes "from") e → IsFirst At (BadFrom e)
-      from_no_pointer e h = record { here = (has, h); none_before = λ other l f. ⊎_elim (λ low. below other low f) (λ high. at other high l f) (cases_lt (rank other) 6) }
-        where
-          at : (other : ReadKind) → 6 ≤ rank other → rank other < 8 → At other → ⊥
-          at MissingFrom g l f = found_lacks v (codes "from") _ h.1 f.1
-          at FromNotText g l f = found_text v (codes "from") _ h.1 f.1
-          at _ g l f = absurd (omega arith)
+    pub from_no_text : HasNoText v (codes "from") → IsFirst At FromNotText
+    from_no_text h = record { here = (has, h); none_before = up_to 7 (omega arith) (λ l. found_lacks v (codes "from") _ h.1) (λ l. absurd (omega (arith, l))) }
+
+    pub from_no_pointer : (e : ParseError) → HasNoPointer v (codes "from") e → IsFirst At (BadFrom e)
+    from_no_pointer e h = record { here = (has, h); none_before = up_to 8 (omega arith) (λ l. found_lacks v (codes "from") _ h.1) (λ l. found_text v (codes "from") _ h.1) }
 
   module _ (below : NoneBelow At 9) where
+    path_up_to : (r : ℕ) → r ≤ 12 → (9 < r → Lacks v (codes "path") → ⊥) → (10 < r → HasNoText v (codes "path") → ⊥) → (11 < r → (e : ParseError) → HasNoPointer v (codes "path") e → ⊥) → NoneBelow At r
+    path_up_to r small a t p MissingPath l f = a l f
+    path_up_to r small a t p PathNotText l f = t l f
+    path_up_to r small a t p (BadPath e) l f = p l e f
+    path_up_to r small a t p other l f = below other (omega (arith, l, small)) f
+
     pub path_clears : (P : Pointer) → get (codes "path") v ≡ Some (string (text_of P)) → NoneBelow At 12
-    path_clears P found other l f = ⊎_elim (λ low. below other low f) (λ high. at other high l f) (cases_lt (rank other) 9)
-      where
-        at : (other : ReadKind) → 9 ≤ rank other → rank other < 12 → At other → ⊥
-        at MissingPath g l f = found_lacks v (codes "path") _ found f
-        at PathNotText g l f = found_text v (codes "path") _ found f
-        at (BadPath e) g l f = found_pointer v (codes "path") P e found f
-        at _ g l f = absurd (omega arith)
+    path_clears P found = path_up_to 12 (omega arith) (λ l. found_lacks v (codes "path") _ found) (λ l. found_text v (codes "path") _ found) (λ l e. found_pointer v (codes "path") P e found)
 
     pub path_missing : Lacks v (codes "path") → IsFirst At MissingPath
     path_missing h = record { here = h; none_before = below }
 
     pub path_no_text : HasNoText v (codes "path") → IsFirst At PathNotText
-    path_no_text h = record { here = h; none_before = λ other l f. ⊎_elim (λ low. below other low f) (λ high. at other high l f) (cases_lt (rank other) 9) }
-      where
-        at : (other : ReadKind) → 9 ≤ rank other → rank other < 10 → At other → ⊥
-        at MissingPath g l f = found_lacks v (codes "path") _ h.1 f
-        at _ g l f = absurd (omega arith)
+    path_no_text h = record { here = h; none_before = path_up_to 10 (omega arith) (λ l. found_lacks v (codes "path") _ h.1) (λ l. absurd (omega (arith, l))) (λ l. absurd (omega (arith, l))) }
 
     pub path_no_pointer : (e : ParseError) → HasNoPointer v (codes "path") e → IsFirst At (BadPath e)
-    path_no_pointer e h = record { here = h; none_before = λ other l f. ⊎_elim (λ low. below other low f) (λ high. at other high l f) (cases_lt (rank other) 9) }
-      where
-        at : (other : ReadKind) → 9 ≤ rank other → rank other < 11 → At other → ⊥
-        at MissingPath g l f = found_lacks v (codes "path") _ h.1 f
-        at PathNotText g l f = found_text v (codes "path") _ h.1 f
-        at _ g l f = absurd (omega arith)
+    path_no_pointer e h = record { here = h; none_before = path_up_to 11 (omega arith) (λ l. found_lacks v (codes "path") _ h.1) (λ l. found_text v (codes "path") _ h.1) (λ l. absurd (omega (arith, l))) }
 
   module _ (below : NoneBelow At 12) (has : IsOneOf names (codes "value")) where
     pub value_missing : Lacks v (codes "value") → IsFirst At MissingValue
