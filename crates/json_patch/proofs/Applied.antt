@@ -4,7 +4,6 @@ use Rattle.std.proofs.lemmas.List.{map-append, reverse-append, reverse-reverse}
 use mathlib.Core.List.{reverse}
 use Rattle.std.specs.List.{slice_get}
 use Rattle.serde_json.specs.Data.{Data}
-use Rattle.jsonptr.specs.Text.{Pointer}
 use Rattle.json_patch.specs.Attempt.{Steps}
 use Rattle.json_patch.specs.Document.{IsDocument}
 use Rattle.json_patch.specs.Faulting.{Reports}
@@ -12,7 +11,7 @@ use Rattle.json_patch.specs.InPlace.{AreInPlace, IsInPlace, NeverShort}
 use Rattle.json_patch.specs.Inverse.{ArePlain, IsInverse}
 use Rattle.json_patch.specs.InverseComputed.{block, inverse}
 use Rattle.json_patch.specs.Operation.{Operation, AreWhole, IsWholeOp, operation_of, operations, path_of}
-use Rattle.json_patch.specs.Refusal.{NamesFirst, IfRefused, OnMemory}
+use Rattle.json_patch.specs.Refusal.{NamesFirst, IfRefused}
 use Rattle.json_patch.specs.Run.{Accepts, RefusesAt, IsAccepted}
 use Rattle.json_patch.specs.RunComputed.{ran, stepped}
 use Rattle.json_patch.specs.Step.{Leaves, Refuses}

@@ -10,12 +10,12 @@ use Rattle.serde_json.specs.declared.value.Value.{Value}
 use Rattle.jsonptr.specs.Text.{Pointer, IsProperPrefix}
 use Rattle.jsonptr.specs.Places.{token_of}
 use Rattle.jsonptr.specs.PlaceLaws.{token_is_decimal}
-use Rattle.json_patch.specs.Attempt.{Attempts, Excuses, Steps, TakesOut}
+use Rattle.json_patch.specs.Attempt.{Attempts, Steps, TakesOut}
 use Rattle.json_patch.specs.Document.{child}
 use Rattle.json_patch.specs.Operation.{add, move, remove, replace, path_of}
 use Rattle.json_patch.specs.ChangeComputed.{step_of, set_child, put_in, take_from, found, altered, added, removed, replaced}
 use Rattle.json_patch.specs.Edits.{Displaces, DisplacesAt, IsTaken, Undoes, undo_at_place}
-use Rattle.json_patch.specs.InPlace.{AreUnescaped, IsUnescaped, NeverShort}
+use Rattle.json_patch.specs.InPlace.{AreUnescaped, IsUnescaped}
 use Rattle.json_patch.specs.InverseComputed.{undo_in, undo_add}
 use Rattle.json_patch.specs.RunComputed.{moved, stepped}
 use Rattle.json_patch.specs.SharedComputed.{stripped}

@@ -15,14 +15,14 @@ use Rattle.jsonptr.specs.Places.{next_token, token_of}
 use Rattle.std.proofs.lemmas.Bool.{ne_eqb}
 use Rattle.json_patch.specs.Attempt.{TakesOut}
 use Rattle.json_patch.specs.ChangeComputed.{found, front_of, last_of}
-use Rattle.json_patch.specs.Edits.{Undoes, place_to_undo, undo_at_place}
+use Rattle.json_patch.specs.Edits.{Undoes, undo_at_place}
 use Rattle.json_patch.specs.InPlace.{AreUnescaped, IsUnescaped}
 use Rattle.json_patch.specs.InverseComputed.{block, settled_token, undo_add, undo_at, undo_in, with_found}
 use Rattle.json_patch.specs.Operation.{Operation, add, remove, replace, move, copy, test, operation_of, operations, path_of}
 use Rattle.json_patch.specs.RunComputed.{Outcome, fault, counted, ran, ran_on, stepped}
 use Rattle.json_patch.specs.PartRun.{block_at}
-use Rattle.json_patch.specs.SharedComputed.{stripped, extended, extended_all}
-use Rattle.json_patch.specs.Undoing.{AreUndos, IsOne, IsUndo, IsUndoable, count_in}
+use Rattle.json_patch.specs.SharedComputed.{extended}
+use Rattle.json_patch.specs.Undoing.{AreUndos, IsUndo, IsUndoable, count_in}
 use Rattle.json_patch.specs.declared.error.PatchErrorKind.{PatchErrorKind}
 use Rattle.json_patch.specs.declared.operation.PatchOperation.{PatchOperation}
 use Rattle.json_patch.specs.declared.walk.Displaced.{Displaced}

@@ -106,12 +106,8 @@ pub(crate) fn record_step(
             let place = undo_place(alloc, doc, base, &made.path)?;
             record_one(alloc, doc, base, operation, place, undo)
         }
-        PatchOperation::Remove(made) => {
-            let place = made.path.clone(alloc)?;
-            record_one(alloc, doc, base, operation, place, undo)
-        }
-        PatchOperation::Replace(made) => {
-            let place = made.path.clone(alloc)?;
+        PatchOperation::Remove(_) | PatchOperation::Replace(_) => {
+            let place = operation.path().to_buf(alloc)?;
             record_one(alloc, doc, base, operation, place, undo)
         }
         PatchOperation::Move(made) => record_move(alloc, doc, base, made, undo),

@@ -194,7 +194,7 @@ fn is_move(operation: &PatchOperation) -> bool
 }
 
 /// Makes these operations on a copy of the part of the document that they share, which takes its
-/// place at the end.
+/// place at the end. The part is there, so only want of memory for a name on the way keeps it out.
 fn run_on_copy(
     alloc: Global,
     doc: &mut Value,
@@ -229,7 +229,6 @@ fn run_on_copy(
         }
     }
     if replace(alloc, doc, base, work).is_err() {
-        // the part is there, so memory was short for a name on the way
         undo.truncate(kept);
         return Err(PatchFault::Memory(AllocError));
     }

@@ -62,10 +62,7 @@ pub(crate) fn step(
             let from = below(&operation.from, base);
             copy_value(alloc, doc, from, below(&operation.path, base))
         }
-        PatchOperation::Test(operation) => {
-            test(doc, below(&operation.path, base), &operation.value)?;
-            Ok(Displaced::Nothing)
-        }
+        PatchOperation::Test(made) => test(doc, below(&made.path, base), &made.value),
     }
 }
 
@@ -192,13 +189,13 @@ pub(crate) fn copy_value(
 }
 
 /// `test` (section 4.6).
-pub(crate) fn test(doc: &Value, path: Pointer<'_>, value: &Value) -> Result<(), StepFault>
+fn test(doc: &Value, path: Pointer<'_>, value: &Value) -> Result<Displaced, StepFault>
     ensures leaves { Steps result
         (stepped (view doc.now) (test_at (tokens_of path.entry) (view value.now))) (view doc.now) }
     ensures in_place { NeverShort result }
 {
     match find(doc, path.tokens()) {
-        Some(place) if same_values(place, value) => Ok(()),
+        Some(place) if same_values(place, value) => Ok(Displaced::Nothing),
         Some(_) => Err(StepFault::Refused(PatchErrorKind::TestFailed)),
         None => Err(StepFault::Refused(PatchErrorKind::InvalidPointer)),
     }
