@@ -4,7 +4,8 @@
 mod example;
 mod fault;
 mod layers;
-pub mod readme;
+#[cfg(test)]
+mod readme;
 mod session;
 mod store;
 #[cfg(test)]

@@ -1,10 +1,10 @@
 //! The examples of the README, word for word.
 
+ghost use Rattle.std.specs.Prelude.{◌≡◌, IfOk, OnOk};
 ghost use Rattle.serde_json.specs.View.{view};
 ghost use Rattle.json_patch.specs.Document.{IsDocument};
 ghost use Rattle.json_patch.specs.Operation.{AreWhole, operations};
 
-#[cfg(test)]
 mod tests;
 
 use crate::fault::UpdateFault;
@@ -16,7 +16,7 @@ use json_patch_editor::Editor;
 use serde_json::{Value, json};
 use std::alloc::{AllocError, Global};
 
-pub fn from_texts(alloc: Global) -> Result<Value, UpdateFault> {
+fn from_texts(alloc: Global) -> Result<Value, UpdateFault> {
     let mut document = Value::from_str(alloc, r#"{"a":1,"l":[1,2]}"#)?;
     let value = Value::from_str(alloc, r#"[{"op":"add","path":"/l/-","value":3}]"#)?;
     let changes = Patch::from_value(alloc, &value)?;
@@ -26,7 +26,7 @@ pub fn from_texts(alloc: Global) -> Result<Value, UpdateFault> {
     Ok(document)
 }
 
-pub fn what_was_refused(
+fn what_was_refused(
     alloc: Global,
     document: &mut Value,
     changes: &Patch,
@@ -41,13 +41,14 @@ pub fn what_was_refused(
     }
 }
 
-pub fn there_and_back(
+fn there_and_back(
     alloc: Global,
     document: &mut Value,
     changes: &Patch,
 ) -> Result<String, UpdateFault>
     requires document { IsDocument (view document.old) }
     requires whole { AreWhole (operations changes.now.0.items) }
+    ensures { OnOk result (view document.new ≡ view document.old) }
 {
     let undo = apply_patches(alloc, document, changes.as_slice())?;
     let told = format!(in alloc; "{undo}")?;
@@ -55,7 +56,7 @@ pub fn there_and_back(
     Ok(told)
 }
 
-pub fn written_and_read(alloc: Global, value: Value) -> Result<bool, UpdateFault> {
+fn written_and_read(alloc: Global, value: Value) -> Result<bool, UpdateFault> {
     let mut path = PointerBuf::new();
     path.push_back(alloc, "a/b")?;
     path.push_back(alloc, "-")?;
@@ -64,10 +65,7 @@ pub fn written_and_read(alloc: Global, value: Value) -> Result<bool, UpdateFault
     Ok(read == changes)
 }
 
-pub fn merged_and_looked_up(
-    alloc: Global,
-    document: &mut Value,
-) -> Result<Option<Value>, AllocError>
+fn merged_and_looked_up(alloc: Global, document: &mut Value) -> Result<Option<Value>, AllocError>
     requires { IsDocument (view document.old) }
 {
     let mut path = PointerBuf::new();
@@ -80,9 +78,10 @@ pub fn merged_and_looked_up(
     }
 }
 
-pub fn taken_back(alloc: Global, document: Value, changes: &Patch) -> Result<Value, UpdateFault>
+fn taken_back(alloc: Global, document: Value, changes: &Patch) -> Result<Value, UpdateFault>
     requires document { IsDocument (view document) }
     requires whole { AreWhole (operations changes.now.0.items) }
+    ensures { IfOk result (λ v. view v ≡ view document) }
 {
     let mut editor = Editor::open(alloc, document, 100);
     editor.apply(alloc, changes.as_slice())?;

@@ -255,7 +255,7 @@ fn pointers_grow(rt: HostRuntime) -> Result<(), Fail> {
 }
 
 #[test]
-fn faults_have_their_texts(rt: HostRuntime) -> Result<(), Fail> {
+fn faults_of_pointers_have_their_texts(rt: HostRuntime) -> Result<(), Fail> {
     let alloc = rt.alloc();
     let unslashed = "pointer does not begin with a slash";
     assert_eq!(rt;
@@ -278,6 +278,12 @@ fn faults_have_their_texts(rt: HostRuntime) -> Result<(), Fail> {
         PointerFault::Memory(AllocError).to_string(alloc)?.as_str(),
         "out of memory"
     );
+    Ok(())
+}
+
+#[test]
+fn faults_of_indexes_have_their_texts(rt: HostRuntime) -> Result<(), Fail> {
+    let alloc = rt.alloc();
     assert_eq!(rt;
         ParseIndexError::LeadingZeros.to_string(alloc)?.as_str(),
         "index has a leading zero"
