@@ -72,7 +72,7 @@ fn fill_members<'a>(
         → FillsAll result (members_view members.old.entries) (members_view changes.now.entries)
         (members_view members.new.entries) }
 {
-    let mut log = Vec::new(alloc);
+    let mut log = Vec::with_capacity(alloc, changes.len())?;
     if fill_each(alloc, changes, members, &mut log).is_err() {
         restore(log, members);
         return Err(AllocError);
