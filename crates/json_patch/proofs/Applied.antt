@@ -65,12 +65,6 @@ whole_at (x ∷ os) (suc k) o less is h = whole_at os k o (omega arith) is h.1
 
 -- ---- its ends
 
-pub state_all : (d m : Data) (os : List PatchOperation) (k : ℕ) → length os ≤ k → IsState d os k m → Accepts d (operations os) m
-state_all d m [] zero le h = h
-state_all d m [] (suc k) le h = h
-state_all d m (x ∷ os) zero le h = absurd (omega arith)
-state_all d m (x ∷ os) (suc k) le h = (h.0, h.1, state_all h.0 m os k (omega arith) h.2)
-
 pub state_document : (d m : Data) (os : List PatchOperation) (k : ℕ) → IsDocument d → AreWhole (operations os) → IsState d os k m → IsDocument m
 state_document d m os zero hd hv h = subst IsDocument h hd
 state_document d m [] (suc k) hd hv h = subst IsDocument h hd

@@ -85,9 +85,6 @@ walks_to_no_member wanted f t old new m n q o p none same = (rw (q, o, view-Obje
 pub next_within : (f : Data → Option Data) (d : Data) (P rest : Pointer) (t : List ℕ) → P ≡ t ∷ rest → altered f d P ≡ within (λ c. altered f c rest) t d
 next_within f d P rest t is = rw is
 
-pub way_ends : (f : Data → Option Data) (d : Data) (P : Pointer) → P ≡ [] → altered f d P ≡ f d
-way_ends f d P is = rw is
-
 -- ---- what stands there
 
 found_within : (d c : Data) (s : Step) (t : List ℕ) (P : Pointer) → step_of d t ≡ Some s → child s d ≡ Some c → found d (t ∷ P) ≡ found c P

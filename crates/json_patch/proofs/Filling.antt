@@ -138,10 +138,6 @@ pub restored_object : (log : Vec (Bor (List ℕ) × Former) Global) (old new : V
     → formerly (Filled log) (Some (view old)) ≡ Some (view new)
 restored_object log old new m n is after back = rw (is, after, view-Object m, view-Object n, back) (search (rules, of_formers))
 
-pub other_stays : (log : Vec (Bor (List ℕ) × Former) Global) (d : Data) → is_some (as_object d) ≡ false → formerly (Filled log) (Some d) ≡ Some d
-other_stays log (object ms) is = cc
-other_stays log d is = search (rules, of_formers)
-
 -- ---- filled
 
 absent_in : (d : Data) (k : List ℕ) → sight_of d ≢ an_object → get k d ≡ None

@@ -19,7 +19,6 @@ pub mod Texts
 pub mod Exact
 pub mod Floats
 pub mod Walked
-pub mod Examples
 pub mod Samed
 pub mod SameMembers
 pub mod Stepped

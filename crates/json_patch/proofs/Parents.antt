@@ -87,11 +87,6 @@ taken_there (Ok (Taken w)) d P F t is h = found_in d P F t h.0 (view w) is h.1 h
 taken_there (Ok was) d P F t is h = absurd h.2
 taken_there (Err e) d P F t is h = h
 
-pub undo_taken : (r : Result Displaced StepFault) (d : Data) (P : Pointer) → IfOk r (IsTaken d P) → IfOk r (Undoes d (remove P))
-undo_taken (Ok (Taken w)) d P h = rw h refl
-undo_taken (Ok was) d P h = absurd h
-undo_taken (Err e) d P h = h
-
 -- ---- a move
 
 pub inside : (b : Bool) (F P R : Pointer) → P ≡ F ++ R → (IsTrue b ↔ (R ≡ [])) → IsTrue (not b) ↔ IsProperPrefix F P

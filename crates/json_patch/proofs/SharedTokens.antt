@@ -253,9 +253,6 @@ shares_none os rest k o S less is h none T shared = none T ((within_at T rest k 
 pub first_shares_none : (os rest : List PatchOperation) (first : PatchOperation) → os ≡ first ∷ rest → ((T : Pointer) → IsWithin T (operation_of first) → ⊥) → (T : Pointer) → IsShared (operations os) T → ⊥
 first_shares_none os rest first is none T shared = none T (subst (λ xs. AreWithin T (operations xs)) is shared.within).0
 
-pub empty_shares_none : (os : List PatchOperation) → os ≡ [] → (T : Pointer) → IsShared (operations os) T → ⊥
-empty_shares_none os is T shared = subst (λ xs. IsNotEmpty (operations xs)) is shared.some
-
 pub even_if_none : {T : Type 0} (o : Option T) (P : Type 0) → P → IfNone o P
 even_if_none None P h = h
 even_if_none (Some x) P h = tt

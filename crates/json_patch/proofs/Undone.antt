@@ -53,9 +53,6 @@ pub added_at : (d : Data) (P : Pointer) (t : List ℕ) (v : Data) → added d (P
 added_at d [] t v = refl
 added_at d (u ∷ P) t v = ap (λ x. altered (put_in v x) d (front_of u (P ++ t ∷ []))) (last_append u t P) ∙ ap (λ Q. altered (put_in v t) d Q) (front_append u t P)
 
-pub found_altered : (f : Data → Option Data) (d : Data) (P : Pointer) (e : Data) → altered f d P ≡ Some e → (p : Data) × (found d P ≡ Some p)
-found_altered f d P e is = let a : IsAltered f d P e = altered_is f d P e is in (a.p, resolves_found d P a.L a.p a.resolves)
-
 pub found_document : (d : Data) (P : Pointer) (p : Data) → IsDocument d → found d P ≡ Some p → IsDocument p
 found_document d P p hd is = let h : (L : List Step) × Resolves d P L p = found_resolves d P p is in resolves_document d P h.0 p hd h.1
 

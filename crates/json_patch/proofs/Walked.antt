@@ -44,12 +44,6 @@ pub last_append : (u t : List ℕ) (P : List (List ℕ)) → last_of u (P ++ t �
 last_append u t [] = refl
 last_append u t (w ∷ P) = last_append w t P
 
-pub added_walks : (d : Data) (P : List (List ℕ)) (t : List ℕ) (v : Data)
-    → added d (P ++ t ∷ []) v ≡ option_and_then (λ p. option_and_then (λ q. replaced d P q) (put_in v t p)) (found d P)
-added_walks d [] t v = altered_walks (put_in v t) d []
-added_walks d (u ∷ P) t v =
-    ap (λ x. altered (put_in v x) d (front_of u (P ++ t ∷ []))) (last_append u t P) ∙ ap (λ Q. altered (put_in v t) d Q) (front_append u t P) ∙ altered_walks (put_in v t) d (u ∷ P)
-
 pub removed_walks : (d : Data) (P : List (List ℕ)) (t : List ℕ)
     → removed d (P ++ t ∷ []) ≡ option_and_then (λ p. option_and_then (λ q. replaced d P q) (take_from t p)) (found d P)
 removed_walks d [] t = altered_walks (take_from t) d []
