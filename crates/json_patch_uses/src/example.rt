@@ -3,6 +3,7 @@
 ghost use Rattle.std.specs.Prelude.{◌≡◌, IfOk, codes};
 ghost use Rattle.serde_json.specs.Data.{member, no_members, object, string};
 ghost use Rattle.serde_json.specs.View.{view};
+ghost use Rattle.json_patch.specs.Refusal.{IfRefused};
 
 use json_patch::jsonptr::PointerBuf;
 use json_patch::laws::runs;
@@ -20,10 +21,12 @@ fn example_document(alloc: Global) -> Result<Value, AllocError>
 
 /// Adds a member to an object (RFC 6902, appendix A.1).
 pub fn first_example(alloc: Global) -> Result<Value, PatchFault>
-    ensures { IfOk result (λ e. view e ≡ object (member (codes "baz") (string (codes "qux"))
+    ensures made { IfOk result (λ e. view e ≡ object (member (codes "baz") (string (codes "qux"))
         (member (codes "foo") (string (codes "bar")) no_members))) }
+    ensures accepted { IfRefused result (λ _. ⊥) }
 {
     runs::run_accepted();
+    runs::run_refused();
     let mut document = example_document(alloc)?;
     let mut path = PointerBuf::new();
     path.push_back(alloc, "baz")?;

@@ -1,6 +1,7 @@
 //! A document that is changed by texts, each a JSON Patch.
 
 ghost use Rattle.std.specs.Prelude.{◌≡◌, IfErr, IfOk, OnErr, OnOk};
+ghost use Rattle.serde_json.specs.Data.{Data};
 ghost use Rattle.serde_json.specs.View.{view};
 ghost use Rattle.json_patch.specs.Document.{IsDocument};
 ghost use Rattle.json_patch.specs.Operation.{AreWhole, operations};
@@ -67,10 +68,13 @@ impl Store {
     {
         patch(alloc, &mut self.document, undo.as_slice())
     }
-    /// Makes the changes that a text says and takes them back: the document is then as before,
-    /// unless memory was short.
+
+    /// Makes the changes that a text says and takes them back, which tells whether `update` would
+    /// make them: the document is then as before, unless memory was short.
     pub fn rehearse(&mut self, alloc: Global, text: &str) -> Result<(), UpdateFault>
-        ensures { UnlessShort result (document_of self.new ≡ document_of self.old) }
+        ensures updates { OnOk result ((e : Data) × Updates (document_of self.old) text.now e) }
+        ensures fault { IfErr result (IsFault (document_of self.old) text.now) }
+        ensures unchanged { UnlessShort result (document_of self.new ≡ document_of self.old) }
     {
         let undo = self.update(alloc, text)?;
         self.revert(alloc, &undo)?;
