@@ -1,10 +1,9 @@
 //! Operations that are recorded: each hands back what undoes it.
 
-ghost use Rattle.std.specs.Prelude.{◌≡◌, ◌++◌, ◌↔◌, [], Bool, false, IfOk, IsTrue, OnOk, OnErr, Ok, if◌then◌else◌, drop, length, option_map, string_bytes};
+ghost use Rattle.std.specs.Prelude.{◌≡◌, ◌++◌, ◌↔◌, [], Bool, false, IfOk, IsTrue, OnOk, OnErr, Ok, if◌then◌else◌, drop, length, option_map};
 ghost use mathlib.Core.List.{reverse};
 ghost use Rattle.serde_json.specs.Data.{Data};
 ghost use Rattle.serde_json.specs.View.{view};
-ghost use Rattle.jsonptr.specs.Places.{token_of};
 ghost use Rattle.jsonptr.specs.Pointers.{tokens_of};
 ghost use Rattle.jsonptr.specs.Text.{IsPrefix};
 ghost use Rattle.json_patch.specs.Attempt.{Steps};
@@ -17,11 +16,12 @@ ghost use Rattle.json_patch.specs.RunComputed.{ran, stepped};
 ghost use Rattle.json_patch.specs.SharedComputed.{stripped};
 ghost use Rattle.json_patch.specs.Undoing.{AreUndos, IsOne, IsUndo, IsUndoable, count_in};
 
+use crate::error::StepFault;
 use crate::operation::{
     AddOperation, MoveOperation, PatchOperation, RemoveOperation, ReplaceOperation,
 };
 use crate::step::{add, below, remove, replace, step, take_out};
-use crate::walk::{Displaced, StepFault, find};
+use crate::walk::{Displaced, find};
 use jsonptr::{Pointer, PointerBuf};
 use serde_json::Value;
 use std::alloc::{AllocError, Global};
@@ -193,7 +193,7 @@ fn undo_place(
     if let Some((parent, last)) = below(path, base).split_back() {
         if last.is_key("-") {
             if let Some(count) = item_count(find(doc, parent.tokens())) {
-                let number = place_text(alloc, count)?;
+                let number = count.to_string(alloc)?;
                 return path.with_last(alloc, number.as_str());
             }
         }
@@ -247,11 +247,4 @@ fn undo_one(alloc: Global, doc: &mut Value, operation: PatchOperation)
         }
         _ => {}
     }
-}
-
-/// The token that names a place in a list (RFC 6901, section 4): its digits.
-fn place_text(alloc: Global, index: usize) -> Result<String, AllocError>
-    ensures { IfOk result (λ text. string_bytes text ≡ token_of index) }
-{
-    index.to_string(alloc)
 }

@@ -14,12 +14,11 @@ ghost use Rattle.json_patch.specs.Refusal.{IfRefused, NamesFirst, OnMemory};
 ghost use Rattle.json_patch.specs.Run.{Accepts, IsAccepted};
 ghost use Rattle.json_patch.specs.Undoing.{AreRecorded, From};
 
-use crate::error::{PatchError, PatchFault};
+use crate::error::{PatchError, PatchFault, StepFault};
 use crate::operation::{Patch, PatchOperation};
 use crate::record::{is_undoable, record_step, step_keeping, undo_recorded};
 use crate::shared::copied_part;
 use crate::step::replace;
-use crate::walk::StepFault;
 use jsonptr::Pointer;
 use serde_json::Value;
 use std::alloc::{AllocError, Global};
@@ -43,10 +42,8 @@ pub fn patch(alloc: Global, doc: &mut Value, patch: &[PatchOperation]) -> Result
     ensures in_place { AreTestsThenRemove (operations patch.now)
         → (e : Data) → Accepts (view doc.old) (operations patch.now) e → IsOk result }
 {
-    match run(alloc, doc, patch, false) {
-        Ok(_undo) => Ok(()),
-        Err(fault) => Err(fault),
-    }
+    drop(run(alloc, doc, patch, false)?);
+    Ok(())
 }
 
 /// Applies the operations one after another, in place. A refused operation leaves what the ones
@@ -72,9 +69,7 @@ pub fn patch_unsafe(
 {
     let mut undo = Vec::new(alloc);
     for number in 0..patch.len() {
-        if let Err(fault) = run_part(alloc, doc, patch, number, number + 1, false, &mut undo) {
-            return Err(fault);
-        }
+        run_part(alloc, doc, patch, number, number + 1, false, &mut undo)?;
     }
     Ok(())
 }
