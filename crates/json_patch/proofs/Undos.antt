@@ -1,5 +1,6 @@
 -- A recorded run, undone.
 use Rattle.std.proofs.Common.{◌≡◌, ℕ, zero, suc, List, [], ◌∷◌, ◌++◌, length, drop, take, Bool, true, false, bytes_eq, if◌then◌else◌, Vec, vec_len, Global, Option, Some, None, Result, Ok, Err, IfOk, refl, sym, ap, ◌∙◌, subst, append_assoc, arith}
+use Rattle.std.specs.Result.{IsErrAnd}
 use Rattle.std.specs.declared.alloc.AllocError.{AllocError}
 use Rattle.std.proofs.lemmas.List.{map-append, reverse-append}
 use mathlib.Core.List.{reverse}
@@ -11,7 +12,7 @@ use Rattle.serde_json.proofs.Views.{items_len-items_view, view-Array}
 use Rattle.jsonptr.specs.Text.{Pointer, IsPrefix, ReplacesLast}
 use Rattle.jsonptr.specs.Places.{next_token, token_of}
 use Rattle.jsonptr.specs.PlaceLaws.{place_is_plain}
-use Rattle.json_patch.specs.Attempt.{TakesOut}
+use Rattle.json_patch.specs.Attempt.{Steps, TakesOut}
 use Rattle.json_patch.specs.ChangeComputed.{found, front_of, last_of}
 use Rattle.json_patch.specs.Edits.{Undoes, undo_at_place}
 use Rattle.json_patch.specs.InPlace.{AreUnescaped, IsUnescaped}
@@ -19,9 +20,10 @@ use Rattle.json_patch.specs.InverseComputed.{block, settled_token, undo_add, und
 use Rattle.json_patch.specs.Operation.{Operation, add, remove, replace, move, copy, test, operation_of, operations, path_of}
 use Rattle.json_patch.specs.RunComputed.{Outcome, fault, counted, ran, ran_on, stepped}
 use Rattle.json_patch.specs.PartRun.{block_at}
-use Rattle.json_patch.specs.SharedComputed.{extended}
-use Rattle.json_patch.specs.Undoing.{AreUndos, IsUndo, IsUndoable, count_in}
+use Rattle.json_patch.specs.SharedComputed.{extended, stripped}
+use Rattle.json_patch.specs.Undoing.{AreUndos, IsUndo, IsUndoable, Records, count_in}
 use Rattle.json_patch.specs.declared.error.PatchErrorKind.{PatchErrorKind}
+use Rattle.json_patch.specs.declared.error.StepFault.{StepFault}
 use Rattle.json_patch.specs.declared.operation.PatchOperation.{PatchOperation}
 use Rattle.json_patch.specs.declared.walk.Displaced.{Displaced}
 use Rattle.json_patch.specs.declared.walk.Displaced.TheVariants.{Nothing, Former, Taken}
@@ -130,6 +132,11 @@ records_move olds held mids news a u d m v S G Q place was x room first second p
     let put : operation_of a ≡ add (S ++ F) (view v) = puts ∙ ap (λ R. add R (view v)) (prefix_rest S G begun) in
     one_more mids news u (extended S (undo_add m P)) second taken ∙ ap (λ B. B ++ extended S (undo_add m P) ∷ []) (one_more olds mids a (add (S ++ F) (view v)) (first ∙ ap (λ us. us ++ a ∷ []) room) put)
     ∙ append_assoc (operations olds) (add (S ++ F) (view v) ∷ []) (extended S (undo_add m P) ∷ []) ∙ rw (out.1, out.2) refl
+
+-- a `move` that isn't made
+pub move_refused : {T : Type 0} (r : Result T StepFault) (P : StepFault → Type 0) (d e : Data) (S G Q : Pointer) (olds news : List Operation) → IsErrAnd r P → Steps r (stepped d (stripped S (move G Q))) e → news ≡ olds → Records true r d e S (move G Q) olds news
+move_refused (Ok x) P d e S G Q olds news fails stops same = absurd fails
+move_refused (Err why) P d e S G Q olds news fails stops same = record { refused = stops; kept = same; unchanged = λ other. absurd (other tt) }
 
 -- ---- without memory
 

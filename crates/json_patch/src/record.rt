@@ -1,20 +1,19 @@
 //! Operations that are recorded: each hands back what undoes it.
 
-ghost use Rattle.std.specs.Prelude.{◌≡◌, ◌++◌, ◌↔◌, [], Bool, false, IfOk, IsTrue, OnOk, OnErr, Ok, if◌then◌else◌, drop, length, option_map};
+ghost use Rattle.std.specs.Prelude.{◌≡◌, ◌++◌, ◌↔◌, true, false, IfOk, IsTrue, Ok, drop, length, option_map};
 ghost use mathlib.Core.List.{reverse};
 ghost use Rattle.serde_json.specs.Data.{Data};
 ghost use Rattle.serde_json.specs.View.{view};
 ghost use Rattle.jsonptr.specs.Pointers.{tokens_of};
 ghost use Rattle.jsonptr.specs.Text.{IsPrefix};
-ghost use Rattle.json_patch.specs.Attempt.{Steps};
 ghost use Rattle.json_patch.specs.Edits.{place_to_undo, undo_at_place};
 ghost use Rattle.json_patch.specs.InPlace.{AreUnescaped, IsInPlace, NeverShort};
 ghost use Rattle.json_patch.specs.InverseComputed.{block, undo_add};
-ghost use Rattle.json_patch.specs.Operation.{IsMove, move_of, operation_of, operations, path_of};
-ghost use Rattle.json_patch.specs.PartRun.{IsBegun, block_at};
+ghost use Rattle.json_patch.specs.Operation.{move_of, operation_of, operations, path_of};
+ghost use Rattle.json_patch.specs.PartRun.{IsBegun};
 ghost use Rattle.json_patch.specs.RunComputed.{ran, stepped};
 ghost use Rattle.json_patch.specs.SharedComputed.{stripped};
-ghost use Rattle.json_patch.specs.Undoing.{AreUndos, IsOne, IsUndo, IsUndoable, count_in};
+ghost use Rattle.json_patch.specs.Undoing.{AreUndos, IsOne, IsUndo, IsUndoable, Records, count_in};
 
 use crate::error::StepFault;
 use crate::operation::{
@@ -62,14 +61,8 @@ pub(crate) fn step_keeping(
     undo: &mut Vec<PatchOperation>,
 ) -> Result<(), StepFault>
     requires { IsBegun (tokens_of base) (operation_of operation.now) }
-    ensures leaves { Steps result
-        (stepped (view doc.old) (stripped (tokens_of base.entry) (operation_of operation.now)))
-        (view doc.new) }
-    ensures records { OnOk result (operations undo.new.items ≡ operations undo.old.items
-        ++ (if keep then reverse (block_at (view doc.old) (tokens_of base.entry) (operation_of operation.now)) else [])) }
-    ensures kept { OnErr result (operations undo.new.items ≡ operations undo.old.items) }
-    ensures unchanged { OnErr result
-        ((IsMove (operation_of operation.now) → ⊥) → view doc.new ≡ view doc.old) }
+    ensures made { Records keep result (view doc.old) (view doc.new) (tokens_of base.entry)
+        (operation_of operation.now) (operations undo.old.items) (operations undo.new.items) }
     ensures in_place { keep ≡ false → IsInPlace (stripped (tokens_of base.entry) (operation_of operation.now))
         → NeverShort result }
 {
@@ -90,14 +83,8 @@ pub(crate) fn record_step(
     undo: &mut Vec<PatchOperation>,
 ) -> Result<(), StepFault>
     requires { IsBegun (tokens_of base) (operation_of operation.now) }
-    ensures leaves { Steps result
-        (stepped (view doc.old) (stripped (tokens_of base.entry) (operation_of operation.now)))
-        (view doc.new) }
-    ensures records { OnOk result (operations undo.new.items ≡ operations undo.old.items
-        ++ reverse (block_at (view doc.old) (tokens_of base.entry) (operation_of operation.now))) }
-    ensures kept { OnErr result (operations undo.new.items ≡ operations undo.old.items) }
-    ensures unchanged { OnErr result
-        ((IsMove (operation_of operation.now) → ⊥) → view doc.new ≡ view doc.old) }
+    ensures made { Records true result (view doc.old) (view doc.new) (tokens_of base.entry)
+        (operation_of operation.now) (operations undo.old.items) (operations undo.new.items) }
     ensures in_place { IsUndoable (operation_of operation.now)
         → IsInPlace (operation_of operation.now) → NeverShort result }
 {
@@ -135,13 +122,8 @@ fn record_one(
     requires one { IsOne (operation_of operation.now) }
     requires at { place ≡ tokens_of base
         ++ place_to_undo (view doc.old) (stripped (tokens_of base) (operation_of operation.now)) }
-    ensures leaves { Steps result
-        (stepped (view doc.old) (stripped (tokens_of base.entry) (operation_of operation.now)))
-        (view doc.new) }
-    ensures records { OnOk result (operations undo.new.items ≡ operations undo.old.items
-        ++ reverse (block_at (view doc.old) (tokens_of base.entry) (operation_of operation.now))) }
-    ensures kept { OnErr result (operations undo.new.items ≡ operations undo.old.items) }
-    ensures unchanged { OnErr result (view doc.new ≡ view doc.old) }
+    ensures { Records true result (view doc.old) (view doc.new) (tokens_of base.entry)
+        (operation_of operation.now) (operations undo.old.items) (operations undo.new.items) }
 {
     undo.reserve(1)?;
     let was = step(alloc, doc, base, operation)?;
@@ -158,12 +140,8 @@ fn record_move(
     undo: &mut Vec<PatchOperation>,
 ) -> Result<(), StepFault>
     requires { IsBegun (tokens_of base) (move_of operation.now) }
-    ensures leaves { Steps result
-        (stepped (view doc.old) (stripped (tokens_of base.entry) (move_of operation.now)))
-        (view doc.new) }
-    ensures records { OnOk result (operations undo.new.items ≡ operations undo.old.items
-        ++ reverse (block_at (view doc.old) (tokens_of base.entry) (move_of operation.now))) }
-    ensures kept { OnErr result (operations undo.new.items ≡ operations undo.old.items) }
+    ensures { Records true result (view doc.old) (view doc.new) (tokens_of base.entry)
+        (move_of operation.now) (operations undo.old.items) (operations undo.new.items) }
 {
     undo.reserve(2)?;
     let path = below(&operation.path, base);
