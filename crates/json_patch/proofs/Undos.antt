@@ -24,6 +24,7 @@ use Rattle.json_patch.specs.SharedComputed.{extended, stripped}
 use Rattle.json_patch.specs.Undoing.{AreUndos, IsUndo, IsUndoable, Records, count_in}
 use Rattle.json_patch.specs.declared.error.PatchErrorKind.{PatchErrorKind}
 use Rattle.json_patch.specs.declared.error.StepFault.{StepFault}
+use Rattle.json_patch.specs.declared.record.Keep.TheVariants.{Inverse}
 use Rattle.json_patch.specs.declared.operation.PatchOperation.{PatchOperation}
 use Rattle.json_patch.specs.declared.walk.Displaced.{Displaced}
 use Rattle.json_patch.specs.declared.walk.Displaced.TheVariants.{Nothing, Former, Taken}
@@ -134,7 +135,7 @@ records_move olds held mids news a u d m v S G Q place was x room first second p
     ∙ append_assoc (operations olds) (add (S ++ F) (view v) ∷ []) (extended S (undo_add m P) ∷ []) ∙ rw (out.1, out.2) refl
 
 -- a `move` that isn't made
-pub move_refused : {T : Type 0} (r : Result T StepFault) (P : StepFault → Type 0) (d e : Data) (S G Q : Pointer) (olds news : List Operation) → IsErrAnd r P → Steps r (stepped d (stripped S (move G Q))) e → news ≡ olds → Records true r d e S (move G Q) olds news
+pub move_refused : {T : Type 0} (r : Result T StepFault) (P : StepFault → Type 0) (d e : Data) (S G Q : Pointer) (olds news : List Operation) → IsErrAnd r P → Steps r (stepped d (stripped S (move G Q))) e → news ≡ olds → Records Inverse r d e S (move G Q) olds news
 move_refused (Ok x) P d e S G Q olds news fails stops same = absurd fails
 move_refused (Err why) P d e S G Q olds news fails stops same = record { refused = stops; kept = same; unchanged = λ other. absurd (other tt) }
 

@@ -1,6 +1,6 @@
 //! Operations that are recorded: each hands back what undoes it.
 
-ghost use Rattle.std.specs.Prelude.{◌≡◌, ◌++◌, ◌↔◌, true, false, IfOk, IsTrue, Ok, drop, length, option_map};
+ghost use Rattle.std.specs.Prelude.{◌≡◌, ◌++◌, ◌↔◌, IfOk, IsTrue, Ok, drop, length, option_map};
 ghost use mathlib.Core.List.{reverse};
 ghost use Rattle.serde_json.specs.Data.{Data};
 ghost use Rattle.serde_json.specs.View.{view};
@@ -14,6 +14,7 @@ ghost use Rattle.json_patch.specs.PartRun.{IsBegun};
 ghost use Rattle.json_patch.specs.RunComputed.{ran, stepped};
 ghost use Rattle.json_patch.specs.SharedComputed.{stripped};
 ghost use Rattle.json_patch.specs.Undoing.{AreUndos, IsOne, IsUndo, IsUndoable, Records, count_in};
+ghost use Rattle.json_patch.specs.declared.record.Keep.TheVariants.{Inverse, Nothing};
 
 use crate::error::StepFault;
 use crate::operation::{
@@ -24,6 +25,15 @@ use crate::walk::{Displaced, find};
 use jsonptr::{Pointer, PointerBuf};
 use serde_json::Value;
 use std::alloc::{AllocError, Global};
+
+/// What a run hands back.
+#[derive(Clone, Copy)]
+pub(crate) enum Keep {
+    /// What undoes it.
+    Inverse,
+    /// Nothing.
+    Nothing,
+}
 
 /// Whether the operation can be undone with no memory: a `test`, or an `add`, `replace` or `copy` at
 /// a path whose text holds no `~`.
@@ -51,26 +61,28 @@ fn is_unescaped(path: Pointer<'_>) -> bool
     true
 }
 
-/// Makes the operation as [`step`] does, and where `keep` says so, records what undoes it.
+/// Makes the operation as [`step`] does, and records what undoes it, where that is kept.
 pub(crate) fn step_keeping(
     alloc: Global,
     doc: &mut Value,
     base: Pointer<'_>,
     operation: &PatchOperation,
-    keep: bool,
+    keep: Keep,
     undo: &mut Vec<PatchOperation>,
 ) -> Result<(), StepFault>
     requires { IsBegun (tokens_of base) (operation_of operation.now) }
     ensures made { Records keep result (view doc.old) (view doc.new) (tokens_of base.entry)
         (operation_of operation.now) (operations undo.old.items) (operations undo.new.items) }
-    ensures in_place { keep ≡ false → IsInPlace (stripped (tokens_of base.entry) (operation_of operation.now))
+    ensures in_place { keep ≡ Nothing → IsInPlace (stripped (tokens_of base.entry) (operation_of operation.now))
         → NeverShort result }
 {
-    if keep {
-        return record_step(alloc, doc, base, operation, undo);
+    match keep {
+        Keep::Inverse => record_step(alloc, doc, base, operation, undo),
+        Keep::Nothing => {
+            step(alloc, doc, base, operation)?;
+            Ok(())
+        }
     }
-    step(alloc, doc, base, operation)?;
-    Ok(())
 }
 
 /// Makes the operation as [`step`] does, and records, last first, the operations that undo it, with
@@ -83,7 +95,7 @@ pub(crate) fn record_step(
     undo: &mut Vec<PatchOperation>,
 ) -> Result<(), StepFault>
     requires { IsBegun (tokens_of base) (operation_of operation.now) }
-    ensures made { Records true result (view doc.old) (view doc.new) (tokens_of base.entry)
+    ensures made { Records Inverse result (view doc.old) (view doc.new) (tokens_of base.entry)
         (operation_of operation.now) (operations undo.old.items) (operations undo.new.items) }
     ensures in_place { IsUndoable (operation_of operation.now)
         → IsInPlace (operation_of operation.now) → NeverShort result }
@@ -122,7 +134,7 @@ fn record_one(
     requires one { IsOne (operation_of operation.now) }
     requires at { place ≡ tokens_of base
         ++ place_to_undo (view doc.old) (stripped (tokens_of base) (operation_of operation.now)) }
-    ensures { Records true result (view doc.old) (view doc.new) (tokens_of base.entry)
+    ensures { Records Inverse result (view doc.old) (view doc.new) (tokens_of base.entry)
         (operation_of operation.now) (operations undo.old.items) (operations undo.new.items) }
 {
     undo.reserve(1)?;
@@ -140,7 +152,7 @@ fn record_move(
     undo: &mut Vec<PatchOperation>,
 ) -> Result<(), StepFault>
     requires { IsBegun (tokens_of base) (move_of operation.now) }
-    ensures { Records true result (view doc.old) (view doc.new) (tokens_of base.entry)
+    ensures { Records Inverse result (view doc.old) (view doc.new) (tokens_of base.entry)
         (move_of operation.now) (operations undo.old.items) (operations undo.new.items) }
 {
     undo.reserve(2)?;
