@@ -19,8 +19,8 @@ use Rattle.json_patch.specs.declared.error.PatchErrorKind.{PatchErrorKind}
 use Rattle.json_patch.specs.declared.error.PatchFault.{PatchFault}
 use Rattle.json_patch.specs.declared.error.PatchFault.TheVariants.{Refused, Memory}
 use Rattle.json_patch.specs.declared.operation.PatchOperation.{PatchOperation}
-use Rattle.json_patch.specs.declared.walk.StepFault.{StepFault}
-use Rattle.json_patch.specs.declared.walk.StepFault.TheVariants.{Refused as step_refused, Memory as step_short}
+use Rattle.json_patch.specs.declared.error.StepFault.{StepFault}
+use Rattle.json_patch.specs.declared.error.StepFault.TheVariants.{Refused as step_refused, Memory as step_short}
 use Rattle.json_patch.proofs.Blocks.{inverse_is}
 use Rattle.json_patch.proofs.Inverted.{inverse_back, inverse_joined, inverse_length, inverse_whole}
 use Rattle.json_patch.proofs.Plain.{inverse_plain}

@@ -5,8 +5,8 @@ use Rattle.serde_json.specs.Data.{Data}
 use Rattle.json_patch.specs.Attempt.{Attempts, Excuses}
 use Rattle.json_patch.specs.declared.error.PatchErrorKind.{PatchErrorKind}
 use Rattle.json_patch.specs.declared.error.PatchErrorKind.TheVariants.{InvalidPointer}
-use Rattle.json_patch.specs.declared.walk.StepFault.{StepFault}
-use Rattle.json_patch.specs.declared.walk.StepFault.TheVariants.{Refused}
+use Rattle.json_patch.specs.declared.error.StepFault.{StepFault}
+use Rattle.json_patch.specs.declared.error.StepFault.TheVariants.{Refused}
 
 excuses : (fault : StepFault) (kind : PatchErrorKind) (wanted : Option Data) → fault ≡ Refused kind → kind ≡ InvalidPointer → wanted ≡ None → Excuses fault wanted
 excuses fault kind wanted is at none = subst (λ f. Excuses f wanted) (ap Refused (sym at) ∙ sym is) (refl, none)

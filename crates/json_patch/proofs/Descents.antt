@@ -1,5 +1,5 @@
 -- A walk down a value: what an attempt at a child leaves of what holds the child, and what stands there.
-use Rattle.std.proofs.Common.{◌≡◌, ℕ, List, [], ◌∷◌, set, get_or, Vec, vec_len, Option, Some, None, option_map, option_and_then, Result, Ok, Err, IfOk, BTreeMap, String, Global, refl, sym, ap, ◌∙◌, arith}
+use Rattle.std.proofs.Common.{◌≡◌, ℕ, List, ◌∷◌, set, get_or, Vec, vec_len, Option, Some, None, option_map, option_and_then, Result, Ok, Err, IfOk, BTreeMap, String, Global, refl, sym, ap, ◌∙◌, arith}
 use Rattle.std.specs.Map.{lookup, set_value}
 use Rattle.std.specs.Result.{IsErr, IsErrAnd}
 use Rattle.std.specs.Vec.{with_item}
@@ -16,8 +16,8 @@ use Rattle.json_patch.specs.declared.error.PatchErrorKind.{PatchErrorKind}
 use Rattle.json_patch.specs.declared.error.PatchErrorKind.TheVariants.{InvalidPointer}
 use Rattle.json_patch.specs.declared.walk.Displaced.{Displaced}
 use Rattle.json_patch.specs.declared.walk.Edit.{Edit}
-use Rattle.json_patch.specs.declared.walk.StepFault.{StepFault}
-use Rattle.json_patch.specs.declared.walk.StepFault.TheVariants.{Refused, Memory}
+use Rattle.json_patch.specs.declared.error.StepFault.{StepFault}
+use Rattle.json_patch.specs.declared.error.StepFault.TheVariants.{Refused, Memory}
 use Rattle.json_patch.proofs.Attempts.{refused}
 use Rattle.json_patch.proofs.Containers.{IsItem, IsNoItem, item_child, member_child, no_item, no_member, goes_none}
 use Rattle.json_patch.proofs.Writes.{is_named, AreInOrder, items_view-set, items_view-set_same, members_view-set_value, members_view-set_same}

@@ -1,5 +1,5 @@
 -- The item that a token names, and the place at which it puts a new one, by the index that is read of it.
-use Rattle.std.proofs.Common.{◌≡◌, ◌≢◌, ℕ, ◌<◌, ◌≤◌, ◌^◌, List, Bool, true, false, if◌then◌else◌, leb, bytes_eq, Option, Some, None, option_and_then, Result, Ok, Err, MatchResult, refl, sym, ap, ◌∙◌, arith}
+use Rattle.std.proofs.Common.{◌≡◌, ◌≢◌, ℕ, ◌<◌, ◌≤◌, ◌^◌, List, true, false, if◌then◌else◌, leb, bytes_eq, Option, Some, None, option_and_then, Result, Ok, Err, MatchResult, refl, sym, ap, ◌∙◌, arith}
 use Rattle.std.proofs.lemmas.Bool.Decides.{nat_tests}
 use Rattle.std.proofs.lemmas.Slice.Eq.{bytes_eq-Decides}
 use Rattle.std.specs.Result.{IsErr, IsErrAnd}
@@ -12,6 +12,7 @@ use Rattle.json_patch.specs.ChangeComputed.{slot_in}
 use Rattle.json_patch.specs.declared.error.PatchErrorKind.{PatchErrorKind}
 use Rattle.json_patch.specs.declared.error.PatchErrorKind.TheVariants.{InvalidPointer}
 use Rattle.json_patch.proofs.Containers.{IsItem, IsNoItem}
+use Rattle.json_patch.proofs.Slots.{fits, not_next, place_is_not_next}
 
 -- a refusal that `?` made of an index's
 pub refused : (r : Result ℕ PatchErrorKind) (P : ℕ → Type 0) (Q : Type 0) → IsErr r × IsErrAnd r (λ kind. kind ≡ InvalidPointer) → Q → MatchResult r P (λ kind. (kind ≡ InvalidPointer) × Q)
@@ -33,22 +34,12 @@ item_within t Next len n h is less = absurd (omega arith)
 
 -- ---- slots
 
-pub not_next : (b : Bool) (t : List ℕ) → bytes_eq t next_token ≡ b → t ≢ next_token → b ≡ false
-not_next true t is other = absurd (other ((bytes_eq-Decides t next_token).0 is))
-not_next false t is other = refl
-
-place_is_not_next : (t : List ℕ) (i : ℕ) → place_of t ≡ Some i → t ≢ next_token
-place_is_not_next t i h is = let none : place_of t ≡ None = ap place_of is ∙ next_is_no_place in cc
-
 is_next : (t : List ℕ) → t ≡ next_token → bytes_eq t next_token ≡ true
 is_next t is = (bytes_eq-Decides t next_token).1 is
 
 past_all : (o : Option ℕ) (len : ℕ) → ((i : ℕ) → o ≡ Some i → len < i) → option_and_then (λ i. if leb i len then Some i else None) o ≡ None
 past_all None len past = refl
 past_all (Some i) len past = let over : len < i = past i refl in let no : leb i len ≡ false = grind (arith, nat_tests) in rw no
-
-fits : (i len : ℕ) → i ≤ len → leb i len ≡ true
-fits i len le = grind (arith, nat_tests)
 
 no_slot_past : (t : List ℕ) (len : ℕ) → t ≢ next_token → ((i : ℕ) → place_of t ≡ Some i → len < i) → slot_in t len ≡ None
 no_slot_past t len other past = rw (not_next (bytes_eq t next_token) t refl other) (past_all (place_of t) len past)

@@ -1,18 +1,15 @@
 -- An operation as a change of its container, which the walk finds at all tokens but the last.
-use Rattle.std.proofs.Common.{◌≡◌, ◌<◌, ◌^◌, decimal, String, Global, string_bytes, ℕ, List, [], ◌∷◌, ◌++◌, length, drop, not, true, false, Bool, IsTrue, Option, Some, None, option_map, option_and_then, Result, Ok, Err, IfOk, refl, sym, ap, ◌∙◌, subst}
+use Rattle.std.proofs.Common.{◌≡◌, ℕ, List, [], ◌∷◌, ◌++◌, length, drop, not, true, false, Bool, IsTrue, Option, Some, None, option_map, option_and_then, Result, Ok, Err, IfOk, refl, sym, ap, ◌∙◌, subst}
 use Rattle.std.specs.Prelude.{◌↔◌}
-use Rattle.std.specs.declared.alloc.AllocError.{AllocError}
 use Rattle.std.specs.Result.{IsErr, IsErrAnd}
 use Rattle.std.proofs.lemmas.List.{append_cancel_left}
 use Rattle.serde_json.specs.Data.{Data, array, object}
 use Rattle.serde_json.specs.View.{view}
 use Rattle.serde_json.specs.declared.value.Value.{Value}
 use Rattle.jsonptr.specs.Text.{Pointer, IsProperPrefix}
-use Rattle.jsonptr.specs.Places.{token_of}
-use Rattle.jsonptr.specs.PlaceLaws.{token_is_decimal}
 use Rattle.json_patch.specs.Attempt.{Attempts, Steps, TakesOut}
 use Rattle.json_patch.specs.Document.{child}
-use Rattle.json_patch.specs.Operation.{add, move, remove, replace, path_of}
+use Rattle.json_patch.specs.Operation.{add, move, replace, path_of}
 use Rattle.json_patch.specs.ChangeComputed.{step_of, set_child, put_in, take_from, found, altered, added, removed, replaced}
 use Rattle.json_patch.specs.Edits.{Displaces, DisplacesAt, IsTaken, Undoes, undo_at_place}
 use Rattle.json_patch.specs.InPlace.{AreUnescaped, IsUnescaped}
@@ -23,8 +20,8 @@ use Rattle.json_patch.specs.declared.error.PatchErrorKind.TheVariants.{InvalidFr
 use Rattle.json_patch.specs.declared.walk.Displaced.{Displaced}
 use Rattle.json_patch.specs.declared.walk.Displaced.TheVariants.{Nothing, Former, Taken}
 use Rattle.json_patch.specs.declared.walk.Edit.TheVariants.{Insert, Take, Swap}
-use Rattle.json_patch.specs.declared.walk.StepFault.{StepFault}
-use Rattle.json_patch.specs.declared.walk.StepFault.TheVariants.{Refused, Memory}
+use Rattle.json_patch.specs.declared.error.StepFault.{StepFault}
+use Rattle.json_patch.specs.declared.error.StepFault.TheVariants.{Refused, Memory}
 use Rattle.json_patch.proofs.Resolved.{split_is}
 use Rattle.json_patch.proofs.Stepped.{prefix_begins, not_begins}
 use Rattle.json_patch.proofs.Undone.{found_append}
@@ -124,12 +121,6 @@ pub move_stops : {T : Type 0} (U : Type 0) (r : Result T StepFault) (fault : Ste
 move_stops U (Ok x) fault d m e v S F P G Q from path gives out h = absurd gives.1
 move_stops {T} U (Err f) fault d m e v S F P G Q from path gives out h =
     move_goes {T = T} (Err f) d m e v S F P G Q from path out (subst (λ g. Attempts {T = T} (Err g) (added m P (view v)) m e) (sym gives.1) h)
-
--- ---- a place by its number
-
-pub place_text : (r : Result (String Global) AllocError) (i : ℕ) → i < 2 ^ 64 → IfOk r (λ s. string_bytes s ≡ decimal i) → IfOk r (λ s. string_bytes s ≡ token_of i)
-place_text (Ok s) i fits h = h ∙ sym (token_is_decimal i fits)
-place_text (Err e) i fits h = h
 
 -- ---- without memory
 

@@ -1,5 +1,5 @@
 -- A run on a copy of a part of a document, one step at a time, and what it is of the document.
-use Rattle.std.proofs.Common.{◌≡◌, ◌⊎◌, inl, inr, ⊎_elim, ◌+◌, ◌-◌, ◌<◌, ◌≤◌, IsTrue, Bool, true, false, if◌then◌else◌, ℕ, zero, suc, List, [], ◌∷◌, ◌++◌, length, drop, take, Option, Some, Result, Ok, Err, refl, sym, ap, ◌∙◌, subst, arith}
+use Rattle.std.proofs.Common.{◌≡◌, ◌⊎◌, inl, inr, ⊎_elim, ◌+◌, ◌-◌, ◌<◌, ◌≤◌, Bool, true, false, ℕ, zero, suc, List, [], ◌∷◌, ◌++◌, length, drop, take, Option, Some, Result, Ok, Err, refl, sym, ap, ◌∙◌, subst, arith}
 use mathlib.Core.List.{reverse}
 use Rattle.std.specs.Result.{is_err}
 use Rattle.serde_json.specs.Data.{Data}
@@ -14,12 +14,14 @@ use Rattle.json_patch.specs.Run.{Accepts}
 use Rattle.json_patch.specs.RunComputed.{or_refused, stepped}
 use Rattle.json_patch.specs.Shared.{IsWithin, AreWithin}
 use Rattle.json_patch.specs.SharedComputed.{stripped, extended_all}
-use Rattle.json_patch.specs.Undoing.{AreRecorded}
+use Rattle.json_patch.specs.Undoing.{AreRecorded, recorded}
 use Rattle.json_patch.specs.declared.error.PatchErrorKind.{PatchErrorKind}
 use Rattle.json_patch.specs.declared.error.PatchErrorKind.TheVariants.{InvalidPointer}
 use Rattle.json_patch.specs.declared.operation.PatchOperation.{PatchOperation}
-use Rattle.json_patch.specs.declared.walk.StepFault.{StepFault}
-use Rattle.json_patch.specs.declared.walk.StepFault.TheVariants.{Refused, Memory}
+use Rattle.json_patch.specs.declared.error.StepFault.{StepFault}
+use Rattle.json_patch.specs.declared.record.Keep.{Keep}
+use Rattle.json_patch.specs.declared.record.Keep.TheVariants.{Inverse}
+use Rattle.json_patch.specs.declared.error.StepFault.TheVariants.{Refused, Memory}
 use Rattle.json_patch.proofs.Applied.{IsAt, IsState, recorded_more, state_more, whole_at}
 use Rattle.json_patch.proofs.Below.{Replaces, replaced_itself, replaces, lifted, some_replaced, stepped_under, whole_stripped}
 use Rattle.json_patch.proofs.InversesBelow.{block_under}
@@ -151,10 +153,6 @@ pub record Part (d m : Data) (os : List PatchOperation) (k : ℕ) (S : Pointer) 
 pub part_first : (d m : Data) (os : List PatchOperation) (k : ℕ) (S : Pointer) (w : Data) → IsDocument m → IsState d os k m → found m S ≡ Some w → Part d m os k S w
 part_first d m os k S w hm s there = record { x = m; state = s; document = hm; there = there; again = λ f hf. refl }
 
-pub if_true : {A : Type 0} (b : Bool) (x y : A) → IsTrue b → (if b then x else y) ≡ x
-if_true true x y h = refl
-if_true false x y h = cc
-
 module _ (d m : Data) (os : List PatchOperation) (k : ℕ) (S : Pointer) (w : Data) (p : Part d m os k S w) where
   pub part_end : (new : Data) → replaced m S w ≡ Some new → IsState d os k new
   part_end new is =
@@ -176,11 +174,11 @@ module _ (d m : Data) (os : List PatchOperation) (k : ℕ) (S : Pointer) (w : Da
       again = λ f hf. made_whole.2.again f hf ∙ p.again f hf;
     }
 
-    pub part_recorded : (keep : Bool) (undo more : List PatchOperation) → IsTrue keep → operations more ≡ operations undo ++ (if keep then reverse (block_at w S (operation_of o)) else [])
+    pub part_recorded : (keep : Keep) (undo more : List PatchOperation) → keep ≡ Inverse → operations more ≡ operations undo ++ recorded keep (block_at w S (operation_of o))
         → AreRecorded d (operations os) k (operations undo) → AreRecorded d (operations os) (k + 1) (operations more)
     part_recorded keep undo more kept wrote so_far =
         recorded_more d p.x made_whole.0 os k o undo more hd hv less is p.state made_whole.1
-        (wrote ∙ ap (λ B. operations undo ++ B) (if_true keep (reverse (block_at w S (operation_of o))) [] kept ∙ ap reverse (sym (block_part p.x S w (operation_of o) p.document p.there at)))) so_far
+        (wrote ∙ ap (λ B. operations undo ++ B) (ap (λ x. recorded x (block_at w S (operation_of o))) kept ∙ ap reverse (sym (block_part p.x S w (operation_of o) p.document p.there at)))) so_far
 
 pub ended_at : (d new : Data) (os : List PatchOperation) (k end : ℕ) → k ≡ end → IsState d os k new → Accepts d (take end (operations os)) new
 ended_at d new os k end is h = subst (λ n. Accepts d (take n (operations os)) new) is h
@@ -190,10 +188,10 @@ made_put (Ok x) b wanted old new h told never = h
 made_put (Err f) b wanted old new h told never = let e : true ≡ false = sym told ∙ never in cc
 
 -- a step made on the document itself
-pub recorded_at : (d m e : Data) (os : List PatchOperation) (k end : ℕ) (S : Pointer) (o : PatchOperation) (keep : Bool) (undo more : List PatchOperation) → k + 1 ≡ end → IsDocument d → AreWhole (operations os) → k < length os → IsAt os k o → IsState d os k m
-    → S ≡ [] → stepped m (stripped S (operation_of o)) ≡ Ok e → IsTrue keep → operations more ≡ operations undo ++ (if keep then reverse (block_at m S (operation_of o)) else [])
+pub recorded_at : (d m e : Data) (os : List PatchOperation) (k end : ℕ) (S : Pointer) (o : PatchOperation) (keep : Keep) (undo more : List PatchOperation) → k + 1 ≡ end → IsDocument d → AreWhole (operations os) → k < length os → IsAt os k o → IsState d os k m
+    → S ≡ [] → stepped m (stripped S (operation_of o)) ≡ Ok e → keep ≡ Inverse → operations more ≡ operations undo ++ recorded keep (block_at m S (operation_of o))
     → AreRecorded d (operations os) k (operations undo) → AreRecorded d (operations os) end (operations more)
 recorded_at d m e os k end S o keep undo more last hd hv less is s root made kept wrote so_far =
     subst (λ n. AreRecorded d (operations os) n (operations more)) last
     (recorded_more d m e os k o undo more hd hv less is s (ap (stepped m) (sym (stripped_whole S (operation_of o) root)) ∙ made)
-    (wrote ∙ ap (λ B. operations undo ++ B) (if_true keep (reverse (block_at m S (operation_of o))) [] kept ∙ ap reverse (block_whole m S (operation_of o) root))) so_far)
+    (wrote ∙ ap (λ B. operations undo ++ B) (ap (λ x. recorded x (block_at m S (operation_of o))) kept ∙ ap reverse (block_whole m S (operation_of o) root))) so_far)

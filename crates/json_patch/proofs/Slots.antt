@@ -1,5 +1,5 @@
 -- Where a token puts a new child, and what that leaves.
-use Rattle.std.proofs.Common.{◌≡◌, ℕ, ◌<◌, ◌≤◌, List, [], ◌∷◌, inl, inr, ⊎_elim, Bool, true, false, if◌then◌else◌, leb, bytes_eq, Option, Some, None, option_map, option_and_then, refl, sym, ap, ◌∙◌, subst, arith}
+use Rattle.std.proofs.Common.{◌≡◌, ◌≢◌, ℕ, ◌<◌, ◌≤◌, List, [], ◌∷◌, inl, inr, ⊎_elim, Bool, true, false, if◌then◌else◌, leb, bytes_eq, Option, Some, None, option_map, option_and_then, refl, sym, ap, ◌∙◌, subst, arith}
 use Rattle.std.proofs.lemmas.Bool.{cases_lt}
 use Rattle.std.proofs.lemmas.Bool.Decides.{nat_tests}
 use Rattle.std.proofs.lemmas.Slice.Eq.{bytes_eq-Decides}
@@ -32,17 +32,20 @@ slot_at false (Some j) t ds i next is h =
 pub slot_aims : (t : List ℕ) (ds : Items) (i : ℕ) → slot_of t ds ≡ Some i → Aims (array ds) t (place i)
 slot_aims t ds i h = slot_at (bytes_eq t next_token) (place_of t) t ds i refl refl h
 
-fits : (i n : ℕ) → i ≤ n → leb i n ≡ true
+pub fits : (i n : ℕ) → i ≤ n → leb i n ≡ true
 fits i n le = grind (arith, nat_tests)
 
-not_next : (b : Bool) (t : List ℕ) (i : ℕ) → bytes_eq t next_token ≡ b → place_of t ≡ Some i → b ≡ false
-not_next true t i is h = let e : t ≡ next_token = (bytes_eq-Decides t next_token).0 is in let p : place_of t ≡ None = ap place_of e ∙ next_is_no_place in cc
-not_next false t i is h = refl
+pub not_next : (b : Bool) (t : List ℕ) → bytes_eq t next_token ≡ b → t ≢ next_token → b ≡ false
+not_next true t is other = absurd (other ((bytes_eq-Decides t next_token).0 is))
+not_next false t is other = refl
+
+pub place_is_not_next : (t : List ℕ) (i : ℕ) → place_of t ≡ Some i → t ≢ next_token
+place_is_not_next t i h is = let none : place_of t ≡ None = ap place_of is ∙ next_is_no_place in cc
 
 pub slot_some : (t : List ℕ) (ds : Items) (i : ℕ) → Aims (array ds) t (place i) → slot_of t ds ≡ Some i
 slot_some t ds i h =
     ⊎_elim
-    (λ (a : (place_of t ≡ Some i) × (i ≤ items_len ds)). rw (not_next (bytes_eq t next_token) t i refl a.0, a.0, fits i (items_len ds) a.1))
+    (λ (a : (place_of t ≡ Some i) × (i ≤ items_len ds)). rw (not_next (bytes_eq t next_token) t refl (place_is_not_next t i a.0), a.0, fits i (items_len ds) a.1))
     (λ (a : (t ≡ next_token) × (i ≡ items_len ds)). rw a.0 (ap Some (sym a.1))) h
 
 pub aims_put : (v : Data) (t : List ℕ) (p : Data) (s : Step) → Aims p t s → (q : Data) × (put_in v t p ≡ Some q)

@@ -1,8 +1,7 @@
 -- A recorded run, undone.
-use Rattle.std.proofs.Common.{◌≡◌, ◌+◌, ◌<◌, ◌≤◌, ℕ, zero, suc, List, [], ◌∷◌, ◌++◌, length, drop, take, map, Bool, true, false, bytes_eq, if◌then◌else◌, Vec, vec_len, Global, Option, Some, None, Result, Ok, Err, IfOk, refl, sym, ap, ◌∙◌, subst, append_assoc, arith}
-use Rattle.std.specs.Int.Digits.{AllBelowBase, digits_of}
+use Rattle.std.proofs.Common.{◌≡◌, ℕ, zero, suc, List, [], ◌∷◌, ◌++◌, length, drop, take, Bool, true, false, bytes_eq, if◌then◌else◌, Vec, vec_len, Global, Option, Some, None, Result, Ok, Err, IfOk, refl, sym, ap, ◌∙◌, subst, append_assoc, arith}
+use Rattle.std.specs.Result.{IsErrAnd}
 use Rattle.std.specs.declared.alloc.AllocError.{AllocError}
-use Rattle.std.proofs.lemmas.Int.Digits.{all_below_base_digits_of}
 use Rattle.std.proofs.lemmas.List.{map-append, reverse-append}
 use mathlib.Core.List.{reverse}
 use Rattle.serde_json.specs.Data.{Data, null, boolean, number, string, array, object}
@@ -10,10 +9,10 @@ use Rattle.serde_json.specs.Events.{items_len}
 use Rattle.serde_json.specs.View.{view}
 use Rattle.serde_json.specs.declared.value.Value.{Value, Array}
 use Rattle.serde_json.proofs.Views.{items_len-items_view, view-Array}
-use Rattle.jsonptr.specs.Text.{Pointer, IsPrefix, ReplacesLast, encoded, encoded_byte}
+use Rattle.jsonptr.specs.Text.{Pointer, IsPrefix, ReplacesLast}
 use Rattle.jsonptr.specs.Places.{next_token, token_of}
-use Rattle.std.proofs.lemmas.Bool.{ne_eqb}
-use Rattle.json_patch.specs.Attempt.{TakesOut}
+use Rattle.jsonptr.specs.PlaceLaws.{place_is_plain}
+use Rattle.json_patch.specs.Attempt.{Steps, TakesOut}
 use Rattle.json_patch.specs.ChangeComputed.{found, front_of, last_of}
 use Rattle.json_patch.specs.Edits.{Undoes, undo_at_place}
 use Rattle.json_patch.specs.InPlace.{AreUnescaped, IsUnescaped}
@@ -21,16 +20,18 @@ use Rattle.json_patch.specs.InverseComputed.{block, settled_token, undo_add, und
 use Rattle.json_patch.specs.Operation.{Operation, add, remove, replace, move, copy, test, operation_of, operations, path_of}
 use Rattle.json_patch.specs.RunComputed.{Outcome, fault, counted, ran, ran_on, stepped}
 use Rattle.json_patch.specs.PartRun.{block_at}
-use Rattle.json_patch.specs.SharedComputed.{extended}
-use Rattle.json_patch.specs.Undoing.{AreUndos, IsUndo, IsUndoable, count_in}
+use Rattle.json_patch.specs.SharedComputed.{extended, stripped}
+use Rattle.json_patch.specs.Undoing.{AreUndos, IsUndo, IsUndoable, Records, count_in}
 use Rattle.json_patch.specs.declared.error.PatchErrorKind.{PatchErrorKind}
+use Rattle.json_patch.specs.declared.error.StepFault.{StepFault}
+use Rattle.json_patch.specs.declared.record.Keep.TheVariants.{Inverse}
 use Rattle.json_patch.specs.declared.operation.PatchOperation.{PatchOperation}
 use Rattle.json_patch.specs.declared.walk.Displaced.{Displaced}
 use Rattle.json_patch.specs.declared.walk.Displaced.TheVariants.{Nothing, Former, Taken}
 use Rattle.json_patch.proofs.Below.{strip}
-use Rattle.json_patch.proofs.Indices.{not_next}
 use Rattle.json_patch.proofs.Parents.{no_last}
 use Rattle.json_patch.proofs.Resolved.{split_is, split_whole}
+use Rattle.json_patch.proofs.Slots.{not_next}
 
 -- ---- where what undoes an operation works
 
@@ -133,21 +134,12 @@ records_move olds held mids news a u d m v S G Q place was x room first second p
     one_more mids news u (extended S (undo_add m P)) second taken ∙ ap (λ B. B ++ extended S (undo_add m P) ∷ []) (one_more olds mids a (add (S ++ F) (view v)) (first ∙ ap (λ us. us ++ a ∷ []) room) put)
     ∙ append_assoc (operations olds) (add (S ++ F) (view v) ∷ []) (extended S (undo_add m P) ∷ []) ∙ rw (out.1, out.2) refl
 
+-- a `move` that isn't made
+pub move_refused : {T : Type 0} (r : Result T StepFault) (P : StepFault → Type 0) (d e : Data) (S G Q : Pointer) (olds news : List Operation) → IsErrAnd r P → Steps r (stepped d (stripped S (move G Q))) e → news ≡ olds → Records Inverse r d e S (move G Q) olds news
+move_refused (Ok x) P d e S G Q olds news fails stops same = absurd fails
+move_refused (Err why) P d e S G Q olds news fails stops same = record { refused = stops; kept = same; unchanged = λ other. absurd (other tt) }
+
 -- ---- without memory
-
--- a digit stands as it is
-encoded_digit : (x : ℕ) → 48 ≤ x → x ≤ 57 → encoded_byte x ≡ x ∷ []
-encoded_digit x l h = let n = ne_eqb x 47 (λ e. omega arith) in let m = ne_eqb x 126 (λ e. omega arith) in rw (n, m, encoded_byte) refl
-
-encoded_digits : (ds : List ℕ) → AllBelowBase 10 ds → encoded (map (λ x. 48 + x) ds) ≡ map (λ x. 48 + x) ds
-encoded_digits [] h = refl
-encoded_digits (x ∷ ds) h =
-    let less : x < 10 = h.0 in
-    ap (λ b. b ++ encoded (map (λ y. 48 + y) ds)) (encoded_digit (48 + x) (omega arith) (omega arith)) ∙ ap (λ r. (48 + x) ∷ r) (encoded_digits ds h.1)
-
-place_unescaped : (i : ℕ) → IsUnescaped (token_of i)
-place_unescaped zero = refl
-place_unescaped (suc n) = encoded_digits (digits_of 10 (suc n)) (all_below_base_digits_of 10 (suc n) (omega arith))
 
 unescaped_joined : (F : Pointer) (t : List ℕ) → AreUnescaped F → IsUnescaped t → AreUnescaped (F ++ t ∷ [])
 unescaped_joined [] t h g = (g, tt)
@@ -158,7 +150,7 @@ unescaped_front t [] h = tt
 unescaped_front t (u ∷ P) h = (h.0, unescaped_front u P h.1)
 
 settled_unescaped : (b : Bool) (i : ℕ) (t : List ℕ) → IsUnescaped t → IsUnescaped (if b then token_of i else t)
-settled_unescaped true i t h = place_unescaped i
+settled_unescaped true i t h = place_is_plain i
 settled_unescaped false i t h = h
 
 at_light : (P : Pointer) (o : Option Data) → AreUnescaped P → IsUndo (undo_at P o)

@@ -2,7 +2,7 @@
 use Rattle.std.proofs.Common.{◌≡◌, ℕ, List, [], ◌∷◌, ◌++◌, Option, Some, None, option_map, option_and_then, refl, ap, ◌∙◌}
 use Rattle.serde_json.specs.Data.{Data}
 use Rattle.json_patch.specs.Document.{Step, child}
-use Rattle.json_patch.specs.ChangeComputed.{step_of, set_child, found, altered, replaced, front_of, last_of, put_in, take_from, added, removed}
+use Rattle.json_patch.specs.ChangeComputed.{step_of, set_child, found, altered, replaced, front_of, last_of, take_from, removed}
 
 again : (o : Option Data) → o ≡ option_and_then (λ q. Some q) o
 again None = refl

@@ -7,8 +7,8 @@ use Rattle.jsonptr.specs.Text.{Pointer, IsProperPrefix}
 use Rattle.json_patch.specs.ChangeComputed.{found, removed}
 use Rattle.json_patch.specs.declared.error.PatchErrorKind.{PatchErrorKind}
 use Rattle.json_patch.specs.declared.error.PatchErrorKind.TheVariants.{InvalidPointer}
-use Rattle.json_patch.specs.declared.walk.StepFault.{StepFault}
-use Rattle.json_patch.specs.declared.walk.StepFault.TheVariants.{Refused, Memory}
+use Rattle.json_patch.specs.declared.error.StepFault.{StepFault}
+use Rattle.json_patch.specs.declared.error.StepFault.TheVariants.{Refused, Memory}
 
 -- the pointer is refused where nothing is wanted; where memory is short, nothing is said
 abbrev pub Excuses : StepFault → Option Data → Type 0

@@ -3,8 +3,8 @@ use Rattle.std.specs.Prelude.{◌≡◌, ℕ}
 use Rattle.jsonptr.specs.Text.{Pointer}
 use Rattle.json_patch.specs.declared.error.PatchFault.{PatchFault}
 use Rattle.json_patch.specs.declared.error.PatchFault.TheVariants.{Refused, Memory}
-use Rattle.json_patch.specs.declared.walk.StepFault.{StepFault}
-use Rattle.json_patch.specs.declared.walk.StepFault.TheVariants.{Refused as step_refused}
+use Rattle.json_patch.specs.declared.error.StepFault.{StepFault}
+use Rattle.json_patch.specs.declared.error.StepFault.TheVariants.{Refused as step_refused}
 
 -- a refusal has the step's number, path and kind; want of memory may take its place
 abbrev pub Reports : StepFault → ℕ → Pointer → PatchFault → Type 0

@@ -4,8 +4,8 @@ use Rattle.jsonptr.specs.Text.{Pointer, encoded}
 use Rattle.json_patch.specs.Operation.{Operation, add, remove, replace, move, copy, test}
 use Rattle.json_patch.specs.declared.walk.Edit.{Edit}
 use Rattle.json_patch.specs.declared.walk.Edit.TheVariants.{Insert, Take, Swap}
-use Rattle.json_patch.specs.declared.walk.StepFault.{StepFault}
-use Rattle.json_patch.specs.declared.walk.StepFault.TheVariants.{Refused, Memory}
+use Rattle.json_patch.specs.declared.error.StepFault.{StepFault}
+use Rattle.json_patch.specs.declared.error.StepFault.TheVariants.{Refused, Memory}
 
 -- the token stands in a pointer's text as it is: there it has no ~
 abbrev pub IsUnescaped : List ℕ → Type 0

@@ -1,12 +1,12 @@
 //! Why a patch is refused, or can't be read.
 
-ghost use Rattle.std.specs.Prelude.{◌≡◌};
+ghost use Rattle.std.specs.Prelude.{◌≡◌, alloc_error};
 ghost use Rattle.json_patch.specs.declared.error.PatchErrorKind.TheVariants.{InvalidPointer};
 ghost use Rattle.json_patch.specs.declared.error.PatchFault.TheVariants.{Memory};
 
 use jsonptr::index::{OutOfBoundsError, ParseIndexError};
 use jsonptr::{ParseError, PointerBuf};
-use std::alloc::AllocError;
+use std::alloc::{AllocError, AllocFailed};
 use thiserror::Error;
 
 /// Why an operation is refused (RFC 6902, section 4).
@@ -39,6 +39,43 @@ impl From<OutOfBoundsError> for PatchErrorKind {
 
     fn from(_error: OutOfBoundsError) -> PatchErrorKind {
         PatchErrorKind::InvalidPointer
+    }
+}
+
+/// Why a step isn't made.
+#[derive(Drop)]
+pub(crate) enum StepFault {
+    Refused(PatchErrorKind),
+    Memory(AllocError),
+}
+
+impl From<PatchErrorKind> for StepFault {
+    ghost use Rattle.json_patch.specs.declared.error.StepFault.TheVariants.{Refused};
+
+    ghost from_gives = { λ kind fault. fault ≡ Refused kind };
+
+    fn from(kind: PatchErrorKind) -> StepFault {
+        StepFault::Refused(kind)
+    }
+}
+
+impl<T: Drop> From<AllocFailed<T>> for StepFault {
+    ghost use Rattle.json_patch.specs.declared.error.StepFault.TheVariants.{Memory};
+
+    ghost from_gives = { λ _ fault. fault ≡ Memory alloc_error };
+
+    fn from(_failed: AllocFailed<T>) -> StepFault {
+        StepFault::Memory(AllocError)
+    }
+}
+
+impl From<AllocError> for StepFault {
+    ghost use Rattle.json_patch.specs.declared.error.StepFault.TheVariants.{Memory};
+
+    ghost from_gives = { λ error fault. fault ≡ Memory error };
+
+    fn from(error: AllocError) -> StepFault {
+        StepFault::Memory(error)
     }
 }
 

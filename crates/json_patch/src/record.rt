@@ -1,30 +1,39 @@
 //! Operations that are recorded: each hands back what undoes it.
 
-ghost use Rattle.std.specs.Prelude.{◌≡◌, ◌++◌, ◌↔◌, [], Bool, false, IfOk, IsTrue, OnOk, OnErr, Ok, if◌then◌else◌, drop, length, option_map, string_bytes};
+ghost use Rattle.std.specs.Prelude.{◌≡◌, ◌++◌, ◌↔◌, IfOk, IsTrue, Ok, drop, length, option_map};
 ghost use mathlib.Core.List.{reverse};
 ghost use Rattle.serde_json.specs.Data.{Data};
 ghost use Rattle.serde_json.specs.View.{view};
-ghost use Rattle.jsonptr.specs.Places.{token_of};
 ghost use Rattle.jsonptr.specs.Pointers.{tokens_of};
 ghost use Rattle.jsonptr.specs.Text.{IsPrefix};
-ghost use Rattle.json_patch.specs.Attempt.{Steps};
 ghost use Rattle.json_patch.specs.Edits.{place_to_undo, undo_at_place};
 ghost use Rattle.json_patch.specs.InPlace.{AreUnescaped, IsInPlace, NeverShort};
 ghost use Rattle.json_patch.specs.InverseComputed.{block, undo_add};
-ghost use Rattle.json_patch.specs.Operation.{IsMove, move_of, operation_of, operations, path_of};
-ghost use Rattle.json_patch.specs.PartRun.{IsBegun, block_at};
+ghost use Rattle.json_patch.specs.Operation.{move_of, operation_of, operations, path_of};
+ghost use Rattle.json_patch.specs.PartRun.{IsBegun};
 ghost use Rattle.json_patch.specs.RunComputed.{ran, stepped};
 ghost use Rattle.json_patch.specs.SharedComputed.{stripped};
-ghost use Rattle.json_patch.specs.Undoing.{AreUndos, IsOne, IsUndo, IsUndoable, count_in};
+ghost use Rattle.json_patch.specs.Undoing.{AreUndos, IsOne, IsUndo, IsUndoable, Records, count_in};
+ghost use Rattle.json_patch.specs.declared.record.Keep.TheVariants.{Inverse, Nothing};
 
+use crate::error::StepFault;
 use crate::operation::{
     AddOperation, MoveOperation, PatchOperation, RemoveOperation, ReplaceOperation,
 };
 use crate::step::{add, below, remove, replace, step, take_out};
-use crate::walk::{Displaced, StepFault, find};
+use crate::walk::{Displaced, find};
 use jsonptr::{Pointer, PointerBuf};
 use serde_json::Value;
 use std::alloc::{AllocError, Global};
+
+/// What a run hands back.
+#[derive(Clone, Copy)]
+pub(crate) enum Keep {
+    /// What undoes it.
+    Inverse,
+    /// Nothing.
+    Nothing,
+}
 
 /// Whether the operation can be undone with no memory: a `test`, or an `add`, `replace` or `copy` at
 /// a path whose text holds no `~`.
@@ -52,32 +61,28 @@ fn is_unescaped(path: Pointer<'_>) -> bool
     true
 }
 
-/// Makes the operation as [`step`] does, and where `keep` says so, records what undoes it.
+/// Makes the operation as [`step`] does, and records what undoes it, where that is kept.
 pub(crate) fn step_keeping(
     alloc: Global,
     doc: &mut Value,
     base: Pointer<'_>,
     operation: &PatchOperation,
-    keep: bool,
+    keep: Keep,
     undo: &mut Vec<PatchOperation>,
 ) -> Result<(), StepFault>
     requires { IsBegun (tokens_of base) (operation_of operation.now) }
-    ensures leaves { Steps result
-        (stepped (view doc.old) (stripped (tokens_of base.entry) (operation_of operation.now)))
-        (view doc.new) }
-    ensures records { OnOk result (operations undo.new.items ≡ operations undo.old.items
-        ++ (if keep then reverse (block_at (view doc.old) (tokens_of base.entry) (operation_of operation.now)) else [])) }
-    ensures kept { OnErr result (operations undo.new.items ≡ operations undo.old.items) }
-    ensures unchanged { OnErr result
-        ((IsMove (operation_of operation.now) → ⊥) → view doc.new ≡ view doc.old) }
-    ensures in_place { keep ≡ false → IsInPlace (stripped (tokens_of base.entry) (operation_of operation.now))
+    ensures made { Records keep result (view doc.old) (view doc.new) (tokens_of base.entry)
+        (operation_of operation.now) (operations undo.old.items) (operations undo.new.items) }
+    ensures in_place { keep ≡ Nothing → IsInPlace (stripped (tokens_of base.entry) (operation_of operation.now))
         → NeverShort result }
 {
-    if keep {
-        return record_step(alloc, doc, base, operation, undo);
+    match keep {
+        Keep::Inverse => record_step(alloc, doc, base, operation, undo),
+        Keep::Nothing => {
+            step(alloc, doc, base, operation)?;
+            Ok(())
+        }
     }
-    step(alloc, doc, base, operation)?;
-    Ok(())
 }
 
 /// Makes the operation as [`step`] does, and records, last first, the operations that undo it, with
@@ -90,14 +95,8 @@ pub(crate) fn record_step(
     undo: &mut Vec<PatchOperation>,
 ) -> Result<(), StepFault>
     requires { IsBegun (tokens_of base) (operation_of operation.now) }
-    ensures leaves { Steps result
-        (stepped (view doc.old) (stripped (tokens_of base.entry) (operation_of operation.now)))
-        (view doc.new) }
-    ensures records { OnOk result (operations undo.new.items ≡ operations undo.old.items
-        ++ reverse (block_at (view doc.old) (tokens_of base.entry) (operation_of operation.now))) }
-    ensures kept { OnErr result (operations undo.new.items ≡ operations undo.old.items) }
-    ensures unchanged { OnErr result
-        ((IsMove (operation_of operation.now) → ⊥) → view doc.new ≡ view doc.old) }
+    ensures made { Records Inverse result (view doc.old) (view doc.new) (tokens_of base.entry)
+        (operation_of operation.now) (operations undo.old.items) (operations undo.new.items) }
     ensures in_place { IsUndoable (operation_of operation.now)
         → IsInPlace (operation_of operation.now) → NeverShort result }
 {
@@ -135,13 +134,8 @@ fn record_one(
     requires one { IsOne (operation_of operation.now) }
     requires at { place ≡ tokens_of base
         ++ place_to_undo (view doc.old) (stripped (tokens_of base) (operation_of operation.now)) }
-    ensures leaves { Steps result
-        (stepped (view doc.old) (stripped (tokens_of base.entry) (operation_of operation.now)))
-        (view doc.new) }
-    ensures records { OnOk result (operations undo.new.items ≡ operations undo.old.items
-        ++ reverse (block_at (view doc.old) (tokens_of base.entry) (operation_of operation.now))) }
-    ensures kept { OnErr result (operations undo.new.items ≡ operations undo.old.items) }
-    ensures unchanged { OnErr result (view doc.new ≡ view doc.old) }
+    ensures { Records Inverse result (view doc.old) (view doc.new) (tokens_of base.entry)
+        (operation_of operation.now) (operations undo.old.items) (operations undo.new.items) }
 {
     undo.reserve(1)?;
     let was = step(alloc, doc, base, operation)?;
@@ -158,12 +152,8 @@ fn record_move(
     undo: &mut Vec<PatchOperation>,
 ) -> Result<(), StepFault>
     requires { IsBegun (tokens_of base) (move_of operation.now) }
-    ensures leaves { Steps result
-        (stepped (view doc.old) (stripped (tokens_of base.entry) (move_of operation.now)))
-        (view doc.new) }
-    ensures records { OnOk result (operations undo.new.items ≡ operations undo.old.items
-        ++ reverse (block_at (view doc.old) (tokens_of base.entry) (move_of operation.now))) }
-    ensures kept { OnErr result (operations undo.new.items ≡ operations undo.old.items) }
+    ensures { Records Inverse result (view doc.old) (view doc.new) (tokens_of base.entry)
+        (move_of operation.now) (operations undo.old.items) (operations undo.new.items) }
 {
     undo.reserve(2)?;
     let path = below(&operation.path, base);
@@ -193,7 +183,7 @@ fn undo_place(
     if let Some((parent, last)) = below(path, base).split_back() {
         if last.is_key("-") {
             if let Some(count) = item_count(find(doc, parent.tokens())) {
-                let number = place_text(alloc, count)?;
+                let number = count.to_string(alloc)?;
                 return path.with_last(alloc, number.as_str());
             }
         }
@@ -247,11 +237,4 @@ fn undo_one(alloc: Global, doc: &mut Value, operation: PatchOperation)
         }
         _ => {}
     }
-}
-
-/// The token that names a place in a list (RFC 6901, section 4): its digits.
-fn place_text(alloc: Global, index: usize) -> Result<String, AllocError>
-    ensures { IfOk result (λ text. string_bytes text ≡ token_of index) }
-{
-    index.to_string(alloc)
 }

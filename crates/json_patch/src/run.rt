@@ -1,6 +1,6 @@
 //! A list of operations on a document (RFC 6902, section 5).
 
-ghost use Rattle.std.specs.Prelude.{◌≡◌, ◌↔◌, ◌<◌, ◌≤◌, ◌+◌, ◌*◌, [], Bool, false, ℕ, IfOk, IsOk, IsTrue, OnOk, OnErr, length, take};
+ghost use Rattle.std.specs.Prelude.{◌≡◌, ◌↔◌, ◌<◌, ◌≤◌, ◌+◌, ◌*◌, [], ℕ, IfOk, IsOk, IsTrue, OnOk, OnErr, length, take};
 ghost use mathlib.Core.List.{reverse};
 ghost use Rattle.serde_json.specs.Data.{Data};
 ghost use Rattle.serde_json.specs.View.{view};
@@ -13,13 +13,13 @@ ghost use Rattle.json_patch.specs.Operation.{AreWhole, IsMove, operation_of, ope
 ghost use Rattle.json_patch.specs.Refusal.{IfRefused, NamesFirst, OnMemory};
 ghost use Rattle.json_patch.specs.Run.{Accepts, IsAccepted};
 ghost use Rattle.json_patch.specs.Undoing.{AreRecorded, From};
+ghost use Rattle.json_patch.specs.declared.record.Keep.TheVariants.{Inverse, Nothing};
 
-use crate::error::{PatchError, PatchFault};
+use crate::error::{PatchError, PatchFault, StepFault};
 use crate::operation::{Patch, PatchOperation};
-use crate::record::{is_undoable, record_step, step_keeping, undo_recorded};
+use crate::record::{Keep, is_undoable, record_step, step_keeping, undo_recorded};
 use crate::shared::copied_part;
 use crate::step::replace;
-use crate::walk::StepFault;
 use jsonptr::Pointer;
 use serde_json::Value;
 use std::alloc::{AllocError, Global};
@@ -43,10 +43,8 @@ pub fn patch(alloc: Global, doc: &mut Value, patch: &[PatchOperation]) -> Result
     ensures in_place { AreTestsThenRemove (operations patch.now)
         → (e : Data) → Accepts (view doc.old) (operations patch.now) e → IsOk result }
 {
-    match run(alloc, doc, patch, false) {
-        Ok(_undo) => Ok(()),
-        Err(fault) => Err(fault),
-    }
+    drop(run(alloc, doc, patch, Keep::Nothing)?);
+    Ok(())
 }
 
 /// Applies the operations one after another, in place. A refused operation leaves what the ones
@@ -72,9 +70,15 @@ pub fn patch_unsafe(
 {
     let mut undo = Vec::new(alloc);
     for number in 0..patch.len() {
-        if let Err(fault) = run_part(alloc, doc, patch, number, number + 1, false, &mut undo) {
-            return Err(fault);
-        }
+        run_part(
+            alloc,
+            doc,
+            patch,
+            number,
+            number + 1,
+            Keep::Nothing,
+            &mut undo,
+        )?;
     }
     Ok(())
 }
@@ -103,27 +107,27 @@ pub fn apply_patches(
     ensures unchanged { OnErr result (view doc.new ≡ view doc.old) }
     ensures document { IsDocument (view doc.new) }
 {
-    let mut undo = run(alloc, doc, patches, true)?;
+    let mut undo = run(alloc, doc, patches, Keep::Inverse)?;
     undo.reverse();
     Ok(Patch(undo))
 }
 
-/// Makes the operations, or none of them, and answers, where `keep` says so, what undoes them, last
-/// first.
+/// Makes the operations, or none of them, and answers what undoes them, last first, where that is
+/// kept.
 fn run(
     alloc: Global,
     doc: &mut Value,
     patch: &[PatchOperation],
-    keep: bool,
+    keep: Keep,
 ) -> Result<Vec<PatchOperation>, PatchFault>
     requires document { IsDocument (view doc.old) }
     requires whole { AreWhole (operations patch.now) }
     ensures accepted { OnOk result (Accepts (view doc.old) (operations patch.now) (view doc.new)) }
-    ensures recorded { IfOk result (λ undo. IsTrue keep
+    ensures recorded { IfOk result (λ undo. keep ≡ Inverse
         → reverse (operations undo.items) ≡ inverse (view doc.old) (operations patch.now)) }
     ensures refused { IfRefused result (NamesFirst (view doc.old) (operations patch.now)) }
     ensures unchanged { OnErr result (view doc.new ≡ view doc.old) }
-    ensures in_place { keep ≡ false → AreTestsThenRemove (operations patch.now)
+    ensures in_place { keep ≡ Nothing → AreTestsThenRemove (operations patch.now)
         → (e : Data) → Accepts (view doc.old) (operations patch.now) e → IsOk result }
 {
     let mut undo = Vec::new(alloc);
@@ -151,7 +155,7 @@ fn run_part(
     patch: &[PatchOperation],
     start: usize,
     end: usize,
-    keep: bool,
+    keep: Keep,
     undo: &mut Vec<PatchOperation>,
 ) -> Result<(), PatchFault>
     requires whole { AreWhole (operations patch.now) }
@@ -159,7 +163,7 @@ fn run_part(
     requires within { end ≤ length patch.now }
     ensures accepted { OnOk result (From (view doc.old) (operations patch.now) start
         (λ d. Accepts d (take end (operations patch.now)) (view doc.new))) }
-    ensures recorded { OnOk result (IsTrue keep → From (view doc.old) (operations patch.now) start
+    ensures recorded { OnOk result (keep ≡ Inverse → From (view doc.old) (operations patch.now) start
         (λ d. AreRecorded d (operations patch.now) start (operations undo.old.items)
         → AreRecorded d (operations patch.now) end (operations undo.new.items))) }
     ensures refused { From (view doc.old) (operations patch.now) start
@@ -167,7 +171,7 @@ fn run_part(
     ensures at { IfRefused result (λ e. (start ≤ e.operation) × (e.operation < end)) }
     ensures unchanged { OnErr result (view doc.new ≡ view doc.old) }
     ensures kept { OnErr result (operations undo.new.items ≡ operations undo.old.items) }
-    ensures in_place { keep ≡ false → end ≤ start + 1 → AreInPlace (operations patch.now)
+    ensures in_place { keep ≡ Nothing → end ≤ start + 1 → AreInPlace (operations patch.now)
         → From (view doc.old) (operations patch.now) start
         (λ d. (e : Data) → Accepts d (operations patch.now) e → IsOk result) }
 {
@@ -201,7 +205,7 @@ fn run_on_copy(
     patch: &[PatchOperation],
     start: usize,
     end: usize,
-    keep: bool,
+    keep: Keep,
     undo: &mut Vec<PatchOperation>,
 ) -> Result<(), PatchFault>
     requires whole { AreWhole (operations patch.now) }
@@ -209,7 +213,7 @@ fn run_on_copy(
     requires within { end ≤ length patch.now }
     ensures accepted { OnOk result (From (view doc.old) (operations patch.now) start
         (λ d. Accepts d (take end (operations patch.now)) (view doc.new))) }
-    ensures recorded { OnOk result (IsTrue keep → From (view doc.old) (operations patch.now) start
+    ensures recorded { OnOk result (keep ≡ Inverse → From (view doc.old) (operations patch.now) start
         (λ d. AreRecorded d (operations patch.now) start (operations undo.old.items)
         → AreRecorded d (operations patch.now) end (operations undo.new.items))) }
     ensures refused { From (view doc.old) (operations patch.now) start

@@ -15,9 +15,9 @@ ghost use Rattle.json_patch.specs.RunComputed.{stepped};
 ghost use Rattle.json_patch.specs.SharedComputed.{stripped};
 
 use crate::equality::same_values;
-use crate::error::PatchErrorKind;
+use crate::error::{PatchErrorKind, StepFault};
 use crate::operation::PatchOperation;
-use crate::walk::{Displaced, Edit, StepFault, edit_at, find};
+use crate::walk::{Displaced, Edit, edit_at, find};
 use jsonptr::{Pointer, PointerBuf};
 use serde_json::Value;
 use std::alloc::Global;

@@ -1,6 +1,6 @@
 //! One way down a value to a container, and one change there.
 
-ghost use Rattle.std.specs.Prelude.{◌≡◌, ◌∷◌, [], ℕ, ◌<◌, ◌≤◌, ◌^◌, Some, None, IfOk, IsOk, MatchResult, option_map, alloc_error};
+ghost use Rattle.std.specs.Prelude.{◌≡◌, ◌∷◌, [], ℕ, ◌<◌, ◌≤◌, ◌^◌, Some, None, IfOk, IsOk, MatchResult, option_map};
 ghost use Rattle.std.specs.Cow.{cow_str_bytes};
 ghost use Rattle.serde_json.specs.Data.{array, object};
 ghost use Rattle.serde_json.specs.Find.{get_member};
@@ -12,12 +12,11 @@ ghost use Rattle.json_patch.specs.ChangeComputed.{altered, found, slot_in};
 ghost use Rattle.json_patch.specs.InPlace.{AreUnescaped, IsLight, IsUnescaped, NeverShort};
 ghost use Rattle.json_patch.specs.Edits.{made_by, Displaces, DisplacesAt};
 ghost use Rattle.json_patch.specs.declared.error.PatchErrorKind.TheVariants.{InvalidPointer};
-ghost use Rattle.json_patch.specs.declared.walk.StepFault.TheVariants.{Refused, Memory};
 
-use crate::error::PatchErrorKind;
+use crate::error::{PatchErrorKind, StepFault};
 use jsonptr::{Token, Tokens};
 use serde_json::{Map, Value};
-use std::alloc::{AllocError, AllocFailed, Global};
+use std::alloc::{AllocError, Global};
 use std::borrow::CowStr;
 use std::mem;
 
@@ -38,37 +37,6 @@ pub(crate) enum Displaced {
     Former(Value),
     /// The value that stood there, and was taken out.
     Taken(Value),
-}
-
-/// Why a step isn't made.
-#[derive(Drop)]
-pub(crate) enum StepFault {
-    Refused(PatchErrorKind),
-    Memory(AllocError),
-}
-
-impl From<PatchErrorKind> for StepFault {
-    ghost from_gives = { λ kind fault. fault ≡ Refused kind };
-
-    fn from(kind: PatchErrorKind) -> StepFault {
-        StepFault::Refused(kind)
-    }
-}
-
-impl<T: Drop> From<AllocFailed<T>> for StepFault {
-    ghost from_gives = { λ _ fault. fault ≡ Memory alloc_error };
-
-    fn from(_failed: AllocFailed<T>) -> StepFault {
-        StepFault::Memory(AllocError)
-    }
-}
-
-impl From<AllocError> for StepFault {
-    ghost from_gives = { λ error fault. fault ≡ Memory error };
-
-    fn from(error: AllocError) -> StepFault {
-        StepFault::Memory(error)
-    }
 }
 
 /// Makes the edit at the token `last` of the container to which the tokens of `parent` lead.

@@ -14,9 +14,9 @@ use Rattle.jsonptr.specs.declared.index.Index.TheVariants.{Num, Next}
 use Rattle.jsonptr.specs.declared.index.Index.{Index}
 use Rattle.jsonptr.specs.declared.index.ParseIndexError.TheVariants.{InvalidInteger, LeadingZeros, InvalidCharacter}
 use Rattle.jsonptr.specs.declared.index.ParseIndexError.{ParseIndexError}
-use Rattle.jsonptr.specs.PlaceLaws.{Tells, tells, tells_back, next_is_no_place}
+use Rattle.jsonptr.specs.PlaceLaws.{Tells, tells, tells_back, encoded_digit, next_is_no_place}
 use Rattle.jsonptr.specs.TextLaws.{decoded-encoded}
-use Rattle.jsonptr.proofs.Texts.{NoTilde-from, decoded-NoTilde, encoded-digit}
+use Rattle.jsonptr.proofs.Texts.{NoTilde-from, decoded-NoTilde}
 
 abbrev IsDigits : List ℕ → Type 0
 IsDigits ds = (i : ℕ) → i < length ds → IsInRange 48 57 (get_or ds i 0)
@@ -88,7 +88,7 @@ encoded-digits : (t : List ℕ) → IsDigits t → encoded t ≡ t
 encoded-digits [] d = refl
 encoded-digits (x ∷ t) d =
     let r : IsInRange 48 57 x = d 0 (omega arith) in
-    ap (λ b. b ++ encoded t) (encoded-digit x r.0 r.1) ∙ ap (λ r. x ∷ r) (encoded-digits t (λ i l. d (suc i) (omega arith)))
+    ap (λ b. b ++ encoded t) (encoded_digit x r.0 r.1) ∙ ap (λ r. x ∷ r) (encoded-digits t (λ i l. d (suc i) (omega arith)))
 
 token_index : (d : List ℕ) (i : Index) → IsIndexText (encoded d) i → IsIndexText d i
 token_index d (Num n) h =

@@ -266,10 +266,6 @@ decoded_step rest plain after others r h cuts is gives =
 encoded_byte-other : (x : ℕ) → eqb x 47 ≡ false → eqb x 126 ≡ false → encoded_byte x ≡ x ∷ []
 encoded_byte-other x n m = rw (n, m, encoded_byte) refl
 
--- a digit stands as it is
-pub encoded-digit : (x : ℕ) → 48 ≤ x → x ≤ 57 → encoded_byte x ≡ x ∷ []
-encoded-digit x l h = encoded_byte-other x (ne_eqb x 47 (λ e. omega arith)) (ne_eqb x 126 (λ e. omega arith))
-
 -- pieces pushed one after another
 pub pushed : (d o p q tail s1 s2 e : List ℕ) (r : ℕ) → d ≡ o ++ q → q ≡ p ++ r ∷ tail → s1 ≡ o ++ p → s2 ≡ s1 ++ e → e ≡ r ∷ [] → d ≡ s2 ++ tail
 pushed d o p q tail s1 s2 e r a b c f g = rw (a, b, f, c, g) (simp append_assoc)

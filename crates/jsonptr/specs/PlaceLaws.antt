@@ -2,7 +2,7 @@
 -- which the module `laws` has as contracts.
 use Rattle.std.proofs.Common.{◌≡◌, ℕ, zero, suc, ◌+◌, ◌*◌, ◌/◌, ◌%◌, ◌<◌, ◌≤◌, ◌^◌, ⊎_elim, ◌++◌, append-nil, append_assoc, List, [], ◌∷◌, map, length, get_or, Bool, true, false, not, ◌&&◌, ◌||◌, ◌==◌, nat_lt, if◌then◌else◌, Some, None, decimal, refl, sym, ap, ap₂, ◌∙◌, arith, lt-ltb, le-ltb}
 use Rattle.std.specs.Prelude.{◌↔◌}
-use Rattle.std.proofs.lemmas.Bool.{cases_eq, and_parts}
+use Rattle.std.proofs.lemmas.Bool.{cases_eq, and_parts, ne_eqb}
 use Rattle.std.proofs.lemmas.Bool.Decides.{nat_tests}
 use Rattle.std.proofs.lemmas.Fmt.{decimal-digits_of, decimal_digit}
 use Rattle.std.proofs.lemmas.Int.Digits.{digits_value_is, all_below_base_digits_of, first_digits_of, number_digits_of, digits_of_step}
@@ -11,6 +11,7 @@ use Rattle.std.specs.Int.Digits.{AllBelowBase, number_from_digits, number_from_d
 use Rattle.std.specs.Str.{all_ascii_digits}
 use Rattle.std.specs.Str.Parse.{digits_value}
 use Rattle.jsonptr.specs.Places.{place_of, token_of, next_token}
+use Rattle.jsonptr.specs.Text.{encoded, encoded_byte}
 
 -- ---- what is told by a place
 
@@ -154,6 +155,17 @@ token_value (c ∷ t) d some first =
 place_token : (t : List ℕ) (i : ℕ) → place_of t ≡ Some i → t ≡ token_of i
 place_token t i h = let w : Tells t i = tells t i h in sym (token_value t w.digits w.nonempty w.first) ∙ ap token_of w.value
 
+-- ---- digits in a text
+
+pub encoded_digit : (x : ℕ) → 48 ≤ x → x ≤ 57 → encoded_byte x ≡ x ∷ []
+encoded_digit x l h = let n = ne_eqb x 47 (λ e. omega arith) in let m = ne_eqb x 126 (λ e. omega arith) in rw (n, m, encoded_byte) refl
+
+encoded_digits : (ds : List ℕ) → AllBelowBase 10 ds → encoded (map (λ x. 48 + x) ds) ≡ map (λ x. 48 + x) ds
+encoded_digits [] h = refl
+encoded_digits (x ∷ ds) h =
+    let less : x < 10 = h.0 in
+    ap (λ b. b ++ encoded (map (λ y. 48 + y) ds)) (encoded_digit (48 + x) (omega arith) (omega arith)) ∙ ap (λ r. (48 + x) ∷ r) (encoded_digits ds h.1)
+
 -- ---- the laws
 
 -- a token names a place exactly where it is that place's token
@@ -164,6 +176,11 @@ place_is_token t i = (place_token t i, λ is. ap place_of is ∙ token_place i)
 pub token_is_decimal : (i : ℕ) → i < 2 ^ 64 → token_of i ≡ decimal i
 token_is_decimal zero small = sym (decimal_digit 0 (omega arith))
 token_is_decimal (suc n) small = sym (decimal-digits_of (suc n) (omega arith) small)
+
+-- the token of a place stands in a pointer's text as it is
+pub place_is_plain : (i : ℕ) → encoded (token_of i) ≡ token_of i
+place_is_plain zero = refl
+place_is_plain (suc n) = encoded_digits (digits_of 10 (suc n)) (all_below_base_digits_of 10 (suc n) (omega arith))
 
 -- `-` names no place
 pub next_is_no_place : place_of next_token ≡ None

@@ -20,6 +20,12 @@ pub fn token_is_decimal()
     ensures { (i : ℕ) → i < 2 ^ 64 → token_of i ≡ decimal i }
 {}
 
+/// The decimal text of a place stands in a pointer's text as it is.
+#[tactic(auto, using(crate::specs::PlaceLaws::place_is_plain))]
+pub fn place_is_plain()
+    ensures { (i : ℕ) → encoded (token_of i) ≡ token_of i }
+{}
+
 /// The token `-` names no place.
 #[tactic(auto, using(crate::specs::PlaceLaws::next_is_no_place))]
 pub fn next_is_no_place()

@@ -22,16 +22,16 @@ returns-in-Err-clause-refused c =
     let o = c.index-patch-number-in-loop-number.result in
     let more : 1 < length c.args.patch.now - c.loop-number.number = c.loop-number-test.true in
     reported_names (Vec PatchOperation Global) c.reported.result c.in-Err.fault (view c.args.doc.now) (view c.loop-number.doc) (view c.record_step.new.doc) c.args.patch.now c.loop-number.number o c.requires.document c.requires.whole (omega arith) c.index-patch-number-in-loop-number.is c.loop-number.invariant.state
-    (step_whole (Unit {0}) (Err c.in-Err.fault) (view c.loop-number.doc) (view c.record_step.new.doc) (tokens_of c.root.result) (operation_of o) c.root.ensures c.in-Err.ensures.leaves) c.reported.ensures
+    (step_whole (Unit {0}) (Err c.in-Err.fault) (view c.loop-number.doc) (view c.record_step.new.doc) (tokens_of c.root.result) (operation_of o) c.root.ensures c.in-Err.ensures.made.refused) c.reported.ensures
 
 pub returns-in-Err-clause-unchanged : goal.returns-in-Err-clause-unchanged
 returns-in-Err-clause-unchanged c =
     let o = c.index-patch-number-in-loop-number.result in
     let more : 1 < length c.args.patch.now - c.loop-number.number = c.loop-number-test.true in
     let light : IsUndoable (operation_of o) = undoable_at c.args.patch.now c.loop-number.number c.index-patch-number.result o (omega arith) c.index-patch-number.is c.index-patch-number-in-loop-number.is (c.if-is_undoable.ensures.0 refl) in
-    let same : view c.record_step.new.doc ≡ view c.loop-number.doc = c.in-Err.ensures.unchanged (not_move (operation_of o) light) in
-    c.undo_recorded.ensures (view c.args.doc.now) (subst AreUndos (sym c.in-Err.ensures.kept) c.loop-number.invariant.light)
-    (ap (λ x. ran x (reverse (operations c.record_step.new.undo.items))) same ∙ ap (λ us. ran (view c.loop-number.doc) (reverse us)) c.in-Err.ensures.kept
+    let same : view c.record_step.new.doc ≡ view c.loop-number.doc = c.in-Err.ensures.made.unchanged (not_move (operation_of o) light) in
+    c.undo_recorded.ensures (view c.args.doc.now) (subst AreUndos (sym c.in-Err.ensures.made.kept) c.loop-number.invariant.light)
+    (ap (λ x. ran x (reverse (operations c.record_step.new.undo.items))) same ∙ ap (λ us. ran (view c.loop-number.doc) (reverse us)) c.in-Err.ensures.made.kept
     ∙ recorded_back (view c.args.doc.now) (view c.loop-number.doc) c.args.patch.now c.loop-number.number c.loop-number.undo.items c.requires.document c.requires.whole c.loop-number.invariant.state c.loop-number.invariant.recorded)
 
 pub returns-in-Err-clause-in_place : goal.returns-in-Err-clause-in_place
@@ -40,7 +40,7 @@ returns-in-Err-clause-in_place c = λ y tests e end.
     let more : 1 < length c.args.patch.now - c.loop-number.number = c.loop-number-test.true in
     let light : IsUndoable (operation_of o) = undoable_at c.args.patch.now c.loop-number.number c.index-patch-number.result o (omega arith) c.index-patch-number.is c.index-patch-number-in-loop-number.is (c.if-is_undoable.ensures.0 refl) in
     absurd (not_stopped c.in-Err.fault (view c.args.doc.now) (view c.loop-number.doc) (view c.record_step.new.doc) e c.args.patch.now c.loop-number.number o c.requires.document c.requires.whole (omega arith) c.index-patch-number-in-loop-number.is c.loop-number.invariant.state
-    (step_whole (Unit {0}) (Err c.in-Err.fault) (view c.loop-number.doc) (view c.record_step.new.doc) (tokens_of c.root.result) (operation_of o) c.root.ensures c.in-Err.ensures.leaves)
+    (step_whole (Unit {0}) (Err c.in-Err.fault) (view c.loop-number.doc) (view c.record_step.new.doc) (tokens_of c.root.result) (operation_of o) c.root.ensures c.in-Err.ensures.made.refused)
     (c.in-Err.ensures.in_place light) (tests_in_place (operations c.args.patch.now) tests) end)
 
 pub loop-number-preserved : goal.loop-number-preserved
@@ -49,8 +49,8 @@ loop-number-preserved c =
     let more : 1 < length c.args.patch.now - k = c.loop-number-test.true in
     let less : k < length c.args.patch.now = omega arith in
     let at = c.index-patch-number-in-loop-number.is in
-    let made = ap (stepped m) (sym (stripped_whole S (operation_of o) c.root.ensures)) ∙ c.in_default.ensures.leaves in
-    let wrote = c.in_default.ensures.records ∙ ap (λ B. operations c.loop-number.undo.items ++ reverse B) (block_whole m S (operation_of o) c.root.ensures) in
+    let made = ap (stepped m) (sym (stripped_whole S (operation_of o) c.root.ensures)) ∙ c.in_default.ensures.made.leaves in
+    let wrote = c.in_default.ensures.made.records ∙ ap (λ B. operations c.loop-number.undo.items ++ reverse B) (block_whole m S (operation_of o) c.root.ensures) in
     record {
       within = omega arith;
       state = state_more d m (view c.record_step.new.doc) c.args.patch.now k o c.requires.document c.requires.whole less at c.loop-number.invariant.state made;

@@ -31,11 +31,11 @@ returns-in-Err-clause-refused c = λ d hd s.
     let at : IsAtPart (tokens_of c.in_ok-base.base) (operation_of o) =
     part_at (tokens_of c.in_ok-base.base) c.args.patch.now c.args.start c.args.end k o c.loop-number.invariant.from less most c.index-patch-number.is c.in_ok-base.ensures.0 in
     reported_names (Unit {0}) c.reported.result c.in-Err.fault d p.x p.x c.args.patch.now k o hd c.requires.whole (omega arith) c.index-patch-number.is p.state
-    (part_stops p.x (tokens_of c.in_ok-base.base) (view c.loop-number.work) (operation_of o) p.document p.there (Unit {0}) (Unit {0}) c.in-Err.fault (view c.step_keeping.new.doc) p.x at c.in-Err.ensures.leaves) c.reported.ensures
+    (part_stops p.x (tokens_of c.in_ok-base.base) (view c.loop-number.work) (operation_of o) p.document p.there (Unit {0}) (Unit {0}) c.in-Err.fault (view c.step_keeping.new.doc) p.x at c.in-Err.ensures.made.refused) c.reported.ensures
 
 pub returns-in-Err-clause-kept : goal.returns-in-Err-clause-kept
 returns-in-Err-clause-kept c =
-    ap operations c.truncate.ensures.items ∙ sym (take-map operation_of c.len-kept.result c.step_keeping.new.undo.items) ∙ ap (take c.len-kept.result) c.in-Err.ensures.kept ∙ c.loop-number.invariant.kept
+    ap operations c.truncate.ensures.items ∙ sym (take-map operation_of c.len-kept.result c.step_keeping.new.undo.items) ∙ ap (take c.len-kept.result) c.in-Err.ensures.made.kept ∙ c.loop-number.invariant.kept
 
 pub loop-number-preserved : goal.loop-number-preserved
 loop-number-preserved c =
@@ -47,13 +47,13 @@ loop-number-preserved c =
     record {
       from = omega arith;
       to = omega arith;
-      part = λ d hd s. part_more d m c.args.patch.now k S w (c.loop-number.invariant.part d hd s) o e hd c.requires.whole in_list c.index-patch-number.is at c.in_default.ensures.leaves;
+      part = λ d hd s. part_more d m c.args.patch.now k S w (c.loop-number.invariant.part d hd s) o e hd c.requires.whole in_list c.index-patch-number.is at c.in_default.ensures.made.leaves;
       recorded = λ y d hd s before.
-          part_recorded d m c.args.patch.now k S w (c.loop-number.invariant.part d hd s) o e hd c.requires.whole in_list c.index-patch-number.is at c.in_default.ensures.leaves c.args.keep c.loop-number.undo.items c.step_keeping.new.undo.items y
-          c.in_default.ensures.records (c.loop-number.invariant.recorded y d hd s before);
+          part_recorded d m c.args.patch.now k S w (c.loop-number.invariant.part d hd s) o e hd c.requires.whole in_list c.index-patch-number.is at c.in_default.ensures.made.leaves c.args.keep c.loop-number.undo.items c.step_keeping.new.undo.items y
+          c.in_default.ensures.made.records (c.loop-number.invariant.recorded y d hd s before);
       kept =
           let same : length (operations c.args.undo.now.items) ≡ length c.args.undo.now.items = length-map c.args.undo.now.items operation_of in
-          ap (take c.len-kept.result) c.in_default.ensures.records
+          ap (take c.len-kept.result) c.in_default.ensures.made.records
           ∙ take_more c.len-kept.result (operations c.loop-number.undo.items) _ (operations c.args.undo.now.items) c.loop-number.invariant.kept (same ∙ same_count c.args.undo.now c.len-kept.result c.len-kept.ensures);
     }
 

@@ -1,8 +1,9 @@
-use Rattle.std.proofs.Common.{◌≡◌, ◌≤◌, IsTrue, take}
+use Rattle.std.proofs.Common.{◌≡◌, ◌≤◌, take}
 use Rattle.serde_json.specs.View.{view}
 use Rattle.jsonptr.specs.Pointers.{tokens_of}
 use Rattle.json_patch.specs.Operation.{operations}
 use Rattle.json_patch.specs.Undoing.{AreRecorded, From}
+use Rattle.json_patch.specs.declared.record.Keep.TheVariants.{Inverse}
 use Rattle.json_patch.proofs.PartRuns.{Part}
 use Rattle.json_patch.proofs.run.run_on_copy.Given as goal
 
@@ -11,6 +12,6 @@ invariant-loop-number l = record {
   from : l.start ≤ l.number;
   to : l.number ≤ l.end;
   part : From (view l.doc) (operations l.patch) l.start (λ d. Part d (view l.doc) l.patch l.number (tokens_of l.base) (view l.work));
-  recorded : IsTrue l.keep → From (view l.doc) (operations l.patch) l.start (λ d. AreRecorded d (operations l.patch) l.start (operations l.fn.undo.items) → AreRecorded d (operations l.patch) l.number (operations l.undo.items));
+  recorded : l.keep ≡ Inverse → From (view l.doc) (operations l.patch) l.start (λ d. AreRecorded d (operations l.patch) l.start (operations l.fn.undo.items) → AreRecorded d (operations l.patch) l.number (operations l.undo.items));
   kept : take l.kept (operations l.undo.items) ≡ operations l.fn.undo.items;
 }

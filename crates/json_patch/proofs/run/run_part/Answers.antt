@@ -29,24 +29,24 @@ returns-in-Ok-clause-accepted c = λ d hd s.
     let one : c.args.end - c.args.start ≤ 1 = c.if-end-start-gt1.false in
     ended_at d (view c.step_keeping.new.doc) c.args.patch.now (c.args.start + 1) c.args.end (omega arith)
     (state_more d (view c.args.doc.now) (view c.step_keeping.new.doc) c.args.patch.now c.args.start c.index-patch-start.result hd c.requires.whole (omega arith) c.index-patch-start.is s
-    (ap (stepped (view c.args.doc.now)) (sym (stripped_whole (tokens_of c.root.result) (operation_of c.index-patch-start.result) c.root.ensures)) ∙ c.in-Ok.ensures.leaves))
+    (ap (stepped (view c.args.doc.now)) (sym (stripped_whole (tokens_of c.root.result) (operation_of c.index-patch-start.result) c.root.ensures)) ∙ c.in-Ok.ensures.made.leaves))
 
 pub returns-in-Ok-clause-recorded : goal.returns-in-Ok-clause-recorded
 returns-in-Ok-clause-recorded c = λ y d hd s before.
     let differ = c.if-start-end.false in let order : c.args.start ≤ c.args.end = c.requires.order in let within : c.args.end ≤ length c.args.patch.now = c.requires.within in
     let one : c.args.end - c.args.start ≤ 1 = c.if-end-start-gt1.false in
     recorded_at d (view c.args.doc.now) (view c.step_keeping.new.doc) c.args.patch.now c.args.start c.args.end (tokens_of c.root.result) c.index-patch-start.result c.args.keep c.args.undo.now.items c.step_keeping.new.undo.items (omega arith) hd c.requires.whole (omega arith) c.index-patch-start.is s c.root.ensures
-    c.in-Ok.ensures.leaves y c.in-Ok.ensures.records before
+    c.in-Ok.ensures.made.leaves y c.in-Ok.ensures.made.records before
 
 pub returns-in-Err-clause-refused : goal.returns-in-Err-clause-refused
 returns-in-Err-clause-refused c = λ d hd s.
     let differ = c.if-start-end.false in let order : c.args.start ≤ c.args.end = c.requires.order in let within : c.args.end ≤ length c.args.patch.now = c.requires.within in
     reported_names (Unit {0}) c.reported.result c.in-Err.fault d (view c.args.doc.now) (view c.step_keeping.new.doc) c.args.patch.now c.args.start c.index-patch-start.result hd c.requires.whole (omega arith) c.index-patch-start.is s
-    (step_whole (Unit {0}) (Err c.in-Err.fault) (view c.args.doc.now) (view c.step_keeping.new.doc) (tokens_of c.root.result) (operation_of c.index-patch-start.result) c.root.ensures c.in-Err.ensures.leaves) c.reported.ensures
+    (step_whole (Unit {0}) (Err c.in-Err.fault) (view c.args.doc.now) (view c.step_keeping.new.doc) (tokens_of c.root.result) (operation_of c.index-patch-start.result) c.root.ensures c.in-Err.ensures.made.refused) c.reported.ensures
 
 pub returns-in-Err-clause-in_place : goal.returns-in-Err-clause-in_place
 returns-in-Err-clause-in_place c = λ y few light d hd s e end.
     let differ = c.if-start-end.false in let order : c.args.start ≤ c.args.end = c.requires.order in let within : c.args.end ≤ length c.args.patch.now = c.requires.within in
     absurd (not_stopped c.in-Err.fault d (view c.args.doc.now) (view c.step_keeping.new.doc) e c.args.patch.now c.args.start c.index-patch-start.result hd c.requires.whole (omega arith) c.index-patch-start.is s
-    (step_whole (Unit {0}) (Err c.in-Err.fault) (view c.args.doc.now) (view c.step_keeping.new.doc) (tokens_of c.root.result) (operation_of c.index-patch-start.result) c.root.ensures c.in-Err.ensures.leaves)
+    (step_whole (Unit {0}) (Err c.in-Err.fault) (view c.args.doc.now) (view c.step_keeping.new.doc) (tokens_of c.root.result) (operation_of c.index-patch-start.result) c.root.ensures c.in-Err.ensures.made.refused)
     (λ h. c.in-Err.ensures.in_place y (subst IsInPlace (sym (stripped_whole (tokens_of c.root.result) (operation_of c.index-patch-start.result) c.root.ensures)) h)) light end)
