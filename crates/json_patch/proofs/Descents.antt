@@ -117,8 +117,3 @@ pub found_no_item : (t : List ℕ) (P rest : Pointer) (old : Value) (m : Vec Val
 found_no_item t P rest old m len way o e past =
     rw (way, o, view-Array m)
     (sym (no_item t m len (λ s. option_and_then (λ c. found c rest) (child s (array (items_view m.items)))) (λ s h. goes_none (array (items_view m.items)) (λ r c. found c rest) s h) e past))
-
-pub found_no_member : (t : List ℕ) (P rest : Pointer) (old : Value) (m : BTreeMap (String Global) Value) → P ≡ t ∷ rest → old ≡ Object m → None ≡ lookup (is_named t) m.entries → None ≡ found (view old) P
-found_no_member t P rest old m way o none =
-    rw (way, o, view-Object m)
-    (sym (no_member t m.entries None (λ s. option_and_then (λ c. found c rest) (child s (object (members_view m.entries)))) (λ s h. goes_none (object (members_view m.entries)) (λ r c. found c rest) s h) refl none))

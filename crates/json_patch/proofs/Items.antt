@@ -11,11 +11,6 @@ item_document i c no_items h is = cc
 item_document zero c (item d ds) h is = let e : d ≡ c = cc in subst IsDocument e h.0
 item_document (suc i) c (item d ds) h is = item_document i c ds h.1 is
 
-pub item_within : (i : ℕ) (c : Data) (ds : Items) → get_item i ds ≡ Some c → i < items_len ds
-item_within i c no_items is = cc
-item_within zero c (item d ds) is = omega arith
-item_within (suc i) c (item d ds) is = let h : i < items_len ds = item_within i c ds is in omega arith
-
 -- ---- set
 
 pub get_set : (i : ℕ) (c e : Data) (ds : Items) → get_item i ds ≡ Some c → get_item i (set_item i e ds) ≡ Some e

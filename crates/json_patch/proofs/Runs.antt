@@ -111,9 +111,3 @@ pub tests_end : (d : Data) (ops : List Operation) (e : Data) → AreTests ops �
 tests_end d [] e t h = sym h
 tests_end d (test P v ∷ ops) e t h = tests_end h.0 ops e t h.2 ∙ h.1.1
 tests_end d (op ∷ ops) e t h = absurd t
-
--- a refused list is accepted up to the operation that is refused
-pub refused_after : (d : Data) (ops : List Operation) (k : ℕ) (kind : PatchErrorKind) → RefusesAt d ops k kind → (m : Data) × Accepts d (take k ops) m
-refused_after d [] k kind h = absurd h
-refused_after d (op ∷ ops) zero kind h = (d, refl)
-refused_after d (op ∷ ops) (suc k) kind h = let i : (m : Data) × Accepts h.0 (take k ops) m = refused_after h.0 ops k kind h.2 in (i.0, (h.0, h.1, i.1))

@@ -43,9 +43,3 @@ front_append u t (w ∷ P) = ap (λ Q. u ∷ Q) (front_append w t P)
 pub last_append : (u t : List ℕ) (P : List (List ℕ)) → last_of u (P ++ t ∷ []) ≡ t
 last_append u t [] = refl
 last_append u t (w ∷ P) = last_append w t P
-
-pub removed_walks : (d : Data) (P : List (List ℕ)) (t : List ℕ)
-    → removed d (P ++ t ∷ []) ≡ option_and_then (λ p. option_and_then (λ q. replaced d P q) (take_from t p)) (found d P)
-removed_walks d [] t = altered_walks (take_from t) d []
-removed_walks d (u ∷ P) t =
-    ap (λ x. altered (take_from x) d (front_of u (P ++ t ∷ []))) (last_append u t P) ∙ ap (λ Q. altered (take_from t) d Q) (front_append u t P) ∙ altered_walks (take_from t) d (u ∷ P)
