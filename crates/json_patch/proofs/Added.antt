@@ -1,5 +1,5 @@
 -- The computed document is the one that add leaves, and the only one.
-use Rattle.std.proofs.Common.{◌≡◌, ℕ, zero, suc, ◌<◌, ◌≤◌, List, [], ◌∷◌, ◌++◌, ⊎_elim, Some, None, sym, ◌∙◌, subst, arith}
+use Rattle.std.proofs.Common.{◌≡◌, ℕ, zero, suc, ◌<◌, ◌≤◌, List, [], ◌∷◌, ◌++◌, ⊎_elim, Some, None, sym, ◌∙◌, subst, arith, rules}
 use Rattle.std.proofs.lemmas.Bool.{cases_eq}
 use Rattle.serde_json.specs.Data.{Data}
 use Rattle.json_patch.specs.Document.{IsDocument, Step, key, place, look}
@@ -13,8 +13,7 @@ use Rattle.json_patch.proofs.Altered.{Grafts, IsAltered, altered_is, altered_som
 use Rattle.json_patch.proofs.Slots.{PutsIn, put_in_puts, aims_put, aims_same}
 
 shifts_lift : (d e : Data) (L : List Step) (p q : Data) (s : Step) → Grafts d e L p q → ShiftsUp p q [] s → ShiftsUp d e L s
-shifts_lift d e L p q (key k) g h = tt
-shifts_lift d e L p q (place i) g h = λ j R le. g.after (place (suc j) ∷ R) ∙ h j R le ∙ sym (g.before (place j ∷ R))
+shifts_lift d e L p q s g h = search rules
 
 -- where p's sights are kept, d's are
 pub elsewhere_lift : (d e : Data) (L : List Step) (p q : Data) (s : Step) → Grafts d e L p q → ((X : List Step) → IsBeside [] s X → look q X ≡ look p X)
@@ -26,11 +25,7 @@ elsewhere_lift d e L p q s g keep X b =
     (λ (out : IsApart L X). g.apart X out) (under_cases L X)
 
 puts_lift : (d e v : Data) (L : List Step) (p q : Data) (s : Step) → Grafts d e L p q → PutsAt p q v [] s → PutsAt d e v L s
-puts_lift d e v L p q s g h = record {
-  here = λ R. g.after (s ∷ R) ∙ h.here R;
-  later = shifts_lift d e L p q s g h.later;
-  elsewhere = elsewhere_lift d e L p q s g h.elsewhere;
-}
+puts_lift d e v L p q s g h = search (rules, shifts_lift, elsewhere_lift)
 
 added_below : (d : Data) (t : List ℕ) (P : List (List ℕ)) (v e : Data) → IsDocument d → IsDocument v → IsAltered (put_in v (last_of t P)) d (front_of t P) e
     → IsAdded d (t ∷ P) v e
@@ -44,12 +39,10 @@ added_below d t P v e hd hv a =
     )
 
 pub added_is : (d : Data) (P : List (List ℕ)) (v e : Data) → IsDocument d → IsDocument v → added d P v ≡ Some e → IsAdded d P v e
-added_is d [] v e hd hv is = cc
-added_is d (t ∷ P) v e hd hv is = added_below d t P v e hd hv (altered_is _ d (front_of t P) e is)
+added_is d P v e hd hv is = search (rules, added_below, altered_is)
 
 pub IsAdded_document : (d : Data) (P : List (List ℕ)) (v e : Data) → IsDocument v → IsAdded d P v e → IsDocument e
-IsAdded_document d [] v e hv h = subst IsDocument (sym h) hv
-IsAdded_document d (t ∷ P) v e hv h = h.3
+IsAdded_document d P v e hv h = search rules
 
 -- the target, with the pointer split
 record Target (d : Data) (t : List ℕ) (P : List (List ℕ)) (L : List Step) (s : Step) : Type 0 where

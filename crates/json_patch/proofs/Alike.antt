@@ -1,5 +1,5 @@
 -- Documents that look alike everywhere are equal.
-use Rattle.std.proofs.Common.{◌≡◌, ℕ, suc, List, [], ◌∷◌, Option, Ordering, Less, Equal, Greater, nat_cmp, refl, sym, ap, subst, option_and_then}
+use Rattle.std.proofs.Common.{◌≡◌, ℕ, suc, List, [], ◌∷◌, Option, Ordering, Less, Equal, Greater, nat_cmp, refl, sym, ap, subst, option_and_then, rules}
 use Rattle.std.specs.Cmp.Lexicographic.{slice_cmp}
 use Rattle.serde_json.specs.Data.{Data, null, boolean, number, string, array, object, Items, no_items, item, Members, no_members, member}
 use Rattle.serde_json.specs.Find.{get_member}
@@ -7,12 +7,7 @@ use Rattle.json_patch.specs.Document.{IsDocument, AreDocuments, AreMembers, IsBe
 use Rattle.json_patch.proofs.Members.{tied_same, less_back, below_more, below_absent, found_first}
 
 pub something : (d : Data) → sight_of d ≡ nothing → ⊥
-something null h = cc
-something (boolean b) h = cc
-something (number n) h = cc
-something (string s) h = cc
-something (array ds) h = cc
-something (object ms) h = cc
+something d h = search rules
 
 -- what is seen from what stands below a step
 abbrev pub seen : Option Data → List Step → Sight

@@ -1,5 +1,5 @@
 -- What `altered` leaves, at every location.
-use Rattle.std.proofs.Common.{◌≡◌, ℕ, List, [], ◌∷◌, ◌++◌, ⊎_elim, Option, Some, option_and_then, refl, sym, ap, ◌∙◌, subst}
+use Rattle.std.proofs.Common.{◌≡◌, ℕ, List, [], ◌∷◌, ◌++◌, ⊎_elim, Option, Some, option_and_then, refl, sym, ap, ◌∙◌, subst, rules}
 use Rattle.std.proofs.lemmas.Option.{option_and_then_some}
 use Rattle.serde_json.specs.Data.{Data}
 use Rattle.json_patch.specs.Document.{IsDocument, Step, child, look, sight, standing}
@@ -29,8 +29,7 @@ look_child s d c R is = ap (λ o. sight (option_and_then (λ x. standing x R) o)
 
 module _ (s : Step) (d c e : Data) (L : List Step) (p q : Data) (is : child s d ≡ Some c) (g : Grafts c e L p q) where
   apart_same : (Y : List Step) → IsApart (s ∷ L) (s ∷ Y) → look (set_child s e d) (s ∷ Y) ≡ look d (s ∷ Y)
-  apart_same Y out =
-      look_child s (set_child s e d) e Y (child_set s d c e is) ∙ g.apart Y (λ R h. out R (ap (λ Z. s ∷ Z) h)) ∙ sym (look_child s d c Y is)
+  apart_same Y out = search (rules, look_child, child_set)
 
   apart_step : (X : List Step) → IsApart (s ∷ L) X → look (set_child s e d) X ≡ look d X
   apart_step [] out = sight_set s d e
@@ -40,11 +39,7 @@ module _ (s : Step) (d c e : Data) (L : List Step) (p q : Data) (is : child s d 
       (λ (other : r ≡ s → ⊥). ap (λ o. sight (option_and_then (λ x. standing x Y) o)) (child_set_other r s d e other)) (step_cases r s)
 
   grafts_step : Grafts d (set_child s e d) (s ∷ L) p q
-  grafts_step = record {
-    before = λ R. look_child s d c (L ++ R) is ∙ g.before R;
-    after = λ R. look_child s (set_child s e d) e (L ++ R) (child_set s d c e is) ∙ g.after R;
-    apart = apart_step;
-  }
+  grafts_step = search (rules, look_child, child_set, apart_step)
 
 altered_step : (f : Data → Option Data) (d : Data) (t : List ℕ) (P : List (List ℕ)) (s : Step) (c b : Data) → step_of d t ≡ Some s → child s d ≡ Some c
     → IsAltered f c P b → IsAltered f d (t ∷ P) (set_child s b d)

@@ -1,5 +1,5 @@
 -- A run over a list of operations of the program, one step at a time.
-use Rattle.std.proofs.Common.{◌≡◌, ◌+◌, ◌<◌, ◌≤◌, ℕ, zero, suc, ◌*◌, List, [], ◌∷◌, ◌++◌, length, get_or, take, Some, option_map, Result, Ok, Err, refl, sym, ap, ap₂, ◌∙◌, subst, add-one, arith}
+use Rattle.std.proofs.Common.{◌≡◌, ◌+◌, ◌<◌, ◌≤◌, ℕ, zero, suc, ◌*◌, List, [], ◌∷◌, ◌++◌, length, get_or, take, Some, option_map, Result, Ok, Err, refl, sym, ap, ap₂, ◌∙◌, subst, add-one, arith, rules}
 use Rattle.std.proofs.lemmas.List.{map-append, reverse-append, reverse-reverse}
 use mathlib.Core.List.{reverse}
 use Rattle.std.specs.List.{slice_get}
@@ -17,7 +17,6 @@ use Rattle.json_patch.specs.RunComputed.{ran, stepped}
 use Rattle.json_patch.specs.Step.{Leaves, Refuses}
 use Rattle.json_patch.specs.declared.error.PatchErrorKind.{PatchErrorKind}
 use Rattle.json_patch.specs.declared.error.PatchFault.{PatchFault}
-use Rattle.json_patch.specs.declared.error.PatchFault.TheVariants.{Refused, Memory}
 use Rattle.json_patch.specs.declared.operation.PatchOperation.{PatchOperation}
 use Rattle.json_patch.specs.declared.walk.StepFault.{StepFault}
 use Rattle.json_patch.specs.declared.walk.StepFault.TheVariants.{Refused as step_refused, Memory as step_short}
@@ -83,12 +82,7 @@ refused_with fault wanted new kind is h = subst (λ f. Steps {T = Unit {0}} (Err
 -- the fault of a run names what the step refused
 pub reported_names : (U : Type 0) (out : PatchFault) (fault : StepFault) (d m new : Data) (os : List PatchOperation) (k : ℕ) (o : PatchOperation) → IsDocument d → AreWhole (operations os) → k < length os → IsAt os k o → IsState d os k m
     → Steps {T = Unit {0}} (Err fault) (stepped m (operation_of o)) new → Reports fault k (path_of (operation_of o)) out → IfRefused {T = U} (Err out) (NamesFirst d (operations os))
-reported_names U (Refused e) fault d m new os k o hd hv less is h s r =
-    let stepped_to = refused_with fault (stepped m (operation_of o)) new e.kind r.0 s in (
-      subst (λ n. RefusesAt d (operations os) n e.kind) (sym r.1) (state_refused d m e.kind os k o hd hv less is h stepped_to),
-      ap (λ n. option_map path_of (slice_get (operations os) n)) r.1 ∙ path_at os k o less is ∙ ap Some (sym r.2),
-    )
-reported_names U (Memory error) fault d m new os k o hd hv less is h s r = tt
+reported_names U out fault d m new os k o hd hv less is h s r = search (rules, refused_with, state_refused, path_at)
 
 -- ---- what a recorded run has recorded
 

@@ -1,5 +1,5 @@
 -- A run that is about one part of the document changes that part alone, as the run without the shared beginning changes it.
-use Rattle.std.proofs.Common.{◌≡◌, ⊎_elim, ℕ, List, [], ◌∷◌, ◌++◌, append_assoc, length, drop, Bool, true, false, if◌then◌else◌, Option, Some, None, option_map, option_and_then, Result, Ok, Err, refl, sym, ap, ◌∙◌, subst}
+use Rattle.std.proofs.Common.{◌≡◌, ⊎_elim, ℕ, List, [], ◌∷◌, ◌++◌, append_assoc, length, drop, Bool, if◌then◌else◌, Option, Some, None, option_map, option_and_then, Result, Ok, Err, refl, sym, ap, ◌∙◌, subst, rules}
 use Rattle.std.proofs.lemmas.Option.{option_and_then_some}
 use Rattle.std.proofs.lemmas.Slice.Eq.{bytes_eq-Decides}
 use Rattle.serde_json.specs.Data.{Data}
@@ -53,8 +53,7 @@ replaced_document d S e x hd he is = (replaced_is d S e x hd he is).3
 
 over_map : (s : Step) (d c b : Data) (o : Option Data) → IsDocument d → IsDocument b → child s d ≡ Some c → ((a : Data) → o ≡ Some a → IsDocument a)
     → option_map (λ e. set_child s e (set_child s b d)) o ≡ option_map (λ e. set_child s e d) o
-over_map s d c b None hd hb is h = refl
-over_map s d c b (Some a) hd hb is h = ap Some (set_set s d c b a hd hb (h a refl) is)
+over_map s d c b o hd hb is h = search (rules, set_set)
 
 pub record Replaces (d : Data) (S : Pointer) (e x : Data) : Type 0 where
   pub found_there : found x S ≡ Some e
@@ -93,8 +92,7 @@ over d S o = option_and_then (λ e. replaced d S e) o
 
 altered_under : (f : Data → Option Data) (d : Data) (S P : Pointer) (b : Data) → found d S ≡ Some b → altered f d (S ++ P) ≡ over d S (altered f b P)
 unfolding over
-altered_under f d S P b at =
-    altered_append f d S P ∙ altered_walks (λ c. altered f c P) d S ∙ ap (option_and_then (λ p. option_and_then (λ q. replaced d S q) (altered f p P))) at
+altered_under f d S P b at = search (rules, altered_append, altered_walks, option_and_then)
 
 pub added_under : (d : Data) (S : Pointer) (t : List ℕ) (P : Pointer) (v b : Data) → found d S ≡ Some b → added d (S ++ t ∷ P) v ≡ over d S (added b (t ∷ P) v)
 added_under d S t P v b at =
@@ -116,8 +114,7 @@ strip [] Q = refl
 strip (t ∷ T) Q = strip T Q
 
 pub with_one : (S : Pointer) (R : Pointer → Pointer → Type 0) → ((t : List ℕ) (P : Pointer) → R (S ++ t ∷ P) (t ∷ P)) → (P : Pointer) → IsProperPrefix S P → R P (drop (length S) P)
-with_one S R core P h =
-    subst (λ Q. R Q (drop (length S) Q)) (sym h.2) (subst (R (S ++ h.0 ∷ h.1)) (sym (strip S (h.0 ∷ h.1))) (core h.0 h.1))
+with_one S R core P h = search (rules, strip)
 
 pub with_two : (S : Pointer) (R : Pointer → Pointer → Pointer → Pointer → Type 0) → ((t : List ℕ) (F : Pointer) (u : List ℕ) (P : Pointer) → R (S ++ t ∷ F) (t ∷ F) (S ++ u ∷ P) (u ∷ P))
     → (F P : Pointer) → IsProperPrefix S F → IsProperPrefix S P → R F (drop (length S) F) P (drop (length S) P)
@@ -133,8 +130,7 @@ lifted d S (Err kind) = Err kind
 
 lifted_or : (d : Data) (S : Pointer) (o : Option Data) → or_refused InvalidPointer (over d S o) ≡ lifted d S (or_refused InvalidPointer o)
 unfolding over lifted
-lifted_or d S None = refl
-lifted_or d S (Some e) = refl
+lifted_or d S o = search rules
 
 module _ (d : Data) (S : Pointer) (b : Data) (hd : IsDocument d) (at : found d S ≡ Some b) where
   there : IsDocument b
@@ -145,18 +141,15 @@ module _ (d : Data) (S : Pointer) (b : Data) (hd : IsDocument d) (at : found d S
 
   test_under : (t : Bool) → (if t then Ok d else Err TestFailed) ≡ lifted d S (if t then Ok b else Err TestFailed)
   unfolding lifted
-  test_under true = ap (or_refused InvalidPointer) (sym (replaced_itself d S b hd at))
-  test_under false = refl
+  test_under t = search (rules, replaced_itself)
 
   tested_under : (v : Data) (o : Option Data) → tested d v o ≡ lifted d S (tested b v o)
   unfolding lifted
-  tested_under v None = refl
-  tested_under v (Some w) = test_under (same w v)
+  tested_under v o = search (rules, test_under)
 
   copied_under : (t : List ℕ) (P : Pointer) (o : Option Data) → copied d (S ++ t ∷ P) o ≡ lifted d S (copied b (t ∷ P) o)
   unfolding lifted
-  copied_under t P None = refl
-  copied_under t P (Some v) = ap (or_refused InvalidPointer) (added_under d S t P v b at) ∙ lifted_or d S (added b (t ∷ P) v)
+  copied_under t P o = search (rules, added_under, lifted_or)
 
   -- what the part becomes when the value is put into what was left of it
   again_under : (m x : Data) (o : Option Data) → IsDocument m → replaced d S m ≡ Some x → ((e : Data) → o ≡ Some e → IsDocument e) → over x S o ≡ over d S o
@@ -178,8 +171,7 @@ module _ (d : Data) (S : Pointer) (b : Data) (hd : IsDocument d) (at : found d S
 
   on_test : (c : Bool) (X Y : Result Data PatchErrorKind) → X ≡ lifted d S Y → (if c then Err CannotMoveInsideItself else X) ≡ lifted d S (if c then Err CannotMoveInsideItself else Y)
   unfolding lifted
-  on_test true X Y h = refl
-  on_test false X Y h = h
+  on_test c X Y h = search rules
 
   move_under : (t : List ℕ) (F : Pointer) (u : List ℕ) (P : Pointer) → stepped d (move (S ++ t ∷ F) (S ++ u ∷ P)) ≡ lifted d S (stepped b (move (t ∷ F) (u ∷ P)))
   move_under t F u P =
@@ -205,12 +197,7 @@ module _ (d : Data) (S : Pointer) (b : Data) (hd : IsDocument d) (at : found d S
 -- ---- runs
 
 pub whole_stripped : (S : Pointer) (op : Operation) → IsWholeOp op → IsWholeOp (stripped S op)
-whole_stripped S (add P v) h = h
-whole_stripped S (remove P) h = h
-whole_stripped S (replace P v) h = h
-whole_stripped S (move F P) h = h
-whole_stripped S (copy F P) h = h
-whole_stripped S (test P v) h = h
+whole_stripped S op h = search rules
 
 pub all_whole_stripped : (S : Pointer) (ops : List Operation) → AreWhole ops → AreWhole (stripped_all S ops)
 all_whole_stripped S [] h = tt

@@ -1,10 +1,10 @@
 -- The blocks and the inverse that are computed are those that the definitions name, and no others are.
-use Rattle.std.proofs.Common.{◌≡◌, inl, inr, ⊎_elim, ℕ, List, [], ◌∷◌, ◌++◌, bytes_eq, Option, Some, None, refl, sym, ap, ◌∙◌, subst}
+use Rattle.std.proofs.Common.{◌≡◌, inl, inr, ⊎_elim, ℕ, List, [], ◌∷◌, ◌++◌, bytes_eq, Option, Some, None, refl, sym, ap, ◌∙◌, subst, rules}
 use Rattle.serde_json.specs.Data.{Data, array, object, Items}
 use Rattle.jsonptr.specs.Text.{Pointer}
 use Rattle.jsonptr.specs.Places.{place_of, next_token}
 use Rattle.json_patch.specs.Document.{IsDocument, Step, key, place}
-use Rattle.json_patch.specs.Resolve.{Aims, HasTarget}
+use Rattle.json_patch.specs.Resolve.{Aims}
 use Rattle.json_patch.specs.Operation.{Operation, add, remove, replace, move, copy, test, IsWholeOp, AreWhole}
 use Rattle.json_patch.specs.Step.{Leaves}
 use Rattle.json_patch.specs.Run.{Accepts}
@@ -67,13 +67,7 @@ undoes_is d [] v e is = refl
 undoes_is d (t ∷ P) v e is = undoes_beyond d t P v e is
 
 undoes_only : (d : Data) (P : Pointer) (u : Operation) → UndoesAdd d P u → u ≡ undo_add d P
-undoes_only d [] u h = h
-undoes_only d (t ∷ P) u h =
-    let g : HasTarget d (t ∷ P) h.0 h.1 = h.2 in
-    let w : (g.front ≡ front_of t P) × (g.last ≡ last_of t P) = split_is t P g.front g.last g.whole in
-    let at : found d (front_of t P) ≡ Some g.parent = ap (found d) (sym w.0) ∙ resolves_found d g.front h.0 g.parent g.resolves in
-    back_only d t P g.parent h.1 u (subst (λ x. Aims g.parent x h.1) w.1 g.aims) h.3
-    ∙ ap (undo_in d (front_of t P) (last_of t P) (t ∷ P)) (sym at)
+undoes_only d P u h = search (rules, split_is, resolves_found, back_only)
 
 -- ---- blocks
 

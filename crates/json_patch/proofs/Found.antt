@@ -1,5 +1,5 @@
 -- What is found at a pointer stands at the location to which it resolves.
-use Rattle.std.proofs.Common.{◌≡◌, ℕ, List, [], ◌∷◌, Option, Some, None, IfNone, IfSome, ap, sym, ◌∙◌, option_map}
+use Rattle.std.proofs.Common.{◌≡◌, ℕ, List, [], ◌∷◌, Option, Some, IfNone, IfSome, ap, option_map, rules}
 use Rattle.std.proofs.lemmas.Option.{option_and_then_some}
 use Rattle.std.specs.Prelude.{◌↔◌}
 use Rattle.serde_json.specs.Data.{Data}
@@ -32,9 +32,7 @@ pub found_computed : (d : Data) (P : List (List ℕ)) (c : Data) → StandsAt d 
 found_computed d P c = (λ h. resolves_found d P h.0 c h.1, found_resolves d P c)
 
 pub some_stands : {A : Type 0} (f : A → Data) (r : Option A) (d : Data) (P : List (List ℕ)) → option_map f r ≡ found d P → IfSome r (λ v. StandsAt d P (f v))
-some_stands f (Some v) d P is = found_resolves d P (f v) (sym is)
-some_stands f None d P is = tt
+some_stands f r d P is = search (rules, found_resolves)
 
 pub none_stands : {A : Type 0} (f : A → Data) (r : Option A) (d : Data) (P : List (List ℕ)) → option_map f r ≡ found d P → IfNone r (Never (StandsAt d P))
-none_stands f (Some v) d P is = tt
-none_stands f None d P is = λ e h. let wrong : None ≡ Some e = is ∙ resolves_found d P h.0 e h.1 in cc
+none_stands f r d P is = search (rules, resolves_found)

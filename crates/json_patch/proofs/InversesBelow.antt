@@ -1,7 +1,7 @@
 -- What undoes a step or a run below a pointer is what undoes it on what stands there, with the pointer's tokens in front.
-use Rattle.std.proofs.Common.{◌≡◌, ◌↔◌, ℕ, List, [], ◌∷◌, ◌++◌, append_assoc, Option, Some, None, Result, Ok, Err, refl, sym, ap, ap₂, ◌∙◌, subst}
+use Rattle.std.proofs.Common.{◌≡◌, ◌↔◌, ℕ, List, [], ◌∷◌, ◌++◌, append_assoc, Option, Some, None, Result, Ok, Err, refl, sym, ap, ap₂, ◌∙◌, subst, rules}
 use Rattle.std.proofs.lemmas.List.{map-append}
-use Rattle.serde_json.specs.Data.{Data, array}
+use Rattle.serde_json.specs.Data.{Data}
 use Rattle.jsonptr.specs.Text.{Pointer}
 use Rattle.json_patch.specs.Document.{IsDocument}
 use Rattle.json_patch.specs.Resolve.{StandsAt}
@@ -10,7 +10,7 @@ use Rattle.json_patch.specs.Inverse.{IsInverse}
 use Rattle.json_patch.specs.Run.{Accepts}
 use Rattle.json_patch.specs.Shared.{IsWithin, AreWithin}
 use Rattle.json_patch.specs.ChangeComputed.{found, removed, replaced, front_of, last_of}
-use Rattle.json_patch.specs.InverseComputed.{settled_token, undo_at, undo_in, undo_add, with_found, with_left, block, inverse}
+use Rattle.json_patch.specs.InverseComputed.{undo_at, undo_in, undo_add, with_found, with_left, block, inverse}
 use Rattle.json_patch.specs.RunComputed.{stepped}
 use Rattle.json_patch.specs.SharedComputed.{stripped, stripped_all, extended, extended_all}
 use Rattle.json_patch.specs.declared.error.PatchErrorKind.{PatchErrorKind}
@@ -28,17 +28,14 @@ use Rattle.json_patch.proofs.Undone.{found_document}
 -- ---- an add
 
 at_under : (S P : Pointer) (o : Option Data) → undo_at (S ++ P) o ≡ extended S (undo_at P o)
-at_under S P None = refl
-at_under S P (Some w) = refl
+at_under S P o = search rules
 
 with_under : {X : Type 0} (S : Pointer) (o : Option X) (f g : X → List Operation) → ((w : X) → o ≡ Some w → f w ≡ extended_all S (g w)) → with_found o f ≡ extended_all S (with_found o g)
-with_under S None f g h = refl
-with_under S (Some w) f g h = h w refl
+with_under S o f g h = search rules
 
 module _ (d : Data) (S : Pointer) (b : Data) (at : found d S ≡ Some b) where
   in_under : (F : Pointer) (t : List ℕ) (P : Pointer) (o : Option Data) → undo_in d (S ++ F) t (S ++ P) o ≡ extended S (undo_in b F t P o)
-  in_under F t P (Some (array ds)) = ap remove (append_assoc S F (settled_token (Some (array ds)) t ∷ []))
-  in_under F t P o = ap (undo_at (S ++ P)) (found_under d S P b at) ∙ at_under S P (found b P)
+  in_under F t P o = search (rules, append_assoc, found_under, at_under)
 
   undo_under : (t : List ℕ) (P : Pointer) → undo_add d (S ++ t ∷ P) ≡ extended S (undo_add b (t ∷ P))
   undo_under t P =

@@ -1,6 +1,6 @@
 -- The inverse of an accepted list leads back, through every state.
-use Rattle.std.proofs.Common.{◌≡◌, ◌≤◌, ◌*◌, ℕ, List, [], ◌∷◌, ◌++◌, length, length-append, append_assoc, append-nil, Option, Some, None, Result, Ok, Err, refl, sym, ap, ◌∙◌, subst, arith}
-use Rattle.serde_json.specs.Data.{Data, array}
+use Rattle.std.proofs.Common.{◌≡◌, ◌≤◌, ◌*◌, ℕ, List, [], ◌∷◌, ◌++◌, length, length-append, append_assoc, append-nil, Option, Some, Result, Ok, refl, sym, ap, ◌∙◌, subst, arith, rules}
+use Rattle.serde_json.specs.Data.{Data}
 use Rattle.jsonptr.specs.Text.{Pointer}
 use Rattle.json_patch.specs.Document.{IsDocument}
 use Rattle.json_patch.specs.Operation.{Operation, add, remove, replace, move, copy, test, IsWholeOp, AreWhole}
@@ -8,9 +8,9 @@ use Rattle.json_patch.specs.declared.error.PatchErrorKind.{PatchErrorKind}
 use Rattle.json_patch.specs.declared.error.PatchErrorKind.TheVariants.{InvalidPointer}
 use Rattle.json_patch.specs.Step.{Leaves}
 use Rattle.json_patch.specs.Run.{Accepts}
-use Rattle.json_patch.specs.ChangeComputed.{found, removed, front_of, last_of}
+use Rattle.json_patch.specs.ChangeComputed.{found, removed}
 use Rattle.json_patch.specs.RunComputed.{or_refused, stepped, ran}
-use Rattle.json_patch.specs.InverseComputed.{undo_at, undo_in, undo_add, with_found, with_left, block, inverse}
+use Rattle.json_patch.specs.InverseComputed.{undo_at, undo_in, undo_add, with_left, block, inverse}
 use Rattle.json_patch.proofs.Found.{resolves_found}
 use Rattle.json_patch.proofs.Exact.{added_exact, removed_exact, replaced_exact}
 use Rattle.json_patch.proofs.Stepped.{stands_found, stands_document, removed_document, leaves_stepped, leaves_document}
@@ -48,16 +48,13 @@ block_ran d (test P v) e hd hv h = ap Ok h.1
 -- ---- the block's values are documents
 
 undo_at_whole : (d : Data) (P : Pointer) (o : Option Data) → IsDocument d → found d P ≡ o → IsWholeOp (undo_at P o)
-undo_at_whole d P None hd is = tt
-undo_at_whole d P (Some w) hd is = found_document d P w hd is
+undo_at_whole d P o hd is = search (rules, found_document)
 
 undo_in_whole : (d : Data) (front : Pointer) (last : List ℕ) (P : Pointer) (o : Option Data) → IsDocument d → IsWholeOp (undo_in d front last P o)
-undo_in_whole d front last P (Some (array ds)) hd = tt
-undo_in_whole d front last P o hd = undo_at_whole d P (found d P) hd refl
+undo_in_whole d front last P o hd = search (rules, undo_at_whole)
 
 undo_add_whole : (d : Data) (P : Pointer) → IsDocument d → IsWholeOp (undo_add d P)
-undo_add_whole d [] hd = hd
-undo_add_whole d (t ∷ P) hd = undo_in_whole d (front_of t P) (last_of t P) (t ∷ P) (found d (front_of t P)) hd
+undo_add_whole d P hd = search (rules, undo_in_whole)
 
 pub block_whole : (d : Data) (op : Operation) (e : Data) → IsDocument d → IsWholeOp op → Leaves d op e → AreWhole (block d op)
 block_whole d (add P v) e hd hv h = (undo_add_whole d P hd, tt)
@@ -109,22 +106,11 @@ inverse_twice d ops e hd hv h = inverse_back e (inverse d ops) d (accepts_docume
 
 -- ---- its length
 
-found_length : {X : Type 0} (o : Option X) (f : X → List Operation) → ((w : X) → length (f w) ≤ 2) → length (with_found o f) ≤ 2
-found_length None f h = omega arith
-found_length (Some w) f h = h w
-
 pub block_length : (op : Operation) (d : Data) → length (block d op) ≤ 2
-block_length (add P v) d = omega arith
-block_length (remove P) d = found_length (found d P) (λ w. add P w ∷ []) (λ w. omega arith)
-block_length (replace P v) d = found_length (found d P) (λ w. replace P w ∷ []) (λ w. omega arith)
-block_length (move F P) d =
-    found_length (found d F) (λ v. with_found (removed d F) (λ m. undo_add m P ∷ add F v ∷ [])) (λ v. found_length (removed d F) (λ m. undo_add m P ∷ add F v ∷ []) (λ m. omega arith))
-block_length (copy F P) d = omega arith
-block_length (test P v) d = omega arith
+block_length op d = search rules
 
 left_length : (o : Result Data PatchErrorKind) (f : Data → List Operation) (n : ℕ) → ((m : Data) → length (f m) ≤ n) → length (with_left o f) ≤ n
-left_length (Ok m) f n h = h m
-left_length (Err kind) f n h = omega arith
+left_length o f n h = search rules
 
 pub inverse_length : (ops : List Operation) (d : Data) → length (inverse d ops) ≤ 2 * length ops
 inverse_length [] d = omega arith

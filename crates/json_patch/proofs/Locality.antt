@@ -1,5 +1,5 @@
 -- Locality in the words of the definitions.
-use Rattle.std.proofs.Common.{◌≡◌, ◌↔◌, ℕ, List, [], ◌∷◌, Some, Ok, Err, refl, sym, ap, ◌∙◌, subst}
+use Rattle.std.proofs.Common.{◌≡◌, ◌↔◌, ℕ, List, [], ◌∷◌, Some, Ok, Err, refl, ap, ◌∙◌, subst, rules}
 use Rattle.serde_json.specs.Data.{Data}
 use Rattle.jsonptr.specs.Text.{Pointer}
 use Rattle.json_patch.specs.Document.{IsDocument, Step}
@@ -59,12 +59,7 @@ module _ (d : Data) (S : Pointer) (b : Data) (ops : List Operation) (hd : IsDocu
 
   to : (o : Outcome) (x : Data) → ran b (stripped_all S ops) ≡ o → RunsUnder d S ops o → Accepts d ops x → (e : Data) × Accepts b (stripped_all S ops) e × IsReplaced d S e x
   unfolding RunsUnder
-  to (Ok e) x is u h =
-      let r : ran d ops ≡ Ok x = accepts_ran d ops x hd hv h in
-      let s : ran d ops ≡ Ok u.1.0 = u.1.2 in
-      let same : u.1.0 ≡ x = cc in
-      (e, ran_accepts b (stripped_all S ops) e there whole is, replaced_is d S e x hd u.0 (u.1.1 ∙ ap Some same))
-  to (Err f) x is u h = let r : ran d ops ≡ Ok x = accepts_ran d ops x hd hv h in cc
+  to o x is u h = search (rules, accepts_ran, ran_accepts, there, whole, replaced_is)
 
   from : (e x : Data) → RunsUnder d S ops (Ok e) → IsReplaced d S e x → Accepts d ops x
   unfolding RunsUnder
@@ -82,20 +77,14 @@ module _ (d : Data) (S : Pointer) (b : Data) (ops : List Operation) (hd : IsDocu
 
   refused_to : (o : Outcome) (k : ℕ) (kind : PatchErrorKind) → ran b (stripped_all S ops) ≡ o → RunsUnder d S ops o → RefusesAt d ops k kind → RefusesAt b (stripped_all S ops) k kind
   unfolding RunsUnder
-  refused_to (Ok e) k kind is u h = let r : ran d ops ≡ Err (fault k kind) = refuses_ran d ops k kind hd hv h in let s : ran d ops ≡ Ok u.1.0 = u.1.2 in cc
-  refused_to (Err f) k kind is u h =
-      let r : ran d ops ≡ Err (fault k kind) = refuses_ran d ops k kind hd hv h in
-      ran_refuses b (stripped_all S ops) k kind there whole (is ∙ sym u ∙ r)
+  refused_to o k kind is u h = search (rules, refuses_ran, ran_refuses, there, whole)
 
   refused_from : (k : ℕ) (kind : PatchErrorKind) → RunsUnder d S ops (Err (fault k kind)) → RefusesAt d ops k kind
   unfolding RunsUnder
   refused_from k kind u = ran_refuses d ops k kind hd hv u
 
   pub refused_alike : (k : ℕ) (kind : PatchErrorKind) → RefusesAt d ops k kind ↔ RefusesAt b (stripped_all S ops) k kind
-  refused_alike k kind = (
-    λ h. refused_to (ran b (stripped_all S ops)) k kind refl (under (ran b (stripped_all S ops)) refl) h,
-    λ h. refused_from k kind (under (Err (fault k kind)) (refuses_ran b (stripped_all S ops) k kind there whole h)),
-  )
+  refused_alike k kind = search (rules, refused_to, under, refused_from, refuses_ran, there, whole)
 
 -- ---- the location stays
 

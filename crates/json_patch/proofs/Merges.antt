@@ -1,9 +1,9 @@
 -- What is computed for a merge patch is what it leaves, and that alone.
-use Rattle.std.proofs.Common.{◌≡◌, ◌≢◌, ◌↔◌, ◌⊎◌, inl, inr, ⊎_elim, ℕ, List, Option, Some, None, unwrap_or, refl, sym, ap, ◌∙◌, subst}
+use Rattle.std.proofs.Common.{◌≡◌, ◌≢◌, ◌↔◌, ◌⊎◌, inl, inr, ⊎_elim, ℕ, List, Option, Some, None, unwrap_or, refl, sym, ap, ◌∙◌, subst, rules}
 use Rattle.serde_json.specs.Data.{Data, null, boolean, number, string, array, object, Members, no_members, member, put}
 use Rattle.serde_json.specs.Find.{get, get_member}
 use Rattle.serde_json.proofs.Views.{get_member-put, get_member-put_other}
-use Rattle.json_patch.specs.Document.{IsDocument, AreMembers, Step, key, place, child, sight_of, map}
+use Rattle.json_patch.specs.Document.{IsDocument, AreMembers, Step, key, child, sight_of, map}
 use Rattle.json_patch.specs.ChangeComputed.{without}
 use Rattle.json_patch.specs.Merged.{IsMerged, replaces, by_key, IsMergedMember, stays, goes, merges}
 use Rattle.json_patch.specs.MergedComputed.{members_of, merged, merged_members}
@@ -25,15 +25,13 @@ next_merged k null ms ps other = absurd (other refl)
 next_merged k q ms ps other = refl
 
 or_null_document : (o : Option Data) → ((d : Data) → o ≡ Some d → IsDocument d) → IsDocument (unwrap_or o null)
-or_null_document None h = tt
-or_null_document (Some d) h = h d refl
+or_null_document o h = search rules
 
 pub was_document : (k : List ℕ) (ms : Members) → AreMembers ms → IsDocument (unwrap_or (get_member k ms) null)
 was_document k ms h = or_null_document (get_member k ms) (λ d is. member_document k d ms h is)
 
 pub are_members : (d : Data) → IsDocument d → AreMembers (members_of d)
-are_members (object ms) h = h
-are_members d h = tt
+are_members d h = search rules
 
 mutual
   pub merged_document : (p d : Data) → IsDocument d → IsDocument p → IsDocument (merged d p)
@@ -54,8 +52,7 @@ pub name_cases : (q k : List ℕ) → (q ≡ k) ⊎ (q ≢ k)
 name_cases q k = ⊎_elim (λ (e : key q ≡ key k). inl cc) (λ (out : key q ≡ key k → ⊥). inr (λ h. out (ap key h))) (step_cases (key q) (key k))
 
 get_members : (q : List ℕ) (d : Data) → get_member q (members_of d) ≡ get q d
-get_members q (object ms) = refl
-get_members q d = refl
+get_members q d = search rules
 
 -- a name that the patch has not keeps its member
 unnamed : (k : List ℕ) (ps ms : Members) → get_member k ps ≡ None → get_member k (merged_members ms ps) ≡ get_member k ms
@@ -114,13 +111,8 @@ mutual
   again_member goes = goes
   again_member (merges other h) = merges other (again h)
 
-no_places : (e : Data) (i : ℕ) → sight_of e ≡ map → child (place i) e ≡ None
-no_places (object ms) i h = refl
-no_places e i h = cc
-
 same_children : (e f : Data) → sight_of e ≡ map → sight_of f ≡ map → ((k : List ℕ) → get k e ≡ get k f) → (r : Step) → child r e ≡ child r f
-same_children e f he hf each (key k) = each k
-same_children e f he hf each (place i) = no_places e i he ∙ sym (no_places f i hf)
+same_children e f he hf each r = search rules
 
 mutual
   pub one : {d p e : Data} (f : Data) → IsDocument e → IsDocument f → IsMerged d p e → IsMerged d p f → e ≡ f
@@ -143,12 +135,10 @@ pub merged_exactly : (d p e : Data) → IsDocument d → IsDocument p → IsDocu
 merged_exactly d p e hd hp he = (λ h. one e (merged_document p d hd hp) he (merged_is p d hd hp) h, λ is. subst (IsMerged d p) is (merged_is p d hd hp))
 
 pub is_replaced : {d p e : Data} → sight_of p ≢ map → IsMerged d p e → e ≡ p
-is_replaced other (replaces _) = refl
-is_replaced other (by_key named left each) = absurd (other named)
+is_replaced other h = search rules
 
 at_key : {d p e : Data} (k : List ℕ) → sight_of p ≡ map → IsMerged d p e → IsMergedMember (get k d) (get k p) (get k e)
-at_key k is (replaces other) = absurd (other is)
-at_key k is (by_key named left each) = each k
+at_key k is h = search rules
 
 kept : {was named left : Option Data} → named ≡ None → IsMergedMember was named left → left ≡ was
 kept is stays = refl

@@ -1,5 +1,5 @@
 -- An operation as a change of its container, which the walk finds at all tokens but the last.
-use Rattle.std.proofs.Common.{◌≡◌, ◌<◌, ◌^◌, decimal, String, Global, string_bytes, ℕ, List, [], ◌∷◌, ◌++◌, length, drop, not, true, false, Bool, IsTrue, Option, Some, None, option_map, option_and_then, Result, Ok, Err, IfOk, refl, sym, ap, ◌∙◌, subst}
+use Rattle.std.proofs.Common.{◌≡◌, ◌<◌, ◌^◌, decimal, String, Global, string_bytes, ℕ, List, [], ◌∷◌, ◌++◌, length, drop, not, true, false, Bool, IsTrue, Option, Some, None, option_map, option_and_then, Result, Ok, Err, IfOk, refl, sym, ap, ◌∙◌, subst, rules}
 use Rattle.std.specs.Prelude.{◌↔◌}
 use Rattle.std.specs.declared.alloc.AllocError.{AllocError}
 use Rattle.std.specs.Result.{IsErr, IsErrAnd}
@@ -12,7 +12,7 @@ use Rattle.jsonptr.specs.Places.{token_of}
 use Rattle.jsonptr.specs.PlaceLaws.{token_is_decimal}
 use Rattle.json_patch.specs.Attempt.{Attempts, Steps, TakesOut}
 use Rattle.json_patch.specs.Document.{child}
-use Rattle.json_patch.specs.Operation.{add, move, remove, replace, path_of}
+use Rattle.json_patch.specs.Operation.{add, move, replace, path_of}
 use Rattle.json_patch.specs.ChangeComputed.{step_of, set_child, put_in, take_from, found, altered, added, removed, replaced}
 use Rattle.json_patch.specs.Edits.{Displaces, DisplacesAt, IsTaken, Undoes, undo_at_place}
 use Rattle.json_patch.specs.InPlace.{AreUnescaped, IsUnescaped}
@@ -24,7 +24,6 @@ use Rattle.json_patch.specs.declared.walk.Displaced.{Displaced}
 use Rattle.json_patch.specs.declared.walk.Displaced.TheVariants.{Nothing, Former, Taken}
 use Rattle.json_patch.specs.declared.walk.Edit.TheVariants.{Insert, Take, Swap}
 use Rattle.json_patch.specs.declared.walk.StepFault.{StepFault}
-use Rattle.json_patch.specs.declared.walk.StepFault.TheVariants.{Refused, Memory}
 use Rattle.json_patch.proofs.Resolved.{split_is}
 use Rattle.json_patch.proofs.Stepped.{prefix_begins, not_begins}
 use Rattle.json_patch.proofs.Undone.{found_append}
@@ -36,12 +35,10 @@ no_last [] t is = cc
 no_last (s ∷ F) t is = cc
 
 pub added_in : (d : Data) (P F : Pointer) (t : List ℕ) (v : Data) → P ≡ F ++ t ∷ [] → added d P v ≡ altered (put_in v t) d F
-added_in d [] F t v is = absurd (no_last F t is)
-added_in d (s ∷ P) F t v is = let e = split_is s P F t is in rw (e.0, e.1) refl
+added_in d P F t v is = search (rules, no_last, split_is)
 
 pub removed_in : (d : Data) (P F : Pointer) (t : List ℕ) → P ≡ F ++ t ∷ [] → removed d P ≡ altered (take_from t) d F
-removed_in d [] F t is = absurd (no_last F t is)
-removed_in d (s ∷ P) F t is = let e = split_is s P F t is in rw (e.0, e.1) refl
+removed_in d P F t is = search (rules, no_last, split_is)
 
 altered-append : (g : Data → Option Data) (d : Data) (F Q : Pointer) → altered (λ c. altered g c Q) d F ≡ altered g d (F ++ Q)
 altered-append g d [] Q = refl
@@ -61,8 +58,7 @@ found_none d P F t c is at here = ap (found d) is ∙ found_append d F (t ∷ []
 -- ---- what undoes an add
 
 pub undo_add_in : (d : Data) (P F : Pointer) (t : List ℕ) → P ≡ F ++ t ∷ [] → undo_add d P ≡ undo_in d F t P (found d F)
-undo_add_in d [] F t is = absurd (no_last F t is)
-undo_add_in d (s ∷ P) F t is = let e = split_is s P F t is in rw (e.0, e.1) refl
+undo_add_in d P F t is = search (rules, no_last, split_is)
 
 undo_found : (was : Displaced) (v : Value) (d c : Data) (P F : Pointer) (t : List ℕ) → P ≡ F ++ t ∷ [] → found d F ≡ Some c → Displaces (Insert v) t c was
     → undo_in d F t P (Some c) ≡ undo_at_place (path_of (undo_in d F t P (Some c))) was
@@ -78,14 +74,10 @@ undo_as_found (Ok was) v d P F t x is h =
     ap (λ o. o ∷ []) (subst (λ u. u ≡ undo_at_place (path_of u) was) (sym (undo_add_in d P F t is ∙ ap (undo_in d F t P) h.1)) (undo_found was v d h.0 P F t is h.1 h.2))
 
 pub undo_swapped : (r : Result Displaced StepFault) (v : Value) (d : Data) (P F : Pointer) (t : List ℕ) (x : Data) → P ≡ F ++ t ∷ [] → IfOk r (DisplacesAt (Swap v) d F t) → IfOk r (Undoes d (replace P x))
-undo_swapped (Ok (Former w)) v d P F t x is h = rw (found_in d P F t h.0 (view w) is h.1 h.2) refl
-undo_swapped (Ok was) v d P F t x is h = absurd h.2
-undo_swapped (Err e) v d P F t x is h = h
+undo_swapped r v d P F t x is h = search (rules, found_in)
 
 pub taken_there : (r : Result Displaced StepFault) (d : Data) (P F : Pointer) (t : List ℕ) → P ≡ F ++ t ∷ [] → IfOk r (DisplacesAt Take d F t) → IfOk r (IsTaken d P)
-taken_there (Ok (Taken w)) d P F t is h = found_in d P F t h.0 (view w) is h.1 h.2
-taken_there (Ok was) d P F t is h = absurd h.2
-taken_there (Err e) d P F t is h = h
+taken_there r d P F t is h = search (rules, found_in)
 
 -- ---- a move
 
@@ -98,13 +90,10 @@ pub move_inside : (d : Data) (F P : Pointer) → IsProperPrefix F P → stepped 
 move_inside d F P h = rw (prefix_begins F P h)
 
 pub moves : {T : Type 0} (r : Result T StepFault) (d m e v : Data) (F P : Pointer) → (IsProperPrefix F P → ⊥) → removed d F ≡ Some m → found d F ≡ Some v → Attempts r (added m P v) m e → Steps r (stepped d (move F P)) e
-moves (Ok x) d m e v F P out gone stood h = rw (not_begins F P out, gone, stood, h)
-moves (Err (Refused kind)) d m e v F P out gone stood h = rw (not_begins F P out, gone, stood, h.0.1) (ap Err (sym h.0.0))
-moves (Err (Memory f)) d m e v F P out gone stood h = tt
+moves r d m e v F P out gone stood h = search (rules, not_begins)
 
 no_source : (P : Pointer) (o : Option Data) → moved P o None ≡ Err InvalidFromPointer
-no_source P None = refl
-no_source P (Some v) = refl
+no_source P o = search rules
 
 pub move_nowhere : (d : Data) (F P : Pointer) → (IsProperPrefix F P → ⊥) → removed d F ≡ None → stepped d (move F P) ≡ Err InvalidFromPointer
 move_nowhere d F P out none = rw (not_begins F P out, none) (no_source P (found d F))
@@ -115,8 +104,7 @@ not_inside F P h p = let yes : false ≡ true = h.1 p in cc
 -- the value is out, and is added or not
 pub move_goes : {T : Type 0} (r : Result T StepFault) (d m e : Data) (v : Value) (S F P G Q : Pointer) → F ≡ drop (length S) G → P ≡ drop (length S) Q → TakesOut d m F P v → Attempts r (added m P (view v)) m e
     → Steps r (stepped d (stripped S (move G Q))) e
-move_goes r d m e v S F P G Q from path out h =
-    subst (λ X. Steps r (stepped d (move X (drop (length S) Q))) e) from (subst (λ X. Steps r (stepped d (move F X)) e) path (moves r d m e (view v) F P out.0 out.1 out.2 h))
+move_goes r d m e v S F P G Q from path out h = search (rules, moves)
 
 -- what `?` passed on
 pub move_stops : {T : Type 0} (U : Type 0) (r : Result T StepFault) (fault : StepFault) (d m e : Data) (v : Value) (S F P G Q : Pointer) → F ≡ drop (length S) G → P ≡ drop (length S) Q → IsErr r × IsErrAnd r (λ f. f ≡ fault) → TakesOut d m F P v
@@ -128,8 +116,7 @@ move_stops {T} U (Err f) fault d m e v S F P G Q from path gives out h =
 -- ---- a place by its number
 
 pub place_text : (r : Result (String Global) AllocError) (i : ℕ) → i < 2 ^ 64 → IfOk r (λ s. string_bytes s ≡ decimal i) → IfOk r (λ s. string_bytes s ≡ token_of i)
-place_text (Ok s) i fits h = h ∙ sym (token_is_decimal i fits)
-place_text (Err e) i fits h = h
+place_text r i fits h = search (rules, token_is_decimal)
 
 -- ---- without memory
 

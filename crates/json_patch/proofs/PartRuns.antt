@@ -1,5 +1,5 @@
 -- A run on a copy of a part of a document, one step at a time, and what it is of the document.
-use Rattle.std.proofs.Common.{◌≡◌, ◌⊎◌, inl, inr, ⊎_elim, ◌+◌, ◌-◌, ◌<◌, ◌≤◌, IsTrue, Bool, true, false, if◌then◌else◌, ℕ, zero, suc, List, [], ◌∷◌, ◌++◌, length, drop, take, Option, Some, Result, Ok, Err, refl, sym, ap, ◌∙◌, subst, arith}
+use Rattle.std.proofs.Common.{◌≡◌, ◌⊎◌, inl, inr, ⊎_elim, ◌+◌, ◌-◌, ◌<◌, ◌≤◌, IsTrue, Bool, false, if◌then◌else◌, ℕ, zero, suc, List, [], ◌∷◌, ◌++◌, length, drop, take, Option, Some, Result, Ok, Err, refl, sym, ap, ◌∙◌, subst, arith, rules}
 use mathlib.Core.List.{reverse}
 use Rattle.std.specs.Result.{is_err}
 use Rattle.serde_json.specs.Data.{Data}
@@ -19,7 +19,6 @@ use Rattle.json_patch.specs.declared.error.PatchErrorKind.{PatchErrorKind}
 use Rattle.json_patch.specs.declared.error.PatchErrorKind.TheVariants.{InvalidPointer}
 use Rattle.json_patch.specs.declared.operation.PatchOperation.{PatchOperation}
 use Rattle.json_patch.specs.declared.walk.StepFault.{StepFault}
-use Rattle.json_patch.specs.declared.walk.StepFault.TheVariants.{Refused, Memory}
 use Rattle.json_patch.proofs.Applied.{IsAt, IsState, recorded_more, state_more, whole_at}
 use Rattle.json_patch.proofs.Below.{Replaces, replaced_itself, replaces, lifted, some_replaced, stepped_under, whole_stripped}
 use Rattle.json_patch.proofs.InversesBelow.{block_under}
@@ -29,12 +28,7 @@ use Rattle.json_patch.proofs.Undone.{found_document}
 -- ---- an operation at the root
 
 stripped_root : (op : Operation) → stripped [] op ≡ op
-stripped_root (add P v) = refl
-stripped_root (remove P) = refl
-stripped_root (replace P v) = refl
-stripped_root (move F P) = refl
-stripped_root (copy F P) = refl
-stripped_root (test P v) = refl
+stripped_root op = search rules
 
 pub stripped_whole : (S : Pointer) (op : Operation) → S ≡ [] → stripped S op ≡ op
 stripped_whole S op root = ap (λ X. stripped X op) root ∙ stripped_root op
@@ -55,23 +49,13 @@ pub step_whole : (T : Type 0) (r : Result T StepFault) (d new : Data) (S : Point
 step_whole T r d new S op root h = subst (λ o. Steps r (stepped d o) new) (stripped_whole S op root) h
 
 root_begins : (op : Operation) → IsBegun [] op
-root_begins (add P v) = (P, refl)
-root_begins (remove P) = (P, refl)
-root_begins (replace P v) = (P, refl)
-root_begins (move F P) = ((F, refl), (P, refl))
-root_begins (copy F P) = ((F, refl), (P, refl))
-root_begins (test P v) = (P, refl)
+root_begins op = search rules
 
 begins : (S P : Pointer) → IsProperPrefix S P → IsPrefix S P
 begins S P h = (h.0 ∷ h.1, h.2)
 
 within_begun : (S : Pointer) (op : Operation) → IsWithin S op → IsBegun S op
-within_begun S (add P v) h = begins S P h
-within_begun S (remove P) h = begins S P h
-within_begun S (replace P v) h = begins S P h
-within_begun S (move F P) h = (begins S F h.0, begins S P h.1)
-within_begun S (copy F P) h = (begins S F h.0, begins S P h.1)
-within_begun S (test P v) h = begins S P h
+within_begun S op h = search rules
 
 -- ---- an operation at a part, or at the root
 
@@ -101,31 +85,21 @@ part_at S os start end k o from to most is h =
 module _ (x : Data) (S : Pointer) (b : Data) (op : Operation) (hx : IsDocument x) (there : found x S ≡ Some b) where
   unfolding_root : (r : Result Data PatchErrorKind) → r ≡ lifted x [] r
   unfolding lifted
-  unfolding_root (Ok e) = refl
-  unfolding_root (Err kind) = refl
+  unfolding_root r = search rules
 
   at_root : S ≡ [] → x ≡ b
   at_root root = let same : Some x ≡ Some b = ap (found x) (sym root) ∙ there in cc
 
   stepped_part : IsAtPart S op → stepped x op ≡ lifted x S (stepped b (stripped S op))
-  stepped_part h =
-      ⊎_elim
-      (λ (root : S ≡ []).
-      unfolding_root (stepped x op) ∙ ap (λ T. lifted x T (stepped x op)) (sym root)
-      ∙ ap (lifted x S) (ap (λ y. stepped y op) (at_root root) ∙ ap (stepped b) (sym (stripped_whole S op root))))
-      (λ (w : IsWithin S op). stepped_under x S b hx there op w) h
+  stepped_part h = search (rules, unfolding_root, lifted, at_root, stripped_whole, stepped_under)
 
   pub block_part : IsAtPart S op → block x op ≡ block_at b S op
-  block_part h =
-      ⊎_elim
-      (λ (root : S ≡ []). ap (λ y. block y op) (at_root root) ∙ sym (block_whole b S op root))
-      (λ (w : IsWithin S op). block_under x S b hx there op w) h
+  block_part h = search (rules, at_root, block_whole, block_under)
 
   -- where the step fails there, so does that of the document
   pub part_stops : (T U : Type 0) (f : StepFault) (e new : Data) → IsAtPart S op → Steps {T = T} (Err f) (stepped b (stripped S op)) e → Steps {T = U} (Err f) (stepped x op) new
   unfolding lifted
-  part_stops T U (Refused kind) e new at h = stepped_part at ∙ ap (lifted x S) h
-  part_stops T U (Memory error) e new at h = tt
+  part_stops T U f e new at h = search (rules, stepped_part, lifted)
 
   pub part_steps : (e : Data) → IsAtPart S op → IsWholeOp op → stepped b (stripped S op) ≡ Ok e → (y : Data) × (stepped x op ≡ Ok y) × Replaces x S e y
   unfolding lifted
@@ -152,29 +126,18 @@ pub part_first : (d m : Data) (os : List PatchOperation) (k : ℕ) (S : Pointer)
 part_first d m os k S w hm s there = record { x = m; state = s; document = hm; there = there; again = λ f hf. refl }
 
 pub if_true : {A : Type 0} (b : Bool) (x y : A) → IsTrue b → (if b then x else y) ≡ x
-if_true true x y h = refl
-if_true false x y h = cc
+if_true b x y h = search rules
 
 module _ (d m : Data) (os : List PatchOperation) (k : ℕ) (S : Pointer) (w : Data) (p : Part d m os k S w) where
   pub part_end : (new : Data) → replaced m S w ≡ Some new → IsState d os k new
-  part_end new is =
-      let itself : replaced p.x S w ≡ Some p.x = replaced_itself p.x S w p.document p.there in
-      let again : replaced p.x S w ≡ replaced m S w = p.again w (found_document p.x S w p.document p.there) in
-      let same : p.x ≡ new = cc in
-      subst (IsState d os k) same p.state
+  part_end new is = search (rules, replaced_itself, found_document, IsState)
 
   module _ (o : PatchOperation) (e : Data) (hd : IsDocument d) (hv : AreWhole (operations os)) (less : k < length os) (is : IsAt os k o) (at : IsAtPart S (operation_of o)) (made : stepped w (stripped S (operation_of o)) ≡ Ok e) where
     made_whole : (y : Data) × (stepped p.x (operation_of o) ≡ Ok y) × Replaces p.x S e y
     made_whole = part_steps p.x S w (operation_of o) p.document p.there e at (whole_at os k o less is hv) made
 
     pub part_more : Part d m os (k + 1) S e
-    part_more = record {
-      x = made_whole.0;
-      state = state_more d p.x made_whole.0 os k o hd hv less is p.state made_whole.1;
-      document = made_whole.2.document;
-      there = made_whole.2.found_there;
-      again = λ f hf. made_whole.2.again f hf ∙ p.again f hf;
-    }
+    part_more = search (rules, made_whole, state_more)
 
     pub part_recorded : (keep : Bool) (undo more : List PatchOperation) → IsTrue keep → operations more ≡ operations undo ++ (if keep then reverse (block_at w S (operation_of o)) else [])
         → AreRecorded d (operations os) k (operations undo) → AreRecorded d (operations os) (k + 1) (operations more)
@@ -186,8 +149,7 @@ pub ended_at : (d new : Data) (os : List PatchOperation) (k end : ℕ) → k ≡
 ended_at d new os k end is h = subst (λ n. Accepts d (take n (operations os)) new) is h
 
 pub made_put : {T : Type 0} (r : Result T StepFault) (b : Bool) (wanted : Option Data) (old new : Data) → Attempts r wanted old new → b ≡ is_err r → b ≡ false → wanted ≡ Some new
-made_put (Ok x) b wanted old new h told never = h
-made_put (Err f) b wanted old new h told never = let e : true ≡ false = sym told ∙ never in cc
+made_put r b wanted old new h told never = search rules
 
 -- a step made on the document itself
 pub recorded_at : (d m e : Data) (os : List PatchOperation) (k end : ℕ) (S : Pointer) (o : PatchOperation) (keep : Bool) (undo more : List PatchOperation) → k + 1 ≡ end → IsDocument d → AreWhole (operations os) → k < length os → IsAt os k o → IsState d os k m

@@ -1,8 +1,7 @@
 -- The faults of an operation value, in their order.
-use Rattle.std.proofs.Common.{◌≡◌, ◌<◌, ◌≤◌, ◌^◌, ℕ, pos, negsuc, List, [], ◌∷◌, ◌⊎◌, Option, Some, None, Ordering, Less, Equal, Greater, nat_cmp, refl, sym, ap, ◌∙◌, subst, inl, inr, arith, ⊎_elim, codes}
-use Rattle.std.proofs.lemmas.Bool.{cases_lt}
+use Rattle.std.proofs.Common.{◌≡◌, ◌<◌, ◌≤◌, ℕ, List, [], ◌∷◌, ◌⊎◌, Option, Some, None, Ordering, Less, nat_cmp, refl, sym, ap, ◌∙◌, subst, inl, inr, arith, ⊎_elim, codes, rules}
 use Rattle.std.specs.Cmp.Lexicographic.{slice_cmp}
-use Rattle.serde_json.specs.Data.{Num, unsigned, negative, float, Data, null, boolean, number, string, array, object, Items, no_items, item, Members, no_members, member}
+use Rattle.serde_json.specs.Data.{Num, Data, null, boolean, number, string, array, object, Items, no_items, item, Members, no_members, member}
 use Rattle.serde_json.specs.Find.{get}
 use Rattle.jsonptr.specs.Text.{Pointer, text_of}
 use Rattle.jsonptr.specs.Faults.{IsFault}
@@ -17,9 +16,7 @@ use Rattle.jsonptr.specs.TextLaws.{pointer_or_fault, pointer_has_no_fault, one_f
 -- ---- a value is a document, or it isn't
 
 less_or_not : (o : Ordering) → (o ≡ Less) ⊎ (o ≡ Less → ⊥)
-less_or_not Less = inl refl
-less_or_not Equal = inr (λ e. cc)
-less_or_not Greater = inr (λ e. cc)
+less_or_not o = search rules
 
 both_or_not : {A B : Type 0} → A ⊎ (A → ⊥) → B ⊎ (B → ⊥) → (A × B) ⊎ (A × B → ⊥)
 both_or_not a b = ⊎_elim (λ x. ⊎_elim (λ y. inl (x, y)) (λ n. inr (λ h. n h.1)) b) (λ n. inr (λ h. n h.0)) a
@@ -28,14 +25,8 @@ below_or_not : (k : List ℕ) (ms : Members) → IsBelowMembers k ms ⊎ (IsBelo
 below_or_not k no_members = inl tt
 below_or_not k (member l d ms) = both_or_not (less_or_not (slice_cmp nat_cmp k l)) (below_or_not k ms)
 
-below_bound_or_not : (n bound : ℕ) → (n < bound) ⊎ (n < bound → ⊥)
-below_bound_or_not n bound = ⊎_elim inl (λ past. inr (λ l. absurd (omega arith))) (cases_lt n bound)
-
 whole_or_not : (n : Num) → IsWhole n ⊎ (IsWhole n → ⊥)
-whole_or_not (unsigned n) = below_bound_or_not n (2 ^ 64)
-whole_or_not (negative (pos n)) = inr (λ h. h)
-whole_or_not (negative (negsuc n)) = below_bound_or_not n (2 ^ 63)
-whole_or_not (float x) = inr (λ h. h)
+whole_or_not n = search rules
 
 mutual
   pub document_or_not : (d : Data) → IsDocument d ⊎ (IsDocument d → ⊥)
@@ -80,12 +71,7 @@ some_or_none (Some d) = inl (d, refl)
 
 -- only an object has a member
 pub object_found : (k : List ℕ) (v d : Data) → get k v ≡ Some d → IsObject v
-object_found k null d e = cc
-object_found k (boolean b) d e = cc
-object_found k (number n) d e = cc
-object_found k (string s) d e = cc
-object_found k (array ds) d e = cc
-object_found k (object ms) d e = (ms, refl)
+object_found k v d e = search rules
 
 -- what is found of a member that is to be a pointer's text
 pub data Text (v : Data) (k : List ℕ) : Type 0 where
@@ -151,11 +137,7 @@ module _ (names : List (List ℕ)) (v : Data) where
   object_clears o _ l f = absurd (omega arith)
 
   pub not_object : (IsObject v → ⊥) → IsFirst At NotAnObject
-  not_object n = record { here = n; none_before = before }
-    where
-      before : NoneBelow At 2
-      before NotAList l f = f
-      before _ l f = absurd (omega arith)
+  not_object n = search rules
 
   -- no fault is looked for before `path`
   pub past_from : IsObject v → HasAnyFrom names v → NoneBelow At 9
@@ -208,11 +190,7 @@ module _ (names : List (List ℕ)) (v : Data) where
     value_missing h = record { here = (has, h); none_before = below }
 
     pub value_no_document : HasNoDocument v (codes "value") → IsFirst At ValueNotWhole
-    value_no_document h = record { here = (has, h); none_before = λ other l f. ⊎_elim (λ low. below other low f) (λ high. at other high l f) (cases_lt (rank other) 12) }
-      where
-        at : (other : ReadKind) → 12 ≤ rank other → rank other < 13 → At other → ⊥
-        at MissingValue g l f = found_lacks v (codes "value") _ h.1 f.1
-        at _ g l f = absurd (omega arith)
+    value_no_document h = search rules
 
 -- no fault is looked for before `value`
 pub past_path : (v : Data) (P : Pointer) → IsPointerAt v (codes "path") P → NoneBelow (IsFieldFault (codes "path" ∷ codes "value" ∷ []) v) 12
@@ -238,7 +216,4 @@ module _ (F : ReadKind → Type 0) (from_one : (e f : ParseError) → F (BadFrom
   same_rank _ _ r h g = absurd (omega arith)
 
   pub first_one : (kind other : ReadKind) → IsFirst F kind → IsFirst F other → other ≡ kind
-  first_one kind other h g =
-      ⊎_elim (λ l. absurd (g.none_before kind l h.here)) (λ le. ⊎_elim (λ m. absurd (h.none_before other m g.here))
-      (λ ge. same_rank kind other (omega (arith, le, ge)) h.here g.here) (cases_lt (rank other) (rank kind)))
-      (cases_lt (rank kind) (rank other))
+  first_one kind other h g = search (rules, same_rank)

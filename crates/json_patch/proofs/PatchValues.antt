@@ -1,7 +1,6 @@
 -- A value reads as one patch, or is refused with one number and kind; what is written reads back.
-use Rattle.std.proofs.Common.{◌≡◌, ◌<◌, ◌≤◌, ℕ, zero, suc, List, [], ◌∷◌, map, ◌⊎◌, Option, Some, None, refl, sym, ap, ◌∙◌, subst, inl, inr, arith, ⊎_elim, codes, Bool, true, false, true≢false}
+use Rattle.std.proofs.Common.{◌≡◌, ℕ, zero, suc, List, [], ◌∷◌, map, ◌⊎◌, Option, Some, None, refl, sym, ap, ◌∙◌, subst, inl, inr, arith, ⊎_elim, codes, Bool, true, false, true≢false, rules}
 use Rattle.std.specs.Str.{bytes_eq}
-use Rattle.std.proofs.lemmas.Bool.{cases_lt}
 use Rattle.std.proofs.lemmas.Slice.Eq.{bytes_eq-Decides}
 use Rattle.serde_json.specs.Data.{Data, null, boolean, number, string, array, object, Items, no_items, item}
 use Rattle.serde_json.specs.Find.{get}
@@ -9,7 +8,7 @@ use Rattle.serde_json.specs.View.{items_of}
 use Rattle.jsonptr.specs.Text.{Pointer, text_of}
 use Rattle.json_patch.specs.Document.{IsDocument, AreDocuments}
 use Rattle.json_patch.specs.Operation.{Operation, add, remove, replace, move, copy, test, IsWholeOp, AreWhole}
-use Rattle.json_patch.specs.PatchValue.{name_of, field_names, ReadsFields, ReadsOperation, ReadsItems, ReadsPatch, IsObject, Lacks, HasNoText, IsOneOf, IsFieldFault, IsOperationFault, IsUnknown, NoneBelow, RefusesFields, RefusesOperation, RefusesItem, RefusesPatch, rank, written, written_fields, written_patch}
+use Rattle.json_patch.specs.PatchValue.{name_of, field_names, ReadsFields, ReadsOperation, ReadsItems, ReadsPatch, IsObject, Lacks, HasNoText, IsOneOf, IsFieldFault, IsOperationFault, IsUnknown, NoneBelow, RefusesFields, RefusesOperation, RefusesItem, RefusesPatch, written, written_fields, written_patch}
 use Rattle.json_patch.specs.ReadLaws.{IsRead, IsUnread, IsReadAlone, IsUnreadAlone, IsReadLike, IsUnreadLike}
 use Rattle.json_patch.specs.declared.error.ReadKind.{ReadKind}
 use Rattle.json_patch.specs.declared.error.ReadKind.TheVariants.{NotAList, NotAnObject, MissingOp, OpNotText, UnknownOp, MissingFrom, FromNotText, BadFrom, MissingPath, PathNotText, BadPath, MissingValue, ValueNotWhole}
@@ -22,23 +21,13 @@ same_pointer : (v : Data) (k : List ℕ) (P Q : Pointer) → get k v ≡ Some (s
 same_pointer v k P Q e f = one_pointer P Q (same_text v k _ _ e f)
 
 reads_from : (v : Data) (op : Operation) → ReadsFields v op → IsOneOf (field_names op) (codes "from") → (F : Pointer) × (get (codes "from") v ≡ Some (string (text_of F)))
-reads_from v (move F P) h n = (F, h.0.0)
-reads_from v (copy F P) h n = (F, h.0.0)
-reads_from v _ h n = cc
+reads_from v op h n = search rules
 
 reads_path : (v : Data) (op : Operation) → ReadsFields v op → (P : Pointer) × (get (codes "path") v ≡ Some (string (text_of P)))
-reads_path v (add P x) h = (P, h.0.0)
-reads_path v (remove P) h = (P, h.0.0)
-reads_path v (replace P x) h = (P, h.0.0)
-reads_path v (move F P) h = (P, h.0.1.0)
-reads_path v (copy F P) h = (P, h.0.1.0)
-reads_path v (test P x) h = (P, h.0.0)
+reads_path v op h = search rules
 
 reads_value : (v : Data) (op : Operation) → ReadsFields v op → IsOneOf (field_names op) (codes "value") → (d : Data) × (get (codes "value") v ≡ Some d) × IsDocument d
-reads_value v (add P x) h n = (x, h.0.1.0, h.1)
-reads_value v (replace P x) h n = (x, h.0.1.0, h.1)
-reads_value v (test P x) h n = (x, h.0.1.0, h.1)
-reads_value v _ h n = cc
+reads_value v op h n = search rules
 
 -- ---- what is read has no fault
 
@@ -59,19 +48,12 @@ apart a b differs e = true≢false (sym ((bytes_eq-Decides a b).1 e) ∙ differs
 
 -- operations of one name have members of the same names
 same_field_names : (op other : Operation) → name_of op ≡ name_of other → field_names op ≡ field_names other
-same_field_names (add P x) (add Q y) e = refl
-same_field_names (remove P) (remove Q) e = refl
-same_field_names (replace P x) (replace Q y) e = refl
-same_field_names (move F P) (move G Q) e = refl
-same_field_names (copy F P) (copy G Q) e = refl
-same_field_names (test P x) (test Q y) e = refl
-same_field_names _ _ e = absurd (apart _ _ refl e)
+same_field_names op other e = search rules
 
 -- what is at fault by its `op` is at fault by the members of any operation of that name
 field_fault : (v : Data) (op other : Operation) (kind : ReadKind) → get (codes "op") v ≡ Some (string (name_of op)) → get (codes "op") v ≡ Some (string (name_of other))
     → IsFieldFault (field_names other) v kind → IsFieldFault (field_names op) v kind
-field_fault v op other kind e g f =
-    subst (λ names. IsFieldFault names v kind) (same_field_names other op (same_text v (codes "op") _ _ g e)) f
+field_fault v op other kind e g f = search rules
 
 reads_no_fault : (v : Data) (op : Operation) → ReadsOperation v op → (kind : ReadKind) → IsOperationFault v kind → ⊥
 reads_no_fault v op h NotAnObject f = f (object_found (codes "op") v _ h.0.0)
@@ -83,23 +65,7 @@ reads_no_fault v op h kind f = reads_no_field_fault v op (h.0.1, h.1) kind (fiel
 -- ---- one operation is read
 
 same_fields : (v : Data) (op other : Operation) → name_of op ≡ name_of other → ReadsFields v op → ReadsFields v other → other ≡ op
-same_fields v (add P x) (add Q y) e h g =
-    let p : Q ≡ P = same_pointer v (codes "path") Q P g.0.0 h.0.0 in
-    let d : y ≡ x = same_found v (codes "value") y x g.0.1.0 h.0.1.0 in rw (p, d)
-same_fields v (remove P) (remove Q) e h g = ap remove (same_pointer v (codes "path") Q P g.0.0 h.0.0)
-same_fields v (replace P x) (replace Q y) e h g =
-    let p : Q ≡ P = same_pointer v (codes "path") Q P g.0.0 h.0.0 in
-    let d : y ≡ x = same_found v (codes "value") y x g.0.1.0 h.0.1.0 in rw (p, d)
-same_fields v (move F P) (move G Q) e h g =
-    let f : G ≡ F = same_pointer v (codes "from") G F g.0.0 h.0.0 in
-    let p : Q ≡ P = same_pointer v (codes "path") Q P g.0.1.0 h.0.1.0 in rw (f, p)
-same_fields v (copy F P) (copy G Q) e h g =
-    let f : G ≡ F = same_pointer v (codes "from") G F g.0.0 h.0.0 in
-    let p : Q ≡ P = same_pointer v (codes "path") Q P g.0.1.0 h.0.1.0 in rw (f, p)
-same_fields v (test P x) (test Q y) e h g =
-    let p : Q ≡ P = same_pointer v (codes "path") Q P g.0.0 h.0.0 in
-    let d : y ≡ x = same_found v (codes "value") y x g.0.1.0 h.0.1.0 in rw (p, d)
-same_fields v _ _ e h g = absurd (apart _ _ refl e)
+same_fields v op other e h g = search (rules, same_pointer, same_found, apart)
 
 same_operation : (v : Data) (op other : Operation) → ReadsOperation v op → ReadsOperation v other → other ≡ op
 same_operation v op other h g =
@@ -161,9 +127,7 @@ read_path_and_value v = of_object path_and_value v (λ is.
     (λ P. read_value path_and_value v (path_clears path_and_value v clear P.0 P.1) refl (held_at v (codes "value") is)))
 
 read_from_and_path : (v : Data) → (FoundText v (codes "from") × FoundText v (codes "path")) ⊎ Unread from_and_path v
-read_from_and_path v = of_object from_and_path v (λ is.
-    then (read_from from_and_path v (object_clears from_and_path v is) refl (text_at v (codes "from") is))
-    (λ F. read_path from_and_path v (past_from from_and_path v is (λ _. F)) (text_at v (codes "path") is)))
+read_from_and_path v = search (rules, of_object, then, read_from, object_clears, text_at, read_path, past_from)
 
 -- the members of an operation like this one are read, or there is a first fault
 abbrev FieldsOutcome : Data → Operation → Type 0
@@ -194,29 +158,11 @@ read_like_or_refused like v =
 -- ---- by the name in `op`
 
 unnamed : (v : Data) → (IsObject v → ⊥) → RefusesOperation v NotAnObject
-unnamed v n = record { here = n; none_before = before }
-  where
-    before : NoneBelow (IsOperationFault v) 2
-    before NotAList l f = f.2
-    before _ l f = absurd (omega arith)
+unnamed v n = search rules
 
 -- a first fault with the members that the named operation has is the first fault
 pub named_refused : (v : Data) (op : Operation) (kind : ReadKind) → get (codes "op") v ≡ Some (string (name_of op)) → RefusesFields (field_names op) v kind → RefusesOperation v kind
-named_refused v op kind e h = record { here = here kind h.here; none_before = before }
-  where
-    here : (kind : ReadKind) → IsFieldFault (field_names op) v kind → IsOperationFault v kind
-    here NotAnObject f = f
-    here MissingOp f = absurd f
-    here OpNotText f = absurd f
-    here UnknownOp f = absurd f
-    here _ f = (op, e, f)
-
-    before : NoneBelow (IsOperationFault v) (rank kind)
-    before NotAnObject l f = h.none_before NotAnObject l f
-    before MissingOp l f = found_lacks v (codes "op") _ e f
-    before OpNotText l f = found_text v (codes "op") _ e f
-    before UnknownOp l f = f.2 op (same_text v (codes "op") _ _ e f.1)
-    before other l f = h.none_before other l (field_fault v op f.0 other e f.1 f.2)
+named_refused v op kind e h = search rules
 
 abbrev At : Data → ReadKind → Type 0
 At v = IsOperationFault v
@@ -230,31 +176,16 @@ op_missing : (v : Data) → Lacks v (codes "op") → RefusesOperation v MissingO
 op_missing v h = record { here = h; none_before = op_clears v h.0 }
 
 op_no_text : (v : Data) → HasNoText v (codes "op") → RefusesOperation v OpNotText
-op_no_text v h = record { here = h; none_before = λ other l f. ⊎_elim (λ low. op_clears v (object_found (codes "op") v _ h.1) other low f) (λ high. at other high l f) (cases_lt (rank other) 3) }
-  where
-    at : (other : ReadKind) → 3 ≤ rank other → rank other < 4 → At v other → ⊥
-    at MissingOp g l f = found_lacks v (codes "op") _ h.1 f
-    at _ g l f = absurd (omega arith)
+op_no_text v h = search rules
 
 op_unknown : (v : Data) (n : List ℕ) → get (codes "op") v ≡ Some (string n) → IsUnknown n → RefusesOperation v UnknownOp
-op_unknown v n e h = record { here = (n, e, h); none_before = λ other l f. ⊎_elim (λ low. op_clears v (object_found (codes "op") v _ e) other low f) (λ high. at other high l f) (cases_lt (rank other) 3) }
-  where
-    at : (other : ReadKind) → 3 ≤ rank other → rank other < 5 → At v other → ⊥
-    at MissingOp g l f = found_lacks v (codes "op") _ e f
-    at OpNotText g l f = found_text v (codes "op") _ e f
-    at _ g l f = absurd (omega arith)
+op_unknown v n e h = search rules
 
 same_or_not : (a b : List ℕ) (r : Bool) → bytes_eq a b ≡ r → (a ≡ b) ⊎ (a ≡ b → ⊥)
-same_or_not a b true e = inl ((bytes_eq-Decides a b).0 e)
-same_or_not a b false e = inr (apart a b e)
+same_or_not a b r e = search rules
 
 unknown : (n : List ℕ) → (n ≡ codes "add" → ⊥) → (n ≡ codes "remove" → ⊥) → (n ≡ codes "replace" → ⊥) → (n ≡ codes "move" → ⊥) → (n ≡ codes "copy" → ⊥) → (n ≡ codes "test" → ⊥) → IsUnknown n
-unknown n a r p m c t (add P x) e = a (sym e)
-unknown n a r p m c t (remove P) e = r (sym e)
-unknown n a r p m c t (replace P x) e = p (sym e)
-unknown n a r p m c t (move F P) e = m (sym e)
-unknown n a r p m c t (copy F P) e = c (sym e)
-unknown n a r p m c t (test P x) e = t (sym e)
+unknown n a r p m c t h e = search rules
 
 abbrev Outcome : Data → Type 0
 Outcome v = ((op : Operation) × ReadsOperation v op) ⊎ ((kind : ReadKind) × RefusesOperation v kind)
@@ -345,11 +276,7 @@ list_read_or_refused ds =
 
 no_list : (v : Data) → RefusesPatch v None NotAList → ((ops : List Operation) → ReadsPatch v ops → ⊥) → ((k : ℕ) (kind : ReadKind) → RefusesPatch v (Some k) kind → ⊥)
     → ((kind : ReadKind) → RefusesPatch v None kind → kind ≡ NotAList) → IsUnread v None NotAList
-no_list v here never numbered only = record { refuses = here; alone = alone; never = never }
-  where
-    alone : (j : Option ℕ) (other : ReadKind) → RefusesPatch v j other → (j ≡ None) × (other ≡ NotAList)
-    alone None other g = (refl, only other g)
-    alone (Some j) other g = absurd (numbered j other g)
+no_list v here never numbered only = search rules
 
 -- a value reads as one patch, or is refused with one number and kind
 pub read_or_refused : (v : Data) → ((ops : List Operation) × IsRead v ops) ⊎ ((k : Option ℕ) × (kind : ReadKind) × IsUnread v k kind)
@@ -363,20 +290,10 @@ read_or_refused (object ms) = inr (None, NotAList, no_list (object ms) refl (λ 
 -- ---- what is written reads back
 
 written_reads : (op : Operation) → IsWholeOp op → ReadsOperation (written op) op
-written_reads (add P x) w = ((refl, (refl, (refl, tt))), w)
-written_reads (remove P) w = ((refl, (refl, tt)), w)
-written_reads (replace P x) w = ((refl, (refl, (refl, tt))), w)
-written_reads (move F P) w = ((refl, (refl, (refl, tt))), w)
-written_reads (copy F P) w = ((refl, (refl, (refl, tt))), w)
-written_reads (test P x) w = ((refl, (refl, (refl, tt))), w)
+written_reads op w = search rules
 
 written_fields_read : (op : Operation) → IsWholeOp op → ReadsFields (written_fields op) op
-written_fields_read (add P x) w = ((refl, (refl, tt)), w)
-written_fields_read (remove P) w = ((refl, tt), w)
-written_fields_read (replace P x) w = ((refl, (refl, tt)), w)
-written_fields_read (move F P) w = ((refl, (refl, tt)), w)
-written_fields_read (copy F P) w = ((refl, (refl, tt)), w)
-written_fields_read (test P x) w = ((refl, (refl, tt)), w)
+written_fields_read op w = search rules
 
 written_items_read : (ops : List Operation) → AreWhole ops → ReadsItems (items_of (map written ops)) ops
 written_items_read [] w = tt
@@ -384,12 +301,7 @@ written_items_read (op ∷ ops) w = (written_reads op w.0, written_items_read op
 
 -- what is written of an operation is a document, where its value is one
 written_document : (op : Operation) → IsWholeOp op → IsDocument (written op)
-written_document (add P x) w = ((refl, (refl, tt)), tt, ((refl, tt), tt, (tt, w, tt)))
-written_document (remove P) w = ((refl, tt), tt, (tt, tt, tt))
-written_document (replace P x) w = ((refl, (refl, tt)), tt, ((refl, tt), tt, (tt, w, tt)))
-written_document (move F P) w = ((refl, (refl, tt)), tt, ((refl, tt), tt, (tt, tt, tt)))
-written_document (copy F P) w = ((refl, (refl, tt)), tt, ((refl, tt), tt, (tt, tt, tt)))
-written_document (test P x) w = ((refl, (refl, tt)), tt, ((refl, tt), tt, (tt, w, tt)))
+written_document op w = search rules
 
 written_items_documents : (ops : List Operation) → AreWhole ops → AreDocuments (items_of (map written ops))
 written_items_documents [] w = tt

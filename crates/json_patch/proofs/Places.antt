@@ -1,5 +1,5 @@
 -- Locations under and beside another.
-use Rattle.std.proofs.Common.{◌≡◌, ℕ, ◌<◌, ◌≤◌, List, [], ◌∷◌, ◌++◌, ◌⊎◌, inl, inr, ⊎_elim, refl, sym, ap, subst, arith}
+use Rattle.std.proofs.Common.{◌≡◌, ℕ, ◌<◌, ◌≤◌, List, [], ◌∷◌, ◌++◌, ◌⊎◌, inl, inr, ⊎_elim, refl, sym, ap, subst, arith, rules}
 use Rattle.std.proofs.lemmas.Bool.{cases_lt}
 use Rattle.std.proofs.lemmas.List.{append_cancel_left}
 use Rattle.json_patch.specs.Document.{Step, key, place}
@@ -26,12 +26,10 @@ IsMoved L (key k) X = (R : List Step) × (X ≡ L ++ key k ∷ R)
 IsMoved L (place i) X = (j : ℕ) × (R : List Step) × (i ≤ j) × (X ≡ L ++ place j ∷ R)
 
 apart_beside : (L : List Step) (s : Step) (X : List Step) → IsApart L X → IsBeside L s X
-apart_beside L (key k) X out = λ R h. out (key k ∷ R) h
-apart_beside L (place i) X out = λ j R le h. out (place j ∷ R) h
+apart_beside L s X out = search rules
 
 beside_start : (s : Step) → IsBeside [] s []
-beside_start (key k) = λ R h. cc
-beside_start (place i) = λ j R le h. cc
+beside_start s = search rules
 
 next_cases : (s r : Step) (R : List Step) → IsMoved [] s (r ∷ R) ⊎ IsBeside [] s (r ∷ R)
 next_cases (key k) r R = ⊎_elim (λ e. inl (R, ap (λ x. x ∷ R) e)) (λ out. inr (λ Q h. out cc)) (step_cases r (key k))
@@ -45,16 +43,13 @@ split_cases s (r ∷ R) = next_cases s r R
 
 -- what holds below L, seen from the start
 moved_under : (L : List Step) (s : Step) (Y : List Step) → IsMoved [] s Y → IsMoved L s (L ++ Y)
-moved_under L (key k) Y m = (m.0, ap (λ Z. L ++ Z) m.1)
-moved_under L (place i) Y m = (m.0, m.1, m.2, ap (λ Z. L ++ Z) m.3)
+moved_under L s Y m = search rules
 
 beside_under : (L : List Step) (s : Step) (Y : List Step) → IsBeside [] s Y → IsBeside L s (L ++ Y)
-beside_under L (key k) Y b = λ R h. b R (append_cancel_left L Y (key k ∷ R) h)
-beside_under L (place i) Y b = λ j R le h. b j R le (append_cancel_left L Y (place j ∷ R) h)
+beside_under L s Y b = search (rules, append_cancel_left)
 
 pub beside_inside : (L : List Step) (s : Step) (Y : List Step) → IsBeside L s (L ++ Y) → IsBeside [] s Y
-beside_inside L (key k) Y b = λ R h. b R (ap (λ Z. L ++ Z) h)
-beside_inside L (place i) Y b = λ j R le h. b j R le (ap (λ Z. L ++ Z) h)
+beside_inside L s Y b = search rules
 
 moved_cases_at : (L : List Step) (s : Step) (Y : List Step) → IsMoved L s (L ++ Y) ⊎ IsBeside L s (L ++ Y)
 moved_cases_at L s Y = ⊎_elim (λ m. inl (moved_under L s Y m)) (λ b. inr (beside_under L s Y b)) (split_cases s Y)

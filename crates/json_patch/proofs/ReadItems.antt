@@ -1,5 +1,5 @@
 -- The operation that `op` names, and the items of a list, read one by one.
-use Rattle.std.proofs.Common.{◌≡◌, ◌<◌, ℕ, zero, suc, List, [], ◌∷◌, ◌++◌, take, length, get_or, subst, arith, Some, codes, Result, Ok, Err}
+use Rattle.std.proofs.Common.{◌≡◌, ◌<◌, ℕ, zero, suc, List, [], ◌∷◌, ◌++◌, take, length, get_or, subst, arith, Some, codes, Result, rules}
 use Rattle.std.specs.Prelude.{IsErrAnd}
 use Rattle.serde_json.specs.Data.{Data, Items, no_items, item, string}
 use Rattle.serde_json.specs.Find.{get}
@@ -9,10 +9,8 @@ use Rattle.json_patch.specs.Operation.{Operation, AreWhole, operation_of, operat
 use Rattle.json_patch.specs.PatchValue.{ReadsItems, ReadsOperation, RefusesItem, RefusesFields, RefusesOperation, name_of, field_names}
 use Rattle.json_patch.specs.ReadSteps.{IfUnread, OfKind}
 use Rattle.json_patch.specs.declared.reading.ItemFault.{ItemFault}
-use Rattle.json_patch.specs.declared.reading.ItemFault.TheVariants.{Refused, Memory}
 use Rattle.json_patch.specs.declared.error.ReadKind.{ReadKind}
 use Rattle.json_patch.specs.declared.operation.PatchOperation.{PatchOperation}
-use Rattle.json_patch.proofs.PatchValues.{named_refused}
 
 -- what is read is whole
 pub reads_whole : (ds : Items) (ops : List Operation) → ReadsItems ds ops → AreWhole ops
@@ -41,6 +39,4 @@ item_refused (w ∷ vs) (p ∷ os) (suc n) v kind l is h g = (operation_of p, h.
 -- the members of the operation that `op` names are at fault
 pub named_fault : {U : Type 0} (op : Operation) (v : Data) (n : List ℕ) (f : ItemFault) (r : Result U ItemFault) → get (codes "op") v ≡ Some (string n) → n ≡ name_of op
     → OfKind (RefusesFields (field_names op) v) f → IsErrAnd r (λ g. g ≡ f) → IfUnread r (RefusesOperation v)
-named_fault op v n f (Ok x) e is h at = absurd at
-named_fault op v n (Refused kind) (Err g) e is h at = rw at (named_refused v op kind (rw is at e) h)
-named_fault op v n (Memory error) (Err g) e is h at = rw at tt
+named_fault op v n f r e is h at = search rules

@@ -1,5 +1,5 @@
 -- The computed document is the one that remove leaves, and the only one.
-use Rattle.std.proofs.Common.{◌≡◌, ℕ, suc, List, [], ◌∷◌, ◌++◌, ⊎_elim, Some, None, refl, sym, ap, ◌∙◌, subst}
+use Rattle.std.proofs.Common.{◌≡◌, ℕ, List, [], ◌∷◌, ◌++◌, Some, None, refl, ap, subst, rules}
 use Rattle.std.proofs.lemmas.Option.{option_and_then_some}
 use Rattle.serde_json.specs.Data.{Data, array, object, Items, Members}
 use Rattle.json_patch.specs.Document.{IsDocument, Step, key, place, child, look}
@@ -26,14 +26,10 @@ item_elsewhere i ds (key q ∷ R) b = refl
 item_elsewhere i ds (place j ∷ R) b = below _ _ R (get_remove_before j i ds (not_from i j R b))
 
 drop_takes : (s : Step) (p c : Data) → IsDocument p → child s p ≡ Some c → TakesAt p (drop_child s p) [] s
-drop_takes (key k) (object ms) c h is = record { later = λ R. below _ _ R (get_without k ms h); elsewhere = member_elsewhere k ms }
-drop_takes (place i) (array ds) c h is = record { later = λ j R le. below _ _ R (get_remove_later j i ds le); elsewhere = item_elsewhere i ds }
-drop_takes s p c h is = cc
+drop_takes s p c h is = search (rules, below, get_without, member_elsewhere, get_remove_later, item_elsewhere)
 
 pub drop_document : (s : Step) (p : Data) → IsDocument p → IsDocument (drop_child s p)
-drop_document (key k) (object ms) h = without_members k ms h
-drop_document (place i) (array ds) h = remove_items i ds h
-drop_document s p h = h
+drop_document s p h = search (rules, without_members, remove_items)
 
 pub record TakesIn (t : List ℕ) (p q : Data) : Type 0 where
   pub s : Step
@@ -52,8 +48,7 @@ take_from_some : (t : List ℕ) (p : Data) (s : Step) (c : Data) → Names p t s
 take_from_some t p s c names stands = rw (names_step p t s names, stands)
 
 shifts_lift : (d e : Data) (L : List Step) (p q : Data) (s : Step) → Grafts d e L p q → ShiftsDown p q [] s → ShiftsDown d e L s
-shifts_lift d e L p q (key k) g h = λ R. g.after (key k ∷ R) ∙ h R
-shifts_lift d e L p q (place i) g h = λ j R le. g.after (place j ∷ R) ∙ h j R le ∙ sym (g.before (place (suc j) ∷ R))
+shifts_lift d e L p q s g h = search rules
 
 takes_lift : (d e : Data) (L : List Step) (p q : Data) (s : Step) → Grafts d e L p q → TakesAt p q [] s → TakesAt d e L s
 takes_lift d e L p q s g h = record { later = shifts_lift d e L p q s g h.later; elsewhere = elsewhere_lift d e L p q s g h.elsewhere }
@@ -93,16 +88,10 @@ removed_there d (t ∷ P) L s c hd h =
     (a.0, removed_is d (t ∷ P) a.0 hd a.1)
 
 takes_moved : (d e f : Data) (L : List Step) (s : Step) (X : List Step) → TakesAt d e L s → TakesAt d f L s → IsMoved L s X → look e X ≡ look f X
-takes_moved d e f L (key k) X h g m = rw m.1 (h.later m.0 ∙ sym (g.later m.0))
-takes_moved d e f L (place i) X h g m = rw m.3 (h.later m.0 m.1 m.2 ∙ sym (g.later m.0 m.1 m.2))
+takes_moved d e f L s X h g m = search rules
 
 takes_same : (d e f : Data) (L : List Step) (s : Step) → TakesAt d e L s → TakesAt d f L s → (X : List Step) → look e X ≡ look f X
-takes_same d e f L s h g X =
-    ⊎_elim (λ m. takes_moved d e f L s X h g m) (λ b. h.elsewhere X b ∙ sym (g.elsewhere X b)) (moved_cases L s X)
+takes_same d e f L s h g X = search (rules, takes_moved, moved_cases)
 
 pub removed_one : (d : Data) (P : List (List ℕ)) (e f : Data) → IsRemoved d P e → IsRemoved d P f → e ≡ f
-removed_one d P e f h g =
-    let same : (h.0 ≡ g.0) × (h.1 ≡ g.1) = last_same h.0 g.0 h.1 g.1 (resolves_same d P (h.0 ++ h.1 ∷ []) (g.0 ++ g.1 ∷ []) h.2 g.2 h.3 g.3).0 in
-    let a : TakesAt d f h.0 g.1 = subst (λ L. TakesAt d f L g.1) (sym same.0) g.5 in
-    let b : TakesAt d f h.0 h.1 = subst (λ s. TakesAt d f h.0 s) (sym same.1) a in
-    alike e f h.4 g.4 (takes_same d e f h.0 h.1 h.5 b)
+removed_one d P e f h g = search (rules, last_same, resolves_same, alike, takes_same)

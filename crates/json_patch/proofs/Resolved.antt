@@ -1,34 +1,19 @@
 -- Steps, pointers and their locations.
-use Rattle.std.proofs.Common.{◌≡◌, ℕ, List, [], ◌∷◌, ◌++◌, Option, Some, None, option_map, refl, sym, ap, ◌∙◌, subst}
-use Rattle.serde_json.specs.Data.{Data, array, object}
-use Rattle.jsonptr.specs.Places.{place_of}
-use Rattle.json_patch.specs.Document.{IsDocument, Step, key, place, child}
+use Rattle.std.proofs.Common.{◌≡◌, ℕ, List, [], ◌∷◌, ◌++◌, Option, Some, option_map, refl, sym, ap, ◌∙◌, subst, rules}
+use Rattle.serde_json.specs.Data.{Data}
+use Rattle.json_patch.specs.Document.{IsDocument, Step, child}
 use Rattle.json_patch.specs.Resolve.{Names, Resolves}
 use Rattle.json_patch.specs.ChangeComputed.{step_of, front_of, last_of}
 use Rattle.json_patch.proofs.Children.{child_document}
 
 pub option_map_some : {A B P : Type 0} (f : A → B) (o : Option A) (y : B) → option_map f o ≡ Some y → ((x : A) → o ≡ Some x → f x ≡ y → P) → P
-option_map_some f None y is k = cc
-option_map_some f (Some x) y is k = k x refl cc
-
-place_named : (o : Option ℕ) (i : ℕ) → option_map place o ≡ Some (place i) → o ≡ Some i
-place_named None i h = cc
-place_named (Some j) i h = cc
-
-no_key : (o : Option ℕ) (k : List ℕ) → option_map place o ≡ Some (key k) → ⊥
-no_key None k h = cc
-no_key (Some j) k h = cc
+option_map_some f o y is k = search rules
 
 pub step_names : (d : Data) (t : List ℕ) (s : Step) → step_of d t ≡ Some s → Names d t s
-step_names (object ms) t (key k) is = cc
-step_names (array ds) t (place i) is = place_named (place_of t) i is
-step_names (array ds) t (key k) is = no_key (place_of t) k is
-step_names d t s is = cc
+step_names d t s is = search rules
 
 pub names_step : (d : Data) (t : List ℕ) (s : Step) → Names d t s → step_of d t ≡ Some s
-names_step (object ms) t (key k) h = cc
-names_step (array ds) t (place i) h = ap (option_map place) h
-names_step d t s h = absurd h
+names_step d t s h = search rules
 
 pub names_same : (d : Data) (t : List ℕ) (s r : Step) → Names d t s → Names d t r → s ≡ r
 names_same d t s r h k = let a : step_of d t ≡ Some s = names_step d t s h in let b : step_of d t ≡ Some r = names_step d t r k in cc

@@ -1,5 +1,5 @@
 -- A run ends exactly where it is computed to end; joined lists.
-use Rattle.std.proofs.Common.{◌≡◌, ◌+◌, inl, inr, ℕ, zero, suc, List, [], ◌∷◌, ◌++◌, length, take, Result, Ok, Err, refl, sym, ap, ◌∙◌, subst, arith}
+use Rattle.std.proofs.Common.{◌≡◌, ◌+◌, inl, inr, ℕ, zero, suc, List, [], ◌∷◌, ◌++◌, length, Result, Ok, Err, refl, sym, ap, ◌∙◌, subst, arith, rules}
 use Rattle.serde_json.specs.Data.{Data}
 use Rattle.json_patch.specs.Document.{IsDocument}
 use Rattle.json_patch.specs.Operation.{Operation, test, IsWholeOp, AreWhole}
@@ -23,12 +23,10 @@ refuses_ran d (op ∷ ops) (suc k) kind hd hv h =
 -- ---- where a run ends, found out
 
 counted_ok : (o : Outcome) (e : Data) → counted o ≡ Ok e → o ≡ Ok e
-counted_ok (Ok f) e h = h
-counted_ok (Err (fault k kind)) e h = cc
+counted_ok o e h = search rules
 
 counted_err : (o : Outcome) (k : ℕ) (kind : PatchErrorKind) → counted o ≡ Err (fault k kind) → (j : ℕ) × (k ≡ suc j) × (o ≡ Err (fault j kind))
-counted_err (Ok f) k kind h = cc
-counted_err (Err (fault j other)) k kind h = (j, cc, cc)
+counted_err o k kind h = search rules
 
 module _ (d : Data) (op : Operation) (ops : List Operation) (hd : IsDocument d) (hv : IsWholeOp op) where
   accepts_on : (r : Result Data PatchErrorKind) (e : Data) → stepped d op ≡ r → ((m : Data) → IsDocument m → ran m ops ≡ Ok e → Accepts m ops e)
@@ -60,18 +58,10 @@ ran_refuses d (op ∷ ops) k kind hd hv is = refuses_on d op ops hd hv.0 (steppe
 
 module _ (d : Data) (ops : List Operation) (hd : IsDocument d) (hv : AreWhole ops) where
   pub accepted : (e : Data) → ran d ops ≡ Ok e → IsAccepted d ops e
-  accepted e is = record {
-    accepts = ran_accepts d ops e hd hv is;
-    end = λ f h. (let a : ran d ops ≡ Ok f = accepts_ran d ops f hd hv h in cc);
-    nowhere = λ k kind h. (let a : ran d ops ≡ Err (fault k kind) = refuses_ran d ops k kind hd hv h in cc);
-  }
+  accepted e is = search (rules, ran_accepts, accepts_ran, refuses_ran)
 
   refused : (k : ℕ) (kind : PatchErrorKind) → ran d ops ≡ Err (fault k kind) → IsRefused d ops k kind
-  refused k kind is = record {
-    refuses = ran_refuses d ops k kind hd hv is;
-    here = λ j other h. (let a : ran d ops ≡ Err (fault j other) = refuses_ran d ops j other hd hv h in let b : ◌≡◌ {A = Outcome} (Err (fault j other)) (Err (fault k kind)) = sym a ∙ is in (cc, cc));
-    never = λ e h. (let a : ran d ops ≡ Ok e = accepts_ran d ops e hd hv h in cc);
-  }
+  refused k kind is = search (rules, ran_refuses, refuses_ran, accepts_ran)
 
   on_outcome : (o : Outcome) → ran d ops ≡ o → Ends d ops
   on_outcome (Ok e) is = inl (e, accepted e is)

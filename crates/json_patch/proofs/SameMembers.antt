@@ -1,5 +1,5 @@
 -- Objects whose members stand in order are the same where each name has the same in both.
-use Rattle.std.proofs.Common.{◌≡◌, ◌↔◌, ℕ, List, Option, Some, Ordering, Less, Equal, Greater, nat_cmp, refl, subst}
+use Rattle.std.proofs.Common.{◌≡◌, ◌↔◌, ℕ, List, Option, Some, Ordering, Less, Equal, Greater, nat_cmp, refl, subst, rules}
 use Rattle.std.specs.Cmp.Lexicographic.{slice_cmp}
 use Rattle.std.specs.Ordering.{match_ordering}
 use Rattle.serde_json.specs.Data.{Data, object, Members, no_members, member}
@@ -12,9 +12,7 @@ abbrev AreSameByName : Members → Members → Type 0
 AreSameByName ms ns = (q : List ℕ) → AreSameAt (get_member q ms) (get_member q ns)
 
 at_first : (o : Ordering) (d e : Data) (f g : Option Data) → AreSame d e → AreSameAt f g → AreSameAt (match_ordering o f (Some d) f) (match_ordering o g (Some e) g)
-at_first Less d e f g h rest = rest
-at_first Equal d e f g h rest = h
-at_first Greater d e f g h rest = rest
+at_first o d e f g h rest = search rules
 
 by_name : (ms ns : Members) → AreSameMembers ms ns → AreSameByName ms ns
 by_name no_members no_members h q = tt

@@ -1,23 +1,19 @@
 -- On documents equality is `≡`, and what a comparison answers is what it says.
-use Rattle.std.proofs.Common.{◌≡◌, ◌↔◌, IsTrue, List, [], ◌∷◌, Bool, true, Option, Some, None, IfSome, refl, sym, ap, subst}
+use Rattle.std.proofs.Common.{◌≡◌, ◌↔◌, IsTrue, List, [], ◌∷◌, Bool, true, Option, Some, None, IfSome, refl, sym, ap, subst, rules}
 use Rattle.std.specs.Bool.{Decides}
 use Rattle.std.specs.Cmp.Lexicographic.{pointwise}
 use Rattle.std.specs.Ordering.{on}
-use Rattle.std.proofs.lemmas.Bool.Decides.{Decides-and, Decides-at, Decides-like, not_from_Decides}
-use Rattle.std.proofs.lemmas.Slice.Eq.{bytes_eq-Decides}
-use Rattle.serde_json.specs.Data.{Num, unsigned, negative, float, Data, null, boolean, number, string, array, object, Items, no_items, item, Members, no_members, member}
+use Rattle.std.proofs.lemmas.Bool.Decides.{Decides-and, Decides-at, Decides-like}
+use Rattle.serde_json.specs.Data.{Num, Data, null, boolean, number, string, array, object, Items, no_items, item, Members, no_members, member}
 use Rattle.json_patch.specs.Document.{IsDocument, AreDocuments, AreMembers, IsWhole}
-use Rattle.json_patch.specs.Operation.{Operation, Parts, add, remove, replace, move, copy, test, parts_of, operation_of, operations, IsWholeOp, AreWhole}
+use Rattle.json_patch.specs.Operation.{Operation, Parts, parts_of, operation_of, operations, IsWholeOp, AreWhole}
 use Rattle.json_patch.specs.declared.operation.PatchOperation.{PatchOperation}
 use Rattle.json_patch.specs.Same.{AreSameNumbers, AreSame, AreSameItems, AreSameMembers, AreSameAt, AreSameParts, AreSameOperations, AreSameLists}
 use Rattle.json_patch.specs.SameComputed.{same, same_parts, same_operation}
 use Rattle.json_patch.specs.SameLaws.{AreSame-refl, AreSame-sym, same-Decides, parts-refl, parts-Decides}
 
 numbers-is : (m n : Num) → IsWhole m → AreSameNumbers m n → m ≡ n
-numbers-is (unsigned m) (unsigned n) w h = ap unsigned h
-numbers-is (negative y) (negative z) w h = ap negative h
-numbers-is (float x) n w h = absurd w
-numbers-is _ _ w h = absurd h
+numbers-is m n w h = search rules
 
 mutual
   pub AreSame-is : (d e : Data) → IsDocument d → AreSame d e → d ≡ e
@@ -52,17 +48,10 @@ at-is _ _ w h = absurd h
 
 -- an operation is what its parts are
 one_operation : (op other : Operation) → parts_of op ≡ parts_of other → op ≡ other
-one_operation (add P v) (add Q w) h = let p : P ≡ Q = ap (λ x. x.path) h in let o : Some v ≡ Some w = ap (λ x. x.value) h in cc
-one_operation (remove P) (remove Q) h = ap (λ x. remove x.path) h
-one_operation (replace P v) (replace Q w) h = let p : P ≡ Q = ap (λ x. x.path) h in let o : Some v ≡ Some w = ap (λ x. x.value) h in cc
-one_operation (move F P) (move G Q) h = let p : P ≡ Q = ap (λ x. x.path) h in let o : Some F ≡ Some G = ap (λ x. x.from) h in cc
-one_operation (copy F P) (copy G Q) h = let p : P ≡ Q = ap (λ x. x.path) h in let o : Some F ≡ Some G = ap (λ x. x.from) h in cc
-one_operation (test P v) (test Q w) h = let p : P ≡ Q = ap (λ x. x.path) h in let o : Some v ≡ Some w = ap (λ x. x.value) h in cc
-one_operation _ _ h = absurd (not_from_Decides _ (bytes_eq-Decides _ _) refl (ap (λ x. x.name) h))
+one_operation op other h = search rules
 
 operation-is : (op other : Operation) → IsWholeOp op → AreSameOperations op other → op ≡ other
-operation-is op other w h =
-    one_operation op other (λ i. record { name = h.name i; from = h.from i; path = h.path i; value = at-is (parts_of op).value (parts_of other).value w h.value i })
+operation-is op other w h = search (rules, one_operation, at-is)
 
 lists-is : (ops others : List Operation) → AreWhole ops → AreSameLists ops others → ops ≡ others
 lists-is [] [] hv h = refl

@@ -1,5 +1,5 @@
 -- The tokens that a list shares are those that are computed.
-use Rattle.std.proofs.Common.{◌≡◌, ◌↔◌, ◌+◌, ◌<◌, ◌≤◌, ℕ, zero, suc, List, [], ◌∷◌, ◌++◌, length, drop, add-one, arith, append_assoc, append-nil, Bool, true, false, bytes_eq, if◌then◌else◌, Option, Some, None, IfNone, refl, sym, ap, ◌∙◌, subst}
+use Rattle.std.proofs.Common.{◌≡◌, ◌↔◌, ◌+◌, ◌<◌, ◌≤◌, ℕ, zero, suc, List, [], ◌∷◌, ◌++◌, length, drop, add-one, arith, append_assoc, append-nil, Bool, true, bytes_eq, if◌then◌else◌, Option, Some, None, IfNone, refl, sym, ap, ◌∙◌, subst, rules}
 use Rattle.std.proofs.lemmas.Slice.Eq.{bytes_eq-Decides}
 use Rattle.jsonptr.specs.Text.{Pointer, IsPrefix, IsProperPrefix, IsLongestShared}
 use Rattle.json_patch.specs.Operation.{Operation, add, remove, replace, move, copy, test, operation_of, operations, path_of, from_of}
@@ -20,8 +20,7 @@ prefix_more : (t : List ℕ) (P Q : Pointer) → IsPrefix P Q → IsPrefix (t �
 prefix_more t P Q h = (h.0, ap (λ X. t ∷ X) h.1)
 
 either : (b : Bool) (X : Pointer → Type 0) (P : Pointer) → (b ≡ true → X P) → X [] → X (if b then P else [])
-either true X P h g = h refl
-either false X P h g = g
+either b X P h g = search rules
 
 common_left : (P Q : Pointer) → IsPrefix (common P Q) P
 common_left [] Q = ([], refl)
@@ -121,13 +120,7 @@ begun_within S (copy F P ∷ ops) h = ((h.0, h.1.0), begun_within S ops h.1.1)
 begun_within S (test P v ∷ ops) h = (h.0, begun_within S ops h.1)
 
 some_pointers : (ops : List Operation) → IsNotEmpty ops → all_pointers ops ≡ [] → ⊥
-some_pointers [] h e = h
-some_pointers (add P v ∷ ops) h e = cc
-some_pointers (remove P ∷ ops) h e = cc
-some_pointers (replace P v ∷ ops) h e = cc
-some_pointers (move F P ∷ ops) h e = cc
-some_pointers (copy F P ∷ ops) h e = cc
-some_pointers (test P v ∷ ops) h e = cc
+some_pointers ops h e = search rules
 
 pub shared_is : (ops : List Operation) (S : Pointer) → shared ops ≡ Some S → IsShared ops S
 shared_is [] S is = cc
@@ -172,20 +165,10 @@ proper_prefix T A a h =
     subst (IsPrefix T) (sym (split_is y.0 y.1 A a (sym y.2)).0) (proper_front T y.0 y.1 (subst (IsProperPrefix T) y.2 h))
 
 alone_within : (T : Pointer) (op : Operation) → from_of op ≡ None → IsWithin T op ↔ IsProperPrefix T (path_of op)
-alone_within T (add P v) none = (λ h. h, λ h. h)
-alone_within T (remove P) none = (λ h. h, λ h. h)
-alone_within T (replace P v) none = (λ h. h, λ h. h)
-alone_within T (move F P) none = cc
-alone_within T (copy F P) none = cc
-alone_within T (test P v) none = (λ h. h, λ h. h)
+alone_within T op none = search rules
 
 both_within : (T F : Pointer) (op : Operation) → from_of op ≡ Some F → IsWithin T op ↔ (IsProperPrefix T F × IsProperPrefix T (path_of op))
-both_within T F (add P v) some = cc
-both_within T F (remove P) some = cc
-both_within T F (replace P v) some = cc
-both_within T F (move G P) some = let same : G ≡ F = cc in (λ h. (subst (IsProperPrefix T) same h.0, h.1), λ h. (subst (IsProperPrefix T) (sym same) h.0, h.1))
-both_within T F (copy G P) some = let same : G ≡ F = cc in (λ h. (subst (IsProperPrefix T) same h.0, h.1), λ h. (subst (IsProperPrefix T) (sym same) h.0, h.1))
-both_within T F (test P v) some = cc
+both_within T F op some = search rules
 
 pub root_within : (op : Operation) → path_of op ≡ [] → (T : Pointer) → IsWithin T op → ⊥
 root_within (add P v) root T h = no_proper T (subst (IsProperPrefix T) root h)
@@ -254,5 +237,4 @@ pub first_shares_none : (os rest : List PatchOperation) (first : PatchOperation)
 first_shares_none os rest first is none T shared = none T (subst (λ xs. AreWithin T (operations xs)) is shared.within).0
 
 pub even_if_none : {T : Type 0} (o : Option T) (P : Type 0) → P → IfNone o P
-even_if_none None P h = h
-even_if_none (Some x) P h = tt
+even_if_none o P h = search rules

@@ -1,5 +1,5 @@
 -- Where a token puts a new child, and what that leaves.
-use Rattle.std.proofs.Common.{◌≡◌, ℕ, ◌<◌, ◌≤◌, List, [], ◌∷◌, inl, inr, ⊎_elim, Bool, true, false, if◌then◌else◌, leb, bytes_eq, Option, Some, None, option_map, option_and_then, refl, sym, ap, ◌∙◌, subst, arith}
+use Rattle.std.proofs.Common.{◌≡◌, ℕ, ◌<◌, ◌≤◌, List, [], ◌∷◌, ⊎_elim, Bool, true, false, if◌then◌else◌, leb, bytes_eq, Option, Some, None, option_map, option_and_then, refl, ap, arith, rules}
 use Rattle.std.proofs.lemmas.Bool.{cases_lt}
 use Rattle.std.proofs.lemmas.Bool.Decides.{nat_tests}
 use Rattle.std.proofs.lemmas.Slice.Eq.{bytes_eq-Decides}
@@ -17,17 +17,11 @@ use Rattle.json_patch.proofs.Items.{get_insert, get_insert_later, get_insert_bef
 use Rattle.json_patch.proofs.Resolved.{option_map_some}
 
 within : (b : Bool) (j n i : ℕ) → leb j n ≡ b → (if b then Some j else None) ≡ Some i → (j ≡ i) × (j ≤ n)
-within true j n i is h = (cc, grind (arith, nat_tests))
-within false j n i is h = cc
+within b j n i is h = search rules
 
 slot_at : (b : Bool) (o : Option ℕ) (t : List ℕ) (ds : Items) (i : ℕ) → bytes_eq t next_token ≡ b → place_of t ≡ o
     → (if b then Some (items_len ds) else option_and_then (λ j. if leb j (items_len ds) then Some j else None) o) ≡ Some i → Aims (array ds) t (place i)
-slot_at true o t ds i next is h = inr ((bytes_eq-Decides t next_token).0 next, cc)
-slot_at false None t ds i next is h = cc
-slot_at false (Some j) t ds i next is h =
-    let w : (j ≡ i) × (j ≤ items_len ds) = within (leb j (items_len ds)) j (items_len ds) i refl h in
-    let e : j ≡ i = w.0 in let le : j ≤ items_len ds = w.1 in
-    inl (is ∙ ap Some e, omega arith)
+slot_at b o t ds i next is h = search rules
 
 pub slot_aims : (t : List ℕ) (ds : Items) (i : ℕ) → slot_of t ds ≡ Some i → Aims (array ds) t (place i)
 slot_aims t ds i h = slot_at (bytes_eq t next_token) (place_of t) t ds i refl refl h
@@ -36,14 +30,10 @@ fits : (i n : ℕ) → i ≤ n → leb i n ≡ true
 fits i n le = grind (arith, nat_tests)
 
 not_next : (b : Bool) (t : List ℕ) (i : ℕ) → bytes_eq t next_token ≡ b → place_of t ≡ Some i → b ≡ false
-not_next true t i is h = let e : t ≡ next_token = (bytes_eq-Decides t next_token).0 is in let p : place_of t ≡ None = ap place_of e ∙ next_is_no_place in cc
-not_next false t i is h = refl
+not_next b t i is h = search (rules, bytes_eq-Decides, next_is_no_place)
 
 pub slot_some : (t : List ℕ) (ds : Items) (i : ℕ) → Aims (array ds) t (place i) → slot_of t ds ≡ Some i
-slot_some t ds i h =
-    ⊎_elim
-    (λ (a : (place_of t ≡ Some i) × (i ≤ items_len ds)). rw (not_next (bytes_eq t next_token) t i refl a.0, a.0, fits i (items_len ds) a.1))
-    (λ (a : (t ≡ next_token) × (i ≡ items_len ds)). rw a.0 (ap Some (sym a.1))) h
+slot_some t ds i h = search (rules, not_next, bytes_eq, fits)
 
 pub aims_put : (v : Data) (t : List ℕ) (p : Data) (s : Step) → Aims p t s → (q : Data) × (put_in v t p ≡ Some q)
 aims_put v t (object ms) (key k) h = (object (put t v ms), refl)
@@ -106,6 +96,4 @@ put_item_in v t ds i is =
     }
 
 pub put_in_puts : (v : Data) (t : List ℕ) (p q : Data) → put_in v t p ≡ Some q → PutsIn v t p q
-put_in_puts v t (object ms) q is = let e : object (put t v ms) ≡ q = cc in subst (PutsIn v t (object ms)) e (put_member_in v t ms)
-put_in_puts v t (array ds) q is = option_map_some _ (slot_of t ds) q is (λ i slot whole. subst (PutsIn v t (array ds)) whole (put_item_in v t ds i slot))
-put_in_puts v t p q is = cc
+put_in_puts v t p q is = search (rules, put_member_in, option_map_some, put_item_in)

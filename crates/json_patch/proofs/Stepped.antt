@@ -1,5 +1,5 @@
 -- An operation leaves, or is refused for, exactly what is computed.
-use Rattle.std.proofs.Common.{◌≡◌, ◌&&◌, ℕ, List, [], ◌∷◌, ◌++◌, Bool, true, false, true≢false, bytes_eq, if◌then◌else◌, Option, Some, None, Ok, Err, refl, sym, ap, ◌∙◌, subst}
+use Rattle.std.proofs.Common.{◌≡◌, ◌&&◌, ℕ, List, [], ◌∷◌, ◌++◌, Bool, true, false, true≢false, bytes_eq, if◌then◌else◌, Option, Some, None, Ok, Err, refl, sym, ap, ◌∙◌, subst, rules}
 use Rattle.std.proofs.lemmas.Slice.Eq.{bytes_eq-Decides}
 use Rattle.serde_json.specs.Data.{Data}
 use Rattle.jsonptr.specs.Text.{Pointer, IsProperPrefix}
@@ -24,8 +24,7 @@ use Rattle.json_patch.proofs.Exact.{added_exact, removed_exact, replaced_exact}
 -- ---- proper prefixes
 
 both : (a b : Bool) → a && b ≡ true → (a ≡ true) × (b ≡ true)
-both true b h = (refl, h)
-both false b h = cc
+both a b h = search rules
 
 pub begins_prefix : (P Q : Pointer) → begins P Q ≡ true → IsProperPrefix P Q
 begins_prefix [] [] h = cc
@@ -46,8 +45,7 @@ pub prefix_begins : (P Q : Pointer) → IsProperPrefix P Q → begins P Q ≡ tr
 prefix_begins P Q h = ap (begins P) h.2 ∙ begins_long P h.0 h.1
 
 is_false : (b : Bool) → (b ≡ true → ⊥) → b ≡ false
-is_false true h = absurd (h refl)
-is_false false h = refl
+is_false b h = search rules
 
 pub not_begins : (P Q : Pointer) → (IsProperPrefix P Q → ⊥) → begins P Q ≡ false
 not_begins P Q h = is_false (begins P Q) (λ e. h (begins_prefix P Q e))
@@ -58,16 +56,13 @@ not_prefix P Q is h = let a : begins P Q ≡ true = prefix_begins P Q h in cc
 -- ---- options
 
 none_of : {A : Type 0} (o : Option A) → ((e : A) → o ≡ Some e → ⊥) → o ≡ None
-none_of None h = refl
-none_of (Some e) h = absurd (h e refl)
+none_of o h = search rules
 
 pub or_ok : (kind : PatchErrorKind) (o : Option Data) (e : Data) → or_refused kind o ≡ Ok e → o ≡ Some e
-or_ok kind None e h = cc
-or_ok kind (Some f) e h = cc
+or_ok kind o e h = search rules
 
 pub or_err : (kind other : PatchErrorKind) (o : Option Data) → or_refused kind o ≡ Err other → (o ≡ None) × (kind ≡ other)
-or_err kind other None h = (refl, cc)
-or_err kind other (Some f) h = cc
+or_err kind other o h = search rules
 
 -- ---- what stands, and what is never left
 
@@ -105,8 +100,7 @@ same_other : (w v : Data) → IsDocument v → (w ≡ v → ⊥) → same w v �
 same_other w v hv other = is_false (same w v) (λ h. other (same-is w v hv h))
 
 moved_none : (P : Pointer) (o : Option Data) → moved P o None ≡ Err InvalidFromPointer
-moved_none P None = refl
-moved_none P (Some v) = refl
+moved_none P o = search rules
 
 pub leaves_stepped : (d : Data) (op : Operation) (e : Data) → IsDocument d → IsWholeOp op → Leaves d op e → stepped d op ≡ Ok e
 leaves_stepped d (add P v) e hd hv h = ap (or_refused InvalidPointer) (added_exact d P v e hd hv h)
@@ -143,8 +137,7 @@ added_leaves : (d : Data) (P : Pointer) (v e : Data) → IsDocument d → IsDocu
 added_leaves d P v e hd hv is = added_is d P v e hd hv (or_ok InvalidPointer (added d P v) e is)
 
 added_refused : (d : Data) (P : Pointer) (v : Data) (kind : PatchErrorKind) → or_refused InvalidPointer (added d P v) ≡ Err kind → (InvalidPointer ≡ kind) × Never (IsAdded d P v)
-added_refused d P v kind is =
-    let h = or_err InvalidPointer kind (added d P v) is in (h.1, λ e. added_none d P v e h.0)
+added_refused d P v kind is = search (rules, or_err, added_none)
 
 module _ (d : Data) (F P : Pointer) (hd : IsDocument d) where
   move_leaves : (b : Bool) (o p : Option Data) (e : Data) → begins F P ≡ b → found d F ≡ o → removed d F ≡ p → (if b then Err CannotMoveInsideItself else moved P o p) ≡ Ok e
@@ -184,12 +177,10 @@ module _ (d : Data) (F P : Pointer) (hd : IsDocument d) where
 
 module _ (d : Data) (P : Pointer) (v : Data) where
   test_leaves : (b : Bool) (w e : Data) → IsDocument v → found d P ≡ Some w → same w v ≡ b → (if b then Ok d else Err TestFailed) ≡ Ok e → Leaves d (test P v) e
-  test_leaves true w e hv f s is = (found_resolves d P v (f ∙ ap Some (same-is w v hv s)), cc)
-  test_leaves false w e hv f s is = cc
+  test_leaves b w e hv f s is = search (rules, found_resolves, same-is)
 
   test_leaves_at : (o : Option Data) (e : Data) → IsDocument v → found d P ≡ o → tested d v o ≡ Ok e → Leaves d (test P v) e
-  test_leaves_at None e hv f is = cc
-  test_leaves_at (Some w) e hv f is = test_leaves (same w v) w e hv f refl is
+  test_leaves_at o e hv f is = search (rules, test_leaves)
 
   test_refused : (b : Bool) (w : Data) (kind : PatchErrorKind) → IsDocument v → found d P ≡ Some w → same w v ≡ b → (if b then Ok d else Err TestFailed) ≡ Err kind → Refuses d (test P v) kind
   test_refused true w kind hv f s is = cc
@@ -202,12 +193,7 @@ module _ (d : Data) (P : Pointer) (v : Data) where
   test_refused_at (Some w) kind hv f is = test_refused (same w v) w kind hv f refl is
 
 pub stepped_leaves : (d : Data) (op : Operation) (e : Data) → IsDocument d → IsWholeOp op → stepped d op ≡ Ok e → Leaves d op e
-stepped_leaves d (add P v) e hd hv is = added_leaves d P v e hd hv is
-stepped_leaves d (remove P) e hd hv is = removed_is d P e hd (or_ok InvalidPointer (removed d P) e is)
-stepped_leaves d (replace P v) e hd hv is = replaced_is d P v e hd hv (or_ok InvalidPointer (replaced d P v) e is)
-stepped_leaves d (move F P) e hd hv is = move_leaves d F P hd (begins F P) (found d F) (removed d F) e refl refl refl is
-stepped_leaves d (copy F P) e hd hv is = copy_leaves d F P hd (found d F) e refl is
-stepped_leaves d (test P v) e hd hv is = test_leaves_at d P v (found d P) e hv refl is
+stepped_leaves d op e hd hv is = search (rules, added_leaves, removed_is, or_ok, replaced_is, move_leaves, copy_leaves, test_leaves_at)
 
 pub stepped_refuses : (d : Data) (op : Operation) (kind : PatchErrorKind) → IsDocument d → IsWholeOp op → stepped d op ≡ Err kind → Refuses d op kind
 stepped_refuses d (add P v) kind hd hv is = let h = added_refused d P v kind is in subst (Refuses d (add P v)) h.0 h.1

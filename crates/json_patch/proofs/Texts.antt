@@ -1,5 +1,5 @@
 -- What is written for characters, values and operations.
-use Rattle.std.proofs.Common.{◌≡◌, ◌≢◌, ℕ, zero, suc, ◌<◌, ◌/◌, ◌%◌, ◌^◌, ◌-◌, ◌&&◌, Bool, true, false, List, [], ◌∷◌, ◌++◌, Option, Some, None, option_map, codes, bytes_eq, chars, flat_map, encode_utf8, IsUtf8, length, append_assoc, append-nil, inl, inr, refl, sym, ap, ◌∙◌, arith, ne_eqb, lt-ltb}
+use Rattle.std.proofs.Common.{◌≡◌, ◌≢◌, ℕ, zero, suc, ◌<◌, ◌/◌, ◌%◌, ◌^◌, ◌-◌, ◌&&◌, Bool, true, false, List, [], ◌∷◌, ◌++◌, Option, Some, None, option_map, codes, bytes_eq, chars, flat_map, encode_utf8, IsUtf8, length, append_assoc, append-nil, inl, inr, refl, sym, ap, ◌∙◌, arith, rules}
 use Rattle.std.proofs.lemmas.Bool.{and_parts, cases_eq}
 use Rattle.std.proofs.lemmas.Slice.Eq.{bytes_eq-Decides}
 use Rattle.std.proofs.lemmas.Str.{chars-nil, chars_past_char}
@@ -38,8 +38,7 @@ abbrev pub hexadecimal : ℕ → List ℕ
 hexadecimal c = codes "\\u00" ++ digit_char (c / 16) ∷ digit_char (c % 16) ∷ []
 
 pub escaped_control : (c : ℕ) → c < 32 → c ≢ 8 → c ≢ 9 → c ≢ 10 → c ≢ 12 → c ≢ 13 → escaped c ≡ hexadecimal c
-escaped_control c below b t n f r =
-    rw (ne_eqb c 34 (λ e. omega arith), ne_eqb c 92 (λ e. omega arith), ne_eqb c 8 b, ne_eqb c 12 f, ne_eqb c 10 n, ne_eqb c 13 r, ne_eqb c 9 t, lt-ltb c 32 below)
+escaped_control c below b t n f r = search rules
 
 pub hexadecimal-four_digits : (c : ℕ) → c < 32 → 92 ∷ 117 ∷ four_digits c ≡ hexadecimal c
 hexadecimal-four_digits c below =
@@ -49,8 +48,7 @@ hexadecimal-four_digits c below =
 
 pub escaped_more : (done text rest whole : List ℕ) (c : ℕ) → IsUtf8 text → text ≡ encode_utf8 c ++ rest
     → done ++ flat_map escaped (chars text) ≡ whole → (done ++ escaped c) ++ flat_map escaped (chars rest) ≡ whole
-escaped_more done text rest whole c utf8 step h =
-    append_assoc done (escaped c) _ ∙ ap (λ cs. done ++ flat_map escaped cs) (sym (chars_past_char text rest c utf8 step)) ∙ h
+escaped_more done text rest whole c utf8 step h = search (rules, append_assoc, flat_map, chars_past_char)
 
 no_bytes : (rest : List ℕ) → length rest ≡ 0 → rest ≡ []
 no_bytes [] h = refl
@@ -58,8 +56,7 @@ no_bytes (x ∷ rest) h = absurd (omega arith)
 
 pub quoted_end : (done text rest : List ℕ) → length rest ≡ 0 → done ++ flat_map escaped (chars rest) ≡ flat_map escaped (chars text)
     → (34 ∷ done) ++ 34 ∷ [] ≡ quoted text
-quoted_end done text rest none h =
-    ap (λ l. 34 ∷ (l ++ 34 ∷ [])) (sym (append-nil done) ∙ ap (λ cs. done ++ flat_map escaped cs) (sym (ap chars (no_bytes rest none) ∙ chars-nil)) ∙ h)
+quoted_end done text rest none h = search (rules, append-nil, flat_map, no_bytes, chars-nil)
 
 -- ---- items and members, one by one
 
@@ -99,8 +96,7 @@ writes_parts (Some n) (Some t) path None = simp (append_assoc, append-nil)
 writes_parts (Some n) (Some t) path (Some d) = simp (append_assoc, append-nil)
 
 from_text : (o : Option Pointer) → option_map string (option_map text_of o) ≡ option_map pointer_text o
-from_text None = refl
-from_text (Some P) = refl
+from_text o = search rules
 
 pub printed_operation : (name from : Option (List ℕ)) (path : List ℕ) (p : Parts) → from ≡ option_map text_of p.from → path ≡ text_of p.path
     → (((((codes "{" ++ leading_text (codes "op") name) ++ leading_text (codes "from") from) ++ (quoted (codes "path") ++ codes ":")) ++ quoted path) ++ trailing_text (codes "value") p.value) ++ codes "}"

@@ -1,5 +1,5 @@
 -- Operations that can be undone with no memory, by their number.
-use Rattle.std.proofs.Common.{◌≡◌, ◌<◌, ◌-◌, ℕ, zero, suc, List, [], ◌∷◌, length, get_or, IsTrue, true, false, refl, sym, ◌∙◌, subst, arith}
+use Rattle.std.proofs.Common.{◌≡◌, ◌<◌, ◌-◌, ℕ, zero, suc, List, [], ◌∷◌, length, get_or, IsTrue, true, false, refl, sym, ◌∙◌, subst, arith, rules}
 use Rattle.std.specs.Prelude.{◌↔◌}
 use Rattle.json_patch.specs.InPlace.{AreInPlace, IsInPlace, AreTestsThenRemove}
 use Rattle.json_patch.specs.Operation.{Operation, add, remove, replace, move, copy, test, IsMove, operation_of, operations}
@@ -18,12 +18,7 @@ pub undoable_at : (os : List PatchOperation) (k : ℕ) (x o : PatchOperation) �
 undoable_at os k x o less at is h = subst (λ y. IsUndoable (operation_of y)) (at ∙ same_at os k x o less ∙ sym is) h
 
 pub not_move : (op : Operation) → IsUndoable op → IsMove op → ⊥
-not_move (add P v) h m = m
-not_move (remove P) h m = m
-not_move (replace P v) h m = m
-not_move (move F P) h m = h
-not_move (copy F P) h m = m
-not_move (test P v) h m = m
+not_move op h m = search rules
 
 -- ---- `test`s and then at most one `remove`
 
@@ -39,12 +34,7 @@ tests_in_place (test P v ∷ ops) h = (tt, tests_in_place ops h)
 
 -- but for the last, each can be undone
 first_test : (op next : Operation) (ops : List Operation) → AreTestsThenRemove (op ∷ next ∷ ops) → IsUndoable op × AreTestsThenRemove (next ∷ ops)
-first_test (add P v) next ops h = absurd h
-first_test (remove P) next ops h = absurd h
-first_test (replace P v) next ops h = absurd h
-first_test (move F P) next ops h = absurd h
-first_test (copy F P) next ops h = absurd h
-first_test (test P v) next ops h = (tt, h)
+first_test op next ops h = search rules
 
 test_undoable : (os : List PatchOperation) (k : ℕ) (o : PatchOperation) → 1 < length os - k → IsAt os k o → AreTestsThenRemove (operations os) → IsUndoable (operation_of o)
 test_undoable [] k o less is h = absurd (omega arith)
@@ -56,9 +46,4 @@ pub not_undoable : (os : List PatchOperation) (k : ℕ) (o : PatchOperation) →
 not_undoable os k o less is h told = let yes : false ≡ true = told.1 (test_undoable os k o less is h) in cc
 
 pub move_not_in_place : (op : Operation) → IsMove op → IsInPlace op → ⊥
-move_not_in_place (add P v) m h = m
-move_not_in_place (remove P) m h = m
-move_not_in_place (replace P v) m h = m
-move_not_in_place (move F P) m h = h
-move_not_in_place (copy F P) m h = m
-move_not_in_place (test P v) m h = m
+move_not_in_place op m h = search rules

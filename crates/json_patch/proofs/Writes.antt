@@ -1,5 +1,5 @@
 -- What a write to a list or a map of values leaves of its view.
-use Rattle.std.proofs.Common.{◌≡◌, ℕ, zero, suc, ◌<◌, ◌≤◌, List, [], ◌∷◌, length, set, Option, Some, None, option_map, Bool, slice_index_or, Ordering, Less, Equal, Greater, String, Global, cond, is_eq, string_bytes, nat_cmp, refl, sym, ap, ◌∙◌, arith}
+use Rattle.std.proofs.Common.{◌≡◌, ℕ, zero, suc, ◌<◌, ◌≤◌, List, [], ◌∷◌, length, set, Option, Some, None, option_map, Bool, slice_index_or, Ordering, Less, String, Global, cond, is_eq, string_bytes, nat_cmp, refl, sym, ap, ◌∙◌, arith, rules}
 use Rattle.std.specs.Cmp.Lexicographic.{slice_cmp}
 use Rattle.std.specs.List.{insert, remove, AllByRecursion}
 use Rattle.std.specs.List.Sorted.{IsStrictlySortedBy}
@@ -47,9 +47,7 @@ items_view-remove (w ∷ vs) (suc i) h = ap (item (view w)) (items_view-remove v
 
 removes : (o : Ordering) (e : Entry) (es left : List Entry) (ms : Members) → members_view left ≡ ms
     → members_view (cond (is_eq o) es (e ∷ left)) ≡ match_ordering o (member (string_bytes e.0) (view e.1) ms) (members_view es) (member (string_bytes e.0) (view e.1) ms)
-removes Less e es left ms h = ap (member (string_bytes e.0) (view e.1)) h
-removes Equal e es left ms h = refl
-removes Greater e es left ms h = ap (member (string_bytes e.0) (view e.1)) h
+removes o e es left ms h = search rules
 
 pub members_view-remove_entry : (name : List ℕ) (es : List Entry) → members_view (remove_entry (is_named name) es) ≡ without name (members_view es)
 members_view-remove_entry name [] = refl
@@ -73,9 +71,7 @@ module _ (name : List ℕ) (w v : Value) (e : Entry) (es : List Entry) (order : 
   sets : (o : Ordering) → slice_cmp nat_cmp name (string_bytes e.0) ≡ o → cond (is_eq o) (Some e.1) (lookup (is_named name) es) ≡ Some v
       → members_view (cond (is_eq o) ((e.0, w) ∷ es) (e ∷ set_value (is_named name) es w))
       ≡ match_ordering o (member name (view w) (members_view (e ∷ es))) (member (string_bytes e.0) (view w) (members_view es)) (member (string_bytes e.0) (view e.1) (put name (view w) (members_view es)))
-  sets Less is found = absurd (no_entry name e es v order is found)
-  sets Equal is found = refl
-  sets Greater is found = ap (member (string_bytes e.0) (view e.1)) (more found)
+  sets o is found = search (rules, no_entry)
 
 rest_in_order : (e : Entry) (es : List Entry) → AreInOrder (e ∷ es) → AreInOrder es
 unfolding IsStrictlySortedBy
@@ -89,9 +85,7 @@ members_view-set_value name (e ∷ es) w v order found =
 -- a value in place of one that looks the same changes nothing
 keeps : (o : Ordering) (e : Entry) (es left : List Entry) (w v : Value) (found : Option Value) → cond (is_eq o) (Some e.1) found ≡ Some v → view w ≡ view v → (found ≡ Some v → members_view left ≡ members_view es)
     → members_view (cond (is_eq o) ((e.0, w) ∷ es) (e ∷ left)) ≡ members_view (e ∷ es)
-keeps Less e es left w v found is same more = ap (member (string_bytes e.0) (view e.1)) (more is)
-keeps Equal e es left w v found is same more = let here : e.1 ≡ v = cc in ap (λ d. member (string_bytes e.0) d (members_view es)) (same ∙ ap view (sym here))
-keeps Greater e es left w v found is same more = ap (member (string_bytes e.0) (view e.1)) (more is)
+keeps o e es left w v found is same more = search rules
 
 pub members_view-set_same : (name : List ℕ) (es : List Entry) (w v : Value) → lookup (is_named name) es ≡ Some v → view w ≡ view v → members_view (set_value (is_named name) es w) ≡ members_view es
 members_view-set_same name [] w v found same = refl

@@ -1,5 +1,5 @@
 -- For private clauses: a run on a part of a document.
-use Rattle.std.specs.Prelude.{◌≡◌, ◌↔◌, ◌⊎◌, List, [], Option, Some, None}
+use Rattle.std.specs.Prelude.{◌≡◌, ◌↔◌, ◌⊎◌, List, []}
 use Rattle.serde_json.specs.Data.{Data}
 use Rattle.jsonptr.specs.Text.{Pointer, IsPrefix}
 use Rattle.json_patch.specs.InverseComputed.{block}
