@@ -1,4 +1,5 @@
 -- The computed document is the one that add leaves, and the only one.
+use Rattle.std.proofs.lemmas.Grind.{common_steps}
 use Rattle.std.proofs.Common.{◌≡◌, ℕ, zero, suc, ◌<◌, ◌≤◌, List, [], ◌∷◌, ◌++◌, ⊎_elim, Some, None, sym, ◌∙◌, subst, arith, rules}
 use Rattle.std.proofs.lemmas.Bool.{cases_eq}
 use Rattle.serde_json.specs.Data.{Data}
@@ -68,8 +69,7 @@ added_none d (t ∷ P) v e is h =
     let b : added d (t ∷ P) v ≡ Some a.0 = a.1 in cc
 
 no_target : (front : List (List ℕ)) (last : List ℕ) → [] ≡ front ++ last ∷ [] → ⊥
-no_target [] last is = cc
-no_target (t ∷ front) last is = cc
+no_target front last is = grind (arith, common_steps)
 
 -- where there is a target, a document is left
 pub added_there : (d : Data) (P : List (List ℕ)) (v : Data) (L : List Step) (s : Step) → IsDocument d → IsDocument v → HasTarget d P L s → (e : Data) × IsAdded d P v e
@@ -83,11 +83,7 @@ added_there d (t ∷ P) v L s hd hv h =
 -- ---- one document alone
 
 target_same : (d : Data) (t : List ℕ) (P : List (List ℕ)) (L M : List Step) (s r : Step) → HasTarget d (t ∷ P) L s → HasTarget d (t ∷ P) M r → (L ≡ M) × (s ≡ r)
-target_same d t P L M s r h k =
-    let g : Target d t P L s = target d t P L s h in
-    let f : Target d t P M r = target d t P M r k in
-    let e : (L ≡ M) × (g.p ≡ f.p) = resolves_same d (front_of t P) L M g.p f.p g.resolves f.resolves in
-    (e.0, aims_same f.p (last_of t P) s r (subst (λ x. Aims x (last_of t P) s) e.1 g.aims) f.aims)
+target_same d t P L M s r h k = grind (arith, common_steps, target, resolves_same, aims_same)
 
 -- after the place
 puts_after : (d e f v : Data) (L : List Step) (i j : ℕ) (R : List Step) → PutsAt d e v L (place i) → PutsAt d f v L (place i) → i < j

@@ -74,5 +74,4 @@ altered_some f d [] [] p q h is = (q, ap f h ∙ is)
 altered_some f d (t ∷ P) (s ∷ L) p q h is =
     let i : (e : Data) × (altered f h.0 P ≡ Some e) = altered_some f h.0 P L p q h.3 is in
     (set_child s i.0 d, rw (names_step d t s h.1, h.2, i.1))
-altered_some f d [] (s ∷ L) p q h is = absurd h
-altered_some f d (t ∷ P) [] p q h is = absurd h
+altered_some f d P L p q h is = search rules

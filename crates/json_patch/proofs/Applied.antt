@@ -1,4 +1,5 @@
 -- A run over a list of operations of the program, one step at a time.
+use Rattle.std.proofs.lemmas.Grind.{common_steps}
 use Rattle.std.proofs.Common.{◌≡◌, ◌+◌, ◌<◌, ◌≤◌, ℕ, zero, suc, ◌*◌, List, [], ◌∷◌, ◌++◌, length, get_or, take, Some, option_map, Result, Ok, Err, refl, sym, ap, ap₂, ◌∙◌, subst, add-one, arith, rules}
 use Rattle.std.proofs.lemmas.List.{map-append, reverse-append, reverse-reverse}
 use mathlib.Core.List.{reverse}
@@ -43,24 +44,21 @@ refuses_at : (d m : Data) (kind : PatchErrorKind) (x o : PatchOperation) → IsD
 refuses_at d m kind x o hd hv same is h = stepped_refuses d (operation_of x) kind hd hv.0 (ap (λ c. stepped c (operation_of x)) same ∙ ap (λ y. stepped m (operation_of y)) (sym is) ∙ h)
 
 state_suc : (d m e : Data) (os : List PatchOperation) (k : ℕ) (o : PatchOperation) → IsDocument d → AreWhole (operations os) → k < length os → IsAt os k o → IsState d os k m → stepped m (operation_of o) ≡ Ok e → IsState d os (suc k) e
-state_suc d m e [] k o hd hv less is h s = absurd (omega arith)
-state_suc d m e (x ∷ os) zero o hd hv less is h s = (e, leaves_at d m e x o hd (hv.0, tt) h is s, refl)
 state_suc d m e (x ∷ os) (suc k) o hd hv less is h s =
     (h.0, h.1, state_suc h.0 m e os k o (leaves_document d (operation_of x) h.0 hd hv.0 h.1) hv.1 (omega arith) is h.2 s)
+state_suc d m e os k o hd hv less is h s = search (rules, leaves_at)
 
 pub state_more : (d m e : Data) (os : List PatchOperation) (k : ℕ) (o : PatchOperation) → IsDocument d → AreWhole (operations os) → k < length os → IsAt os k o → IsState d os k m → stepped m (operation_of o) ≡ Ok e → IsState d os (k + 1) e
 state_more d m e os k o hd hv less is h s = subst (λ n. IsState d os n e) (sym (add-one k)) (state_suc d m e os k o hd hv less is h s)
 
 pub state_refused : (d m : Data) (kind : PatchErrorKind) (os : List PatchOperation) (k : ℕ) (o : PatchOperation) → IsDocument d → AreWhole (operations os) → k < length os → IsAt os k o → IsState d os k m → stepped m (operation_of o) ≡ Err kind → RefusesAt d (operations os) k kind
-state_refused d m kind [] k o hd hv less is h s = absurd (omega arith)
-state_refused d m kind (x ∷ os) zero o hd hv less is h s = refuses_at d m kind x o hd (hv.0, tt) h is s
 state_refused d m kind (x ∷ os) (suc k) o hd hv less is h s =
     (h.0, h.1, state_refused h.0 m kind os k o (leaves_document d (operation_of x) h.0 hd hv.0 h.1) hv.1 (omega arith) is h.2 s)
+state_refused d m kind os k o hd hv less is h s = search (rules, refuses_at)
 
 pub whole_at : (os : List PatchOperation) (k : ℕ) (o : PatchOperation) → k < length os → IsAt os k o → AreWhole (operations os) → IsWholeOp (operation_of o)
-whole_at [] k o less is h = absurd (omega arith)
-whole_at (x ∷ os) zero o less is h = subst (λ y. IsWholeOp (operation_of y)) (sym is) h.0
 whole_at (x ∷ os) (suc k) o less is h = whole_at os k o (omega arith) is h.1
+whole_at os k o less is h = search rules
 
 -- ---- its ends
 
@@ -72,9 +70,8 @@ state_document d m (x ∷ os) (suc k) hd hv h = state_document h.0 m os k (leave
 -- ---- a refusal
 
 pub path_at : (os : List PatchOperation) (k : ℕ) (o : PatchOperation) → k < length os → IsAt os k o → option_map path_of (slice_get (operations os) k) ≡ Some (path_of (operation_of o))
-path_at [] k o less is = absurd (omega arith)
-path_at (x ∷ os) zero o less is = ap (λ y. Some (path_of (operation_of y))) (sym is)
 path_at (x ∷ os) (suc k) o less is = path_at os k o (omega arith) is
+path_at os k o less is = search rules
 
 refused_with : (fault : StepFault) (wanted : Result Data PatchErrorKind) (new : Data) (kind : PatchErrorKind) → fault ≡ step_refused kind → Steps {T = Unit {0}} (Err fault) wanted new → wanted ≡ Err kind
 refused_with fault wanted new kind is h = subst (λ f. Steps {T = Unit {0}} (Err f) wanted new) is h
@@ -92,9 +89,8 @@ IsRecorded d os k undo = reverse (operations undo) ≡ inverse d (take k (operat
 
 -- a list up to the item at k, and that item
 pub take_at : (os : List PatchOperation) (k : ℕ) (o : PatchOperation) → k < length os → IsAt os k o → take (suc k) (operations os) ≡ take k (operations os) ++ operation_of o ∷ []
-take_at [] k o less is = absurd (omega arith)
-take_at (x ∷ os) zero o less is = ap (λ y. operation_of y ∷ []) (sym is)
 take_at (x ∷ os) (suc k) o less is = ap (λ ops. operation_of x ∷ ops) (take_at os k o (omega arith) is)
+take_at os k o less is = search rules
 
 take_whole : (os : List PatchOperation) (k : ℕ) → AreWhole (operations os) → AreWhole (take k (operations os))
 take_whole os zero h = tt
@@ -113,10 +109,7 @@ recorded_more d m e os k o undo more hd hv less is h s wrote so_far =
     ∙ sym (ap (inverse d) (ap (λ n. take n (operations os)) (add-one k) ∙ take_at os k o less is))
 
 pub take_past : (os : List PatchOperation) (k : ℕ) → length os ≤ k → take k (operations os) ≡ operations os
-take_past [] zero le = refl
-take_past [] (suc k) le = refl
-take_past (x ∷ os) zero le = absurd (omega arith)
-take_past (x ∷ os) (suc k) le = ap (λ ops. operation_of x ∷ ops) (take_past os k (omega arith))
+take_past os k le = grind (arith, common_steps)
 
 operations-reverse : (os : List PatchOperation) → operations (reverse os) ≡ reverse (operations os)
 operations-reverse [] = refl
@@ -155,9 +148,8 @@ recorded_back d m os k undo hd hv h so_far =
 -- ---- a run that takes no memory
 
 pub in_place_at : (os : List PatchOperation) (k : ℕ) (o : PatchOperation) → k < length os → IsAt os k o → AreInPlace (operations os) → IsInPlace (operation_of o)
-in_place_at [] k o less is h = absurd (omega arith)
-in_place_at (x ∷ os) zero o less is h = subst (λ y. IsInPlace (operation_of y)) (sym is) h.0
 in_place_at (x ∷ os) (suc k) o less is h = in_place_at os k o (omega arith) is h.1
+in_place_at os k o less is h = search rules
 
 pub not_stopped : (fault : StepFault) (d m new e : Data) (os : List PatchOperation) (k : ℕ) (o : PatchOperation) → IsDocument d → AreWhole (operations os) → k < length os → IsAt os k o → IsState d os k m
     → Steps {T = Unit {0}} (Err fault) (stepped m (operation_of o)) new → (IsInPlace (operation_of o) → NeverShort {T = Unit {0}} (Err fault)) → AreInPlace (operations os) → Accepts d (operations os) e → ⊥

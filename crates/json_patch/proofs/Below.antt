@@ -1,5 +1,6 @@
 -- A run that is about one part of the document changes that part alone, as the run without the shared beginning changes it.
-use Rattle.std.proofs.Common.{◌≡◌, ⊎_elim, ℕ, List, [], ◌∷◌, ◌++◌, append_assoc, length, drop, Bool, if◌then◌else◌, Option, Some, None, option_map, option_and_then, Result, Ok, Err, refl, sym, ap, ◌∙◌, subst, rules}
+use Rattle.std.proofs.lemmas.Grind.{common_steps}
+use Rattle.std.proofs.Common.{◌≡◌, ⊎_elim, ℕ, List, [], ◌∷◌, ◌++◌, append_assoc, length, drop, Bool, if◌then◌else◌, Option, Some, None, option_map, option_and_then, Result, Ok, Err, refl, sym, ap, ◌∙◌, subst, rules, arith}
 use Rattle.std.proofs.lemmas.Option.{option_and_then_some}
 use Rattle.std.proofs.lemmas.Slice.Eq.{bytes_eq-Decides}
 use Rattle.serde_json.specs.Data.{Data}
@@ -110,16 +111,14 @@ found_under d S P b at = found_append d S P ∙ ap (option_and_then (λ p. found
 -- ---- a pointer that begins with S, and its rest
 
 pub strip : (T Q : Pointer) → drop (length T) (T ++ Q) ≡ Q
-strip [] Q = refl
-strip (t ∷ T) Q = strip T Q
+strip T Q = grind (arith, common_steps)
 
 pub with_one : (S : Pointer) (R : Pointer → Pointer → Type 0) → ((t : List ℕ) (P : Pointer) → R (S ++ t ∷ P) (t ∷ P)) → (P : Pointer) → IsProperPrefix S P → R P (drop (length S) P)
 with_one S R core P h = search (rules, strip)
 
 pub with_two : (S : Pointer) (R : Pointer → Pointer → Pointer → Pointer → Type 0) → ((t : List ℕ) (F : Pointer) (u : List ℕ) (P : Pointer) → R (S ++ t ∷ F) (t ∷ F) (S ++ u ∷ P) (u ∷ P))
     → (F P : Pointer) → IsProperPrefix S F → IsProperPrefix S P → R F (drop (length S) F) P (drop (length S) P)
-with_two S R core F P g h =
-    with_one S (R F (drop (length S) F)) (λ u Q. with_one S (λ G H. R G H (S ++ u ∷ Q) (u ∷ Q)) (λ t G. core t G u Q) F g) P h
+with_two S R core F P g h = grind (arith, common_steps, with_one)
 
 -- ---- one step
 
@@ -160,14 +159,13 @@ module _ (d : Data) (S : Pointer) (b : Data) (hd : IsDocument d) (at : found d S
   moved_under : (t : List ℕ) (P : Pointer) (o p : Option Data) → ((v : Data) → o ≡ Some v → IsDocument v) → ((m : Data) → p ≡ Some m → IsDocument m)
       → moved (S ++ t ∷ P) o (over d S p) ≡ lifted d S (moved (t ∷ P) o p)
   unfolding over lifted
-  moved_under t P None p ho hp = refl
-  moved_under t P (Some v) None ho hp = refl
   moved_under t P (Some v) (Some m) ho hp =
       let x : (x : Data) × (replaced d S m ≡ Some x) = some_replaced m in
       let r : Replaces d S m x.0 = replaces d S m x.0 hd (hp m refl) x.1 in
       rw x.1 (ap (or_refused InvalidPointer) (added_under x.0 S t P v m r.found_there
       ∙ again_under m x.0 (added m (t ∷ P) v) (hp m refl) x.1 (λ e is. IsAdded_document m (t ∷ P) v e (ho v refl) (added_is m (t ∷ P) v e (hp m refl) (ho v refl) is)))
       ∙ lifted_or d S (added m (t ∷ P) v))
+  moved_under t P o p ho hp = search rules
 
   on_test : (c : Bool) (X Y : Result Data PatchErrorKind) → X ≡ lifted d S Y → (if c then Err CannotMoveInsideItself else X) ≡ lifted d S (if c then Err CannotMoveInsideItself else Y)
   unfolding lifted

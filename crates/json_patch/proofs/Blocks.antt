@@ -44,12 +44,9 @@ module _ (d : Data) (t : List ℕ) (P : Pointer) where
   takes_back p s aims = absurd aims
 
   back_only : (p : Data) (s : Step) (u : Operation) → Aims p (last_of t P) s → TakesBack d (t ∷ P) s u → u ≡ undo_in d (front_of t P) (last_of t P) (t ∷ P) (Some p)
-  back_only (array ds) (place i) u aims h =
-      let w : (h.0 ≡ front_of t P) × (h.1 ≡ last_of t P) = split_is t P h.0 h.1 h.3 in
-      h.5 ∙ ap (λ x. remove (x ++ h.2 ∷ [])) w.0 ∙ ap (λ x. remove (front_of t P ++ x ∷ [])) (settled_only (last_of t P) ds i h.2 aims h.4)
   back_only (object ms) (key k) u aims h =
       ⊎_elim (λ n. n.1 ∙ ap (undo_at (t ∷ P)) (sym (never_found d (t ∷ P) n.0))) (λ w. w.2 ∙ ap (undo_at (t ∷ P)) (sym (stands_found d (t ∷ P) w.0 w.1))) h
-  back_only p s u aims h = absurd aims
+  back_only p s u aims h = search (rules, split_is, settled_only)
 
 undoes_beyond : (d : Data) (t : List ℕ) (P : Pointer) (v e : Data) → added d (t ∷ P) v ≡ Some e → UndoesAdd d (t ∷ P) (undo_add d (t ∷ P))
 undoes_beyond d t P v e is =
@@ -72,11 +69,6 @@ undoes_only d P u h = search (rules, split_is, resolves_found, back_only)
 -- ---- blocks
 
 pub block_is : (d : Data) (op : Operation) (e : Data) → IsDocument d → IsWholeOp op → Leaves d op e → IsBlock d op (block d op)
-block_is d (add P v) e hd hv h = (undo_add d P, undoes_is d P v e (added_exact d P v e hd hv h), refl)
-block_is d (remove P) e hd hv h =
-    let was : found d P ≡ Some h.2 = resolves_found d P _ h.2 h.3 in rw was (h.2, found_resolves d P h.2 was, refl)
-block_is d (replace P v) e hd hv h =
-    let was : found d P ≡ Some h.1 = resolves_found d P h.0 h.1 h.2 in rw was (h.1, (h.0, h.2), refl)
 block_is d (move F P) e hd hv h =
     let v = h.1.0 in let m = h.1.1 in
     let hw : IsDocument v = stands_document d F v hd h.1.2 in
@@ -85,7 +77,7 @@ block_is d (move F P) e hd hv h =
     (v, m, undo_add m P, h.1.2, h.1.3, undoes_is m P v e (added_exact m P v e hm hw h.1.4), refl)
 block_is d (copy F P) e hd hv h =
     (undo_add d P, undoes_is d P h.0 e (added_exact d P h.0 e hd (stands_document d F h.0 hd h.1) h.2), refl)
-block_is d (test P v) e hd hv h = refl
+block_is d op e hd hv h = search (rules, undoes_is, added_exact, resolves_found, found_resolves)
 
 pub block_only : (d : Data) (op : Operation) (B : List Operation) → IsDocument d → IsBlock d op B → B ≡ block d op
 block_only d (add P v) B hd h = h.2 ∙ ap (λ u. u ∷ []) (undoes_only d P h.0 h.1)

@@ -31,5 +31,4 @@ key_cases b k l is = search rules
 
 pub step_cases : (r s : Step) → (r ≡ s) ⊎ (r ≡ s → ⊥)
 step_cases (key k) (key l) = key_cases (bytes_eq k l) k l refl
-step_cases (place i) (place j) = place_cases i j
-step_cases r s = inr (λ h. cc)
+step_cases r s = search (rules, place_cases)

@@ -5,7 +5,7 @@ use Rattle.std.specs.List.{AllByRecursion}
 use Rattle.std.specs.List.Sorted.{IsStrictlySortedBy}
 use Rattle.std.specs.Map.{keys_of}
 use Rattle.std.specs.String.{string_cmp}
-use Rattle.serde_json.specs.Data.{Num, Data, null, boolean, number, string, array, object, Items, no_items, item, Members, no_members, member}
+use Rattle.serde_json.specs.Data.{Num, Data, array, object, Items, no_items, item, Members, no_members, member}
 use Rattle.serde_json.specs.Find.{is_float}
 use Rattle.serde_json.specs.View.{view, members_view}
 use Rattle.serde_json.specs.Written.{has_float, items_have_float, members_have_float}
@@ -17,12 +17,9 @@ whole n h = search rules
 
 mutual
   pub no_float : (d : Data) → IsDocument d → has_float d ≡ false
-  no_float null h = refl
-  no_float (boolean b) h = refl
-  no_float (number n) h = whole n h
-  no_float (string s) h = refl
   no_float (array ds) h = items_no_float ds h
   no_float (object ms) h = members_no_float ms h
+  no_float d h = search rules
 
   items_no_float : (ds : Items) → AreDocuments ds → items_have_float ds ≡ false
   items_no_float no_items h = refl

@@ -1,5 +1,5 @@
 -- What is found at a pointer stands at the location to which it resolves.
-use Rattle.std.proofs.Common.{◌≡◌, ℕ, List, [], ◌∷◌, Option, Some, IfNone, IfSome, ap, option_map, rules}
+use Rattle.std.proofs.Common.{◌≡◌, ℕ, List, [], ◌∷◌, Option, Some, IfNone, IfSome, option_map, rules}
 use Rattle.std.proofs.lemmas.Option.{option_and_then_some}
 use Rattle.std.specs.Prelude.{◌↔◌}
 use Rattle.serde_json.specs.Data.{Data}
@@ -17,16 +17,12 @@ found_resolves d (t ∷ P) c is =
     (let i : (L : List Step) × Resolves e P L c = found_resolves e P c rest in (s ∷ i.0, (e, step_names d t s named, stands, i.1)))))
 
 pub resolves_found : (d : Data) (P : List (List ℕ)) (L : List Step) (c : Data) → Resolves d P L c → found d P ≡ Some c
-resolves_found d [] [] c h = ap Some h
 resolves_found d (t ∷ P) (s ∷ L) c h = rw (names_step d t s h.1, h.2) (resolves_found h.0 P L c h.3)
-resolves_found d [] (s ∷ L) c h = absurd h
-resolves_found d (t ∷ P) [] c h = absurd h
+resolves_found d P L c h = search rules
 
 pub resolves_standing : (d : Data) (P : List (List ℕ)) (L : List Step) (c : Data) → Resolves d P L c → standing d L ≡ Some c
-resolves_standing d [] [] c h = ap Some h
 resolves_standing d (t ∷ P) (s ∷ L) c h = rw h.2 (resolves_standing h.0 P L c h.3)
-resolves_standing d [] (s ∷ L) c h = absurd h
-resolves_standing d (t ∷ P) [] c h = absurd h
+resolves_standing d P L c h = search rules
 
 pub found_computed : (d : Data) (P : List (List ℕ)) (c : Data) → StandsAt d P c ↔ (found d P ≡ Some c)
 found_computed d P c = (λ h. resolves_found d P h.0 c h.1, found_resolves d P c)

@@ -1,11 +1,12 @@
 -- What undoes a step or a run below a pointer is what undoes it on what stands there, with the pointer's tokens in front.
-use Rattle.std.proofs.Common.{◌≡◌, ◌↔◌, ℕ, List, [], ◌∷◌, ◌++◌, append_assoc, Option, Some, None, Result, Ok, Err, refl, sym, ap, ap₂, ◌∙◌, subst, rules}
+use Rattle.std.proofs.lemmas.Grind.{common_steps}
+use Rattle.std.proofs.Common.{◌≡◌, ◌↔◌, ℕ, List, [], ◌∷◌, ◌++◌, append_assoc, Option, Some, None, Result, Ok, Err, refl, sym, ap, ap₂, ◌∙◌, subst, rules, arith}
 use Rattle.std.proofs.lemmas.List.{map-append}
 use Rattle.serde_json.specs.Data.{Data}
 use Rattle.jsonptr.specs.Text.{Pointer}
 use Rattle.json_patch.specs.Document.{IsDocument}
 use Rattle.json_patch.specs.Resolve.{StandsAt}
-use Rattle.json_patch.specs.Operation.{Operation, add, remove, replace, move, copy, test, IsWholeOp, AreWhole}
+use Rattle.json_patch.specs.Operation.{Operation, add, move, IsWholeOp, AreWhole}
 use Rattle.json_patch.specs.Inverse.{IsInverse}
 use Rattle.json_patch.specs.Run.{Accepts}
 use Rattle.json_patch.specs.Shared.{IsWithin, AreWithin}
@@ -60,16 +61,7 @@ module _ (d : Data) (S : Pointer) (b : Data) (hd : IsDocument d) (at : found d S
           rw x.1 (ap (λ o. o ∷ add (S ++ t ∷ F) v ∷ []) (undo_under x.0 S m (replaces d S m x.0 hd hm x.1).found_there u P))
 
   pub block_under : (op : Operation) → IsWithin S op → block d op ≡ extended_all S (block b (stripped S op))
-  block_under (add P v) h = with_one S (λ Q R. block d (add Q v) ≡ extended_all S (block b (add R v))) (λ t Q. ap (λ o. o ∷ []) (undo_under d S b at t Q)) P h
-  block_under (remove P) h =
-      with_one S (λ Q R. block d (remove Q) ≡ extended_all S (block b (remove R)))
-      (λ t Q. rw (found_under d S (t ∷ Q) b at) (with_under S (found b (t ∷ Q)) _ _ (λ w is. refl))) P h
-  block_under (replace P v) h =
-      with_one S (λ Q R. block d (replace Q v) ≡ extended_all S (block b (replace R v)))
-      (λ t Q. rw (found_under d S (t ∷ Q) b at) (with_under S (found b (t ∷ Q)) _ _ (λ w is. refl))) P h
-  block_under (move F P) h = with_two S (λ G H Q R. block d (move G Q) ≡ extended_all S (block b (move H R))) move_under F P h.0 h.1
-  block_under (copy F P) h = with_two S (λ G H Q R. block d (copy G Q) ≡ extended_all S (block b (copy H R))) (λ t G u Q. ap (λ o. o ∷ []) (undo_under d S b at u Q)) F P h.0 h.1
-  block_under (test P v) h = refl
+  block_under op h = grind (arith, common_steps, with_one, undo_under, found_under, with_under, with_two, move_under)
 
 -- ---- lists
 

@@ -57,16 +57,10 @@ undo_add_whole : (d : Data) (P : Pointer) → IsDocument d → IsWholeOp (undo_a
 undo_add_whole d P hd = search (rules, undo_in_whole)
 
 pub block_whole : (d : Data) (op : Operation) (e : Data) → IsDocument d → IsWholeOp op → Leaves d op e → AreWhole (block d op)
-block_whole d (add P v) e hd hv h = (undo_add_whole d P hd, tt)
-block_whole d (remove P) e hd hv h =
-    let was : found d P ≡ Some h.2 = resolves_found d P _ h.2 h.3 in rw was (found_document d P h.2 hd was, tt)
-block_whole d (replace P v) e hd hv h =
-    let was : found d P ≡ Some h.1 = resolves_found d P h.0 h.1 h.2 in rw was (found_document d P h.1 hd was, tt)
 block_whole d (move F P) e hd hv h =
     rw (stands_found d F h.1.0 h.1.2, removed_exact d F h.1.1 hd h.1.3)
     (undo_add_whole h.1.1 P (removed_document d F h.1.1 h.1.3), (stands_document d F h.1.0 hd h.1.2, tt))
-block_whole d (copy F P) e hd hv h = (undo_add_whole d P hd, tt)
-block_whole d (test P v) e hd hv h = tt
+block_whole d op e hd hv h = search (rules, undo_add_whole, resolves_found, found_document)
 
 pub block_back : (d : Data) (op : Operation) (e : Data) → IsDocument d → IsWholeOp op → Leaves d op e → Accepts e (block d op) d
 block_back d op e hd hv h = ran_accepts e (block d op) d (leaves_document d op e hd hv h) (block_whole d op e hd hv h) (block_ran d op e hd hv h)
@@ -114,6 +108,4 @@ left_length o f n h = search rules
 
 pub inverse_length : (ops : List Operation) (d : Data) → length (inverse d ops) ≤ 2 * length ops
 inverse_length [] d = omega arith
-inverse_length (op ∷ ops) d =
-    let a : length (with_left (stepped d op) (λ m. inverse m ops)) ≤ 2 * length ops = left_length (stepped d op) (λ m. inverse m ops) (2 * length ops) (λ m. inverse_length ops m) in
-    omega (arith, length-append (with_left (stepped d op) (λ m. inverse m ops)) (block d op), block_length op d)
+inverse_length (op ∷ ops) d = search (rules, left_length, length-append, block_length, inverse_length ops)

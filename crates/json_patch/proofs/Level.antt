@@ -1,6 +1,6 @@
 -- Documents with equal children are equal, and what a change to a child leaves is taken back by another.
 use Rattle.std.proofs.Common.{◌≡◌, ℕ, zero, suc, ◌≤◌, List, [], ◌∷◌, inl, ⊎_elim, Some, None, option_map, option_and_then, refl, sym, ap, ◌∙◌, subst, arith, rules}
-use Rattle.serde_json.specs.Data.{Data, array, object, Items, no_items, item, Members, put}
+use Rattle.serde_json.specs.Data.{Data, array, object, Items, item, Members, put}
 use Rattle.serde_json.specs.Find.{get_member, get_item}
 use Rattle.serde_json.specs.Events.{items_len}
 use Rattle.serde_json.proofs.Views.{get_member-put, get_member-put_other}
@@ -51,21 +51,18 @@ put_without k w ms h is =
 -- ---- an item
 
 pub remove_insert : (i : ℕ) (v : Data) (ds : Items) → i ≤ items_len ds → remove_item i (insert_item i v ds) ≡ ds
-remove_insert zero v no_items h = refl
-remove_insert (suc i) v no_items h = absurd (omega arith)
 remove_insert zero v (item d ds) h = refl
 remove_insert (suc i) v (item d ds) h = ap (item d) (remove_insert i v ds (omega arith))
+remove_insert i v ds h = search rules
 
 pub insert_remove : (i : ℕ) (w : Data) (ds : Items) → get_item i ds ≡ Some w → insert_item i w (remove_item i ds) ≡ ds
-insert_remove i w no_items is = cc
-insert_remove zero w (item d no_items) is = let e : d ≡ w = cc in cc
 insert_remove zero w (item d (item e ds)) is = let e : d ≡ w = cc in cc
 insert_remove (suc i) w (item d ds) is = ap (item d) (insert_remove i w ds is)
+insert_remove i w ds is = search rules
 
 pub within_removed : (i : ℕ) (w : Data) (ds : Items) → get_item i ds ≡ Some w → i ≤ items_len (remove_item i ds)
-within_removed i w no_items is = cc
-within_removed zero w (item d ds) is = omega arith
 within_removed (suc i) w (item d ds) is = let h : i ≤ items_len (remove_item i ds) = within_removed i w ds is in omega arith
+within_removed i w ds is = search rules
 
 -- ---- at the parent
 
@@ -80,10 +77,7 @@ pub stands_one : (p : Data) (t : List ℕ) (s : Step) (w : Data) → Names p t s
 stands_one p t s w names is = search rules
 
 pub put_taken : (t : List ℕ) (p w : Data) (s : Step) → IsDocument p → Names p t s → child s p ≡ Some w → put_in w t (drop_child s p) ≡ Some p
-put_taken t (object ms) w (key k) h names is =
-    let e : get_member t ms ≡ Some w = ap (λ x. get_member x ms) names ∙ is in
-    subst (λ x. put_in w t (object (without x ms)) ≡ Some (object ms)) names (ap Some (put_without t w ms h e))
 put_taken t (array ds) w (place i) h names is =
     ap (option_map (λ j. array (insert_item j w (remove_item i ds)))) (slot_some t (remove_item i ds) i (inl (names, within_removed i w ds is)))
     ∙ ap (λ x. Some (array x)) (insert_remove i w ds is)
-put_taken t p w s h names is = absurd names
+put_taken t p w s h names is = search (rules, put_without)

@@ -1,5 +1,5 @@
 -- Locality in the words of the definitions.
-use Rattle.std.proofs.Common.{◌≡◌, ◌↔◌, ℕ, List, [], ◌∷◌, Some, Ok, Err, refl, ap, ◌∙◌, subst, rules}
+use Rattle.std.proofs.Common.{◌≡◌, ◌↔◌, ℕ, List, ◌∷◌, Some, Ok, Err, refl, ap, ◌∙◌, subst, rules}
 use Rattle.serde_json.specs.Data.{Data}
 use Rattle.jsonptr.specs.Text.{Pointer}
 use Rattle.json_patch.specs.Document.{IsDocument, Step}
@@ -89,15 +89,13 @@ module _ (d : Data) (S : Pointer) (b : Data) (ops : List Operation) (hd : IsDocu
 -- ---- the location stays
 
 resolves_replaced : (d : Data) (S : Pointer) (L : List Step) (b e x : Data) → Resolves d S L b → replaced d S e ≡ Some x → Resolves x S L e
-resolves_replaced d [] [] b e x h is = cc
 resolves_replaced d (t ∷ S) (s ∷ L) b e x h is =
     let i : (y : Data) × (replaced h.0 S e ≡ Some y) = altered_some (λ c. Some e) h.0 S L b e h.3 refl in
     let w : replaced d (t ∷ S) e ≡ Some (set_child s i.0 d) = rw (names_step d t s h.1, h.2, i.1) refl in
     let same : set_child s i.0 d ≡ x = cc in
     subst (λ z. Resolves z (t ∷ S) (s ∷ L) e) same
     (i.0, step_names (set_child s i.0 d) t s (step_of_set s d i.0 t ∙ names_step d t s h.1), child_set s d h.0 i.0 h.2, resolves_replaced h.0 S L b e i.0 h.3 i.1)
-resolves_replaced d [] (s ∷ L) b e x h is = absurd h
-resolves_replaced d (t ∷ S) [] b e x h is = absurd h
+resolves_replaced d S L b e x h is = search rules
 
 -- in every state of the run S resolves to the same location
 pub location_stays : (d : Data) (S : Pointer) (L : List Step) (b : Data) (ops : List Operation) (x : Data) → IsDocument d → AreWhole ops → Resolves d S L b → AreWithin S ops → Accepts d ops x

@@ -40,11 +40,7 @@ mutual
 
   merged_are_members : (ps ms : Members) → AreMembers ms → AreMembers ps → AreMembers (merged_members ms ps)
   merged_are_members no_members ms h hp = h
-  merged_are_members (member k q ps) ms h hp =
-      let w = unwrap_or (get_member k ms) null in
-      ⊎_elim (λ is. subst AreMembers (sym (next_removed k q ms ps is)) (merged_are_members ps (without k ms) (without_members k ms h) hp.2))
-      (λ other. subst AreMembers (sym (next_merged k q ms ps other))
-      (merged_are_members ps (put k (merged w q) ms) (put_members k (merged w q) ms h (merged_document q w (was_document k ms h) hp.1)) hp.2)) (null_cases q)
+  merged_are_members (member k q ps) ms h hp = search (rules, next_removed, without_members, next_merged, put_members, was_document, null_cases, merged_are_members ps, merged_document q)
 
 -- ---- it is Merged
 
@@ -57,12 +53,7 @@ get_members q d = search rules
 -- a name that the patch has not keeps its member
 unnamed : (k : List ℕ) (ps ms : Members) → get_member k ps ≡ None → get_member k (merged_members ms ps) ≡ get_member k ms
 unnamed k no_members ms is = refl
-unnamed k (member l q ps) ms is =
-    let other : k ≢ l = λ same. (let found : get_member k (member l q ps) ≡ Some q = ap (λ x. get_member x (member l q ps)) same ∙ found_first l q ps in cc) in
-    let later : get_member k ps ≡ None = sym (skips k l q ps other) ∙ is in
-    let w = unwrap_or (get_member l ms) null in
-    ⊎_elim (λ gone. ap (get_member k) (next_removed l q ms ps gone) ∙ unnamed k ps (without l ms) later ∙ get_without_other k l ms other)
-    (λ stay. ap (get_member k) (next_merged l q ms ps stay) ∙ unnamed k ps (put l (merged w q) ms) later ∙ get_member-put_other k l (merged w q) ms other) (null_cases q)
+unnamed k (member l q ps) ms is = search (rules, found_first, skips, next_removed, get_without_other, next_merged, get_member-put_other, null_cases, unnamed k ps)
 
 along : {was was' named named' left left' : Option Data} → was ≡ was' → named ≡ named' → left ≡ left' → IsMergedMember was' named' left' → IsMergedMember was named left
 along {left = left} a b c h = rw (a, b, c) h

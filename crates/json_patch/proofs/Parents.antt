@@ -1,10 +1,11 @@
 -- An operation as a change of its container, which the walk finds at all tokens but the last.
-use Rattle.std.proofs.Common.{◌≡◌, ◌<◌, ◌^◌, decimal, String, Global, string_bytes, ℕ, List, [], ◌∷◌, ◌++◌, length, drop, not, true, false, Bool, IsTrue, Option, Some, None, option_map, option_and_then, Result, Ok, Err, IfOk, refl, sym, ap, ◌∙◌, subst, rules}
+use Rattle.std.proofs.lemmas.Grind.{common_steps}
+use Rattle.std.proofs.Common.{◌≡◌, ◌<◌, ◌^◌, decimal, String, Global, string_bytes, ℕ, List, [], ◌∷◌, ◌++◌, length, drop, not, true, false, Bool, IsTrue, Option, Some, None, option_map, option_and_then, Result, Ok, Err, IfOk, refl, sym, ap, ◌∙◌, subst, rules, arith}
 use Rattle.std.specs.Prelude.{◌↔◌}
 use Rattle.std.specs.declared.alloc.AllocError.{AllocError}
 use Rattle.std.specs.Result.{IsErr, IsErrAnd}
 use Rattle.std.proofs.lemmas.List.{append_cancel_left}
-use Rattle.serde_json.specs.Data.{Data, array, object}
+use Rattle.serde_json.specs.Data.{Data, object}
 use Rattle.serde_json.specs.View.{view}
 use Rattle.serde_json.specs.declared.value.Value.{Value}
 use Rattle.jsonptr.specs.Text.{Pointer, IsProperPrefix}
@@ -21,7 +22,7 @@ use Rattle.json_patch.specs.RunComputed.{moved, stepped}
 use Rattle.json_patch.specs.SharedComputed.{stripped}
 use Rattle.json_patch.specs.declared.error.PatchErrorKind.TheVariants.{InvalidFromPointer, CannotMoveInsideItself}
 use Rattle.json_patch.specs.declared.walk.Displaced.{Displaced}
-use Rattle.json_patch.specs.declared.walk.Displaced.TheVariants.{Nothing, Former, Taken}
+use Rattle.json_patch.specs.declared.walk.Displaced.TheVariants.{Nothing, Former}
 use Rattle.json_patch.specs.declared.walk.Edit.TheVariants.{Insert, Take, Swap}
 use Rattle.json_patch.specs.declared.walk.StepFault.{StepFault}
 use Rattle.json_patch.proofs.Resolved.{split_is}
@@ -31,8 +32,7 @@ use Rattle.json_patch.proofs.Undone.{found_append}
 -- ---- what is computed of the container
 
 pub no_last : (F : Pointer) (t : List ℕ) → [] ≡ F ++ t ∷ [] → ⊥
-no_last [] t is = cc
-no_last (s ∷ F) t is = cc
+no_last F t is = grind (arith, common_steps)
 
 pub added_in : (d : Data) (P F : Pointer) (t : List ℕ) (v : Data) → P ≡ F ++ t ∷ [] → added d P v ≡ altered (put_in v t) d F
 added_in d P F t v is = search (rules, no_last, split_is)
@@ -62,11 +62,9 @@ undo_add_in d P F t is = search (rules, no_last, split_is)
 
 undo_found : (was : Displaced) (v : Value) (d c : Data) (P F : Pointer) (t : List ℕ) → P ≡ F ++ t ∷ [] → found d F ≡ Some c → Displaces (Insert v) t c was
     → undo_in d F t P (Some c) ≡ undo_at_place (path_of (undo_in d F t P (Some c))) was
-undo_found Nothing v d (array ds) P F t is at h = refl
 undo_found Nothing v d (object ms) P F t is at h = rw (found_none d P F t (object ms) is at h) refl
 undo_found (Former w) v d (object ms) P F t is at h = rw (found_in d P F t (object ms) (view w) is at h) refl
-undo_found (Taken w) v d (array ds) P F t is at h = absurd h
-undo_found was v d c P F t is at h = absurd h
+undo_found was v d c P F t is at h = search rules
 
 pub undo_as_found : (r : Result Displaced StepFault) (v : Value) (d : Data) (P F : Pointer) (t : List ℕ) (x : Data) → P ≡ F ++ t ∷ [] → IfOk r (DisplacesAt (Insert v) d F t) → IfOk r (Undoes d (add P x))
 undo_as_found (Err e) v d P F t x is h = h
@@ -82,9 +80,8 @@ taken_there r d P F t is h = search (rules, found_in)
 -- ---- a move
 
 pub inside : (b : Bool) (F P R : Pointer) → P ≡ F ++ R → (IsTrue b ↔ (R ≡ [])) → IsTrue (not b) ↔ IsProperPrefix F P
-inside true F P R is h = (λ no. cc, λ (p : IsProperPrefix F P). (let e : R ≡ p.0 ∷ p.1 = append_cancel_left F R (p.0 ∷ p.1) (sym is ∙ p.2) in let z : R ≡ [] = h.0 refl in cc))
-inside false F P [] is h = (λ yes. (let z : false ≡ true = h.1 refl in cc), λ p. refl)
 inside false F P (t ∷ R) is h = (λ yes. (t, R, is), λ p. refl)
+inside b F P R is h = search (rules, append_cancel_left)
 
 pub move_inside : (d : Data) (F P : Pointer) → IsProperPrefix F P → stepped d (move F P) ≡ Err CannotMoveInsideItself
 move_inside d F P h = rw (prefix_begins F P h)

@@ -69,12 +69,9 @@ pub begun_part : (S : Pointer) (op : Operation) → IsAtPart S op → IsBegun S 
 begun_part S op h = ⊎_elim (begun_whole S op) (within_begun S op) h
 
 within_at : (S : Pointer) (os : List PatchOperation) (start n k : ℕ) (o : PatchOperation) → start ≤ k → k < start + n → k < length os → IsAt os k o → AreWithin S (operations (take n (drop start os))) → IsWithin S (operation_of o)
-within_at S [] start n k o from to less is h = absurd (omega arith)
-within_at S (x ∷ os) zero zero k o from to less is h = absurd (omega arith)
-within_at S (x ∷ os) zero (suc n) zero o from to less is h = subst (λ y. IsWithin S (operation_of y)) (sym is) h.0
 within_at S (x ∷ os) zero (suc n) (suc k) o from to less is h = within_at S os zero n k o (omega arith) (omega arith) (omega arith) is h.1
-within_at S (x ∷ os) (suc start) n zero o from to less is h = absurd (omega arith)
 within_at S (x ∷ os) (suc start) n (suc k) o from to less is h = within_at S os start n k o (omega arith) (omega arith) (omega arith) is h
+within_at S os start n k o from to less is h = search rules
 
 pub part_at : (S : Pointer) (os : List PatchOperation) (start end k : ℕ) (o : PatchOperation) → start ≤ k → k < end → end ≤ length os → IsAt os k o → AreAt S (operations (take (end - start) (drop start os))) → IsAtPart S (operation_of o)
 part_at S os start end k o from to most is h =

@@ -1,7 +1,7 @@
 -- The faults of an operation value, in their order.
 use Rattle.std.proofs.Common.{◌≡◌, ◌<◌, ◌≤◌, ℕ, List, [], ◌∷◌, ◌⊎◌, Option, Some, None, Ordering, Less, nat_cmp, refl, sym, ap, ◌∙◌, subst, inl, inr, arith, ⊎_elim, codes, rules}
 use Rattle.std.specs.Cmp.Lexicographic.{slice_cmp}
-use Rattle.serde_json.specs.Data.{Num, Data, null, boolean, number, string, array, object, Items, no_items, item, Members, no_members, member}
+use Rattle.serde_json.specs.Data.{Num, Data, string, array, object, Items, no_items, item, Members, no_members, member}
 use Rattle.serde_json.specs.Find.{get}
 use Rattle.jsonptr.specs.Text.{Pointer, text_of}
 use Rattle.jsonptr.specs.Faults.{IsFault}
@@ -30,12 +30,9 @@ whole_or_not n = search rules
 
 mutual
   pub document_or_not : (d : Data) → IsDocument d ⊎ (IsDocument d → ⊥)
-  document_or_not null = inl tt
-  document_or_not (boolean b) = inl tt
-  document_or_not (number n) = whole_or_not n
-  document_or_not (string s) = inl tt
   document_or_not (array ds) = documents_or_not ds
   document_or_not (object ms) = members_or_not ms
+  document_or_not d = search (rules, whole_or_not)
 
   documents_or_not : (ds : Items) → AreDocuments ds ⊎ (AreDocuments ds → ⊥)
   documents_or_not no_items = inl tt
@@ -43,27 +40,17 @@ mutual
 
   members_or_not : (ms : Members) → AreMembers ms ⊎ (AreMembers ms → ⊥)
   members_or_not no_members = inl tt
-  members_or_not (member k d ms) =
-      ⊎_elim (λ x. ⊎_elim (λ y. ⊎_elim (λ z. inl (x, y, z)) (λ n. inr (λ h. n h.2)) (members_or_not ms)) (λ n. inr (λ h. n h.1)) (document_or_not d))
-      (λ n. inr (λ h. n h.0)) (below_or_not k ms)
+  members_or_not (member k d ms) = search (rules, below_or_not, members_or_not ms, document_or_not d)
 
 -- ---- what is found at a member
 
 pub object_or_not : (v : Data) → IsObject v ⊎ (IsObject v → ⊥)
-object_or_not null = inr (λ h. let e = h.1 in cc)
-object_or_not (boolean b) = inr (λ h. let e = h.1 in cc)
-object_or_not (number n) = inr (λ h. let e = h.1 in cc)
-object_or_not (string s) = inr (λ h. let e = h.1 in cc)
-object_or_not (array ds) = inr (λ h. let e = h.1 in cc)
 object_or_not (object ms) = inl (ms, refl)
+object_or_not v = search rules
 
 text_or_not : (d : Data) → ((t : List ℕ) × (d ≡ string t)) ⊎ ((t : List ℕ) → d ≡ string t → ⊥)
-text_or_not null = inr (λ t e. cc)
-text_or_not (boolean b) = inr (λ t e. cc)
-text_or_not (number n) = inr (λ t e. cc)
-text_or_not (string s) = inl (s, refl)
-text_or_not (array ds) = inr (λ t e. cc)
 text_or_not (object ms) = inr (λ t e. cc)
+text_or_not d = search rules
 
 some_or_none : (o : Option Data) → ((d : Data) × (o ≡ Some d)) ⊎ (o ≡ None)
 some_or_none None = inr refl

@@ -2,7 +2,7 @@
 use Rattle.std.proofs.Common.{◌≡◌, ℕ, zero, suc, List, [], ◌∷◌, map, ◌⊎◌, Option, Some, None, refl, sym, ap, ◌∙◌, subst, inl, inr, arith, ⊎_elim, codes, Bool, true, false, true≢false, rules}
 use Rattle.std.specs.Str.{bytes_eq}
 use Rattle.std.proofs.lemmas.Slice.Eq.{bytes_eq-Decides}
-use Rattle.serde_json.specs.Data.{Data, null, boolean, number, string, array, object, Items, no_items, item}
+use Rattle.serde_json.specs.Data.{Data, null, string, array, object, Items, no_items, item}
 use Rattle.serde_json.specs.Find.{get}
 use Rattle.serde_json.specs.View.{items_of}
 use Rattle.jsonptr.specs.Text.{Pointer, text_of}
@@ -236,28 +236,20 @@ items_read_or_refused (item d ds) =
     (λ h. inr (zero, h.0, h.1)) (operation_read_or_refused d)
 
 items_exclude : (ds : Items) (ops : List Operation) (k : ℕ) (kind : ReadKind) → ReadsItems ds ops → RefusesItem ds k kind → ⊥
-items_exclude no_items ops k kind h g = g
-items_exclude (item d ds) [] k kind h g = h
 items_exclude (item d ds) (op ∷ ops) zero kind h g = reads_no_fault d op h.0 kind g.here
 items_exclude (item d ds) (op ∷ ops) (suc k) kind h g = items_exclude ds ops k kind h.1 g.2
+items_exclude ds ops k kind h g = search rules
 
 same_items_read : (ds : Items) (ops others : List Operation) → ReadsItems ds ops → ReadsItems ds others → others ≡ ops
-same_items_read no_items [] [] h g = refl
-same_items_read (item d ds) (op ∷ ops) (other ∷ others) h g =
-    let first : other ≡ op = same_operation d op other h.0 g.0 in
-    let rest : others ≡ ops = same_items_read ds ops others h.1 g.1 in cc
-same_items_read no_items [] (other ∷ others) h g = absurd g
-same_items_read no_items (op ∷ ops) others h g = absurd h
-same_items_read (item d ds) [] others h g = absurd h
-same_items_read (item d ds) (op ∷ ops) [] h g = absurd g
+same_items_read (item d ds) (op ∷ ops) (other ∷ others) h g = search (rules, same_operation, same_items_read ds ops others)
+same_items_read ds ops others h g = search rules
 
 same_item_refused : (ds : Items) (k j : ℕ) (kind other : ReadKind) → RefusesItem ds k kind → RefusesItem ds j other → (j ≡ k) × (other ≡ kind)
-same_item_refused no_items k j kind other h g = absurd h
-same_item_refused (item d ds) zero zero kind other h g = (refl, operation_fault_one d kind other h g)
 same_item_refused (item d ds) zero (suc j) kind other h g = absurd (reads_no_fault d g.0 g.1 kind h.here)
 same_item_refused (item d ds) (suc k) zero kind other h g = absurd (reads_no_fault d h.0 h.1 other g.here)
 same_item_refused (item d ds) (suc k) (suc j) kind other h g =
     let rest = same_item_refused ds k j kind other h.2 g.2 in (ap suc rest.0, rest.1)
+same_item_refused ds k j kind other h g = search (rules, operation_fault_one)
 
 -- a list reads as one patch, or is refused at one item for one kind
 list_read_or_refused : (ds : Items) → ((ops : List Operation) × IsRead (array ds) ops) ⊎ ((k : Option ℕ) × (kind : ReadKind) × IsUnread (array ds) k kind)
@@ -280,12 +272,8 @@ no_list v here never numbered only = search rules
 
 -- a value reads as one patch, or is refused with one number and kind
 pub read_or_refused : (v : Data) → ((ops : List Operation) × IsRead v ops) ⊎ ((k : Option ℕ) × (kind : ReadKind) × IsUnread v k kind)
-read_or_refused (array ds) = list_read_or_refused ds
-read_or_refused null = inr (None, NotAList, no_list null refl (λ ops h. h) (λ k kind h. h) (λ kind h. h))
-read_or_refused (boolean b) = inr (None, NotAList, no_list (boolean b) refl (λ ops h. h) (λ k kind h. h) (λ kind h. h))
-read_or_refused (number n) = inr (None, NotAList, no_list (number n) refl (λ ops h. h) (λ k kind h. h) (λ kind h. h))
-read_or_refused (string s) = inr (None, NotAList, no_list (string s) refl (λ ops h. h) (λ k kind h. h) (λ kind h. h))
 read_or_refused (object ms) = inr (None, NotAList, no_list (object ms) refl (λ ops h. h) (λ k kind h. h) (λ kind h. h))
+read_or_refused v = search (rules, list_read_or_refused, no_list)
 
 -- ---- what is written reads back
 

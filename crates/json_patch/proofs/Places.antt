@@ -13,12 +13,11 @@ abbrev pub IsApart : List Step → List Step → Type 0
 IsApart L X = (R : List Step) → X ≡ L ++ R → ⊥
 
 pub under_cases : (L X : List Step) → IsUnder L X ⊎ IsApart L X
-under_cases [] X = inl (X, refl)
-under_cases (s ∷ L) [] = inr (λ R h. cc)
 under_cases (s ∷ L) (r ∷ X) =
     ⊎_elim
     (λ (e : r ≡ s). ⊎_elim (λ (u : IsUnder L X). inl (u.0, (let w : X ≡ L ++ u.0 = u.1 in cc))) (λ (out : IsApart L X). inr (λ R h. out R cc)) (under_cases L X))
     (λ (out : r ≡ s → ⊥). inr (λ R h. out cc)) (step_cases r s)
+under_cases L X = search rules
 
 -- X is under what the step s at L covers or moves
 abbrev pub IsMoved : List Step → Step → List Step → Type 0

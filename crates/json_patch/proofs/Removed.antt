@@ -1,5 +1,5 @@
 -- The computed document is the one that remove leaves, and the only one.
-use Rattle.std.proofs.Common.{◌≡◌, ℕ, List, [], ◌∷◌, ◌++◌, Some, None, refl, ap, subst, rules}
+use Rattle.std.proofs.Common.{◌≡◌, ℕ, List, [], ◌∷◌, ◌++◌, Some, None, ap, subst, rules}
 use Rattle.std.proofs.lemmas.Option.{option_and_then_some}
 use Rattle.serde_json.specs.Data.{Data, array, object, Items, Members}
 use Rattle.json_patch.specs.Document.{IsDocument, Step, key, place, child, look}
@@ -16,14 +16,12 @@ use Rattle.json_patch.proofs.Slots.{below, not_from}
 use Rattle.json_patch.proofs.Added.{elsewhere_lift}
 
 member_elsewhere : (k : List ℕ) (ms : Members) (X : List Step) → IsBeside [] (key k) X → look (object (without k ms)) X ≡ look (object ms) X
-member_elsewhere k ms [] b = refl
 member_elsewhere k ms (key q ∷ R) b = below _ _ R (get_without_other q k ms (λ h. b R (ap (λ x. key x ∷ R) h)))
-member_elsewhere k ms (place j ∷ R) b = refl
+member_elsewhere k ms X b = search rules
 
 item_elsewhere : (i : ℕ) (ds : Items) (X : List Step) → IsBeside [] (place i) X → look (array (remove_item i ds)) X ≡ look (array ds) X
-item_elsewhere i ds [] b = refl
-item_elsewhere i ds (key q ∷ R) b = refl
 item_elsewhere i ds (place j ∷ R) b = below _ _ R (get_remove_before j i ds (not_from i j R b))
+item_elsewhere i ds X b = search rules
 
 drop_takes : (s : Step) (p c : Data) → IsDocument p → child s p ≡ Some c → TakesAt p (drop_child s p) [] s
 drop_takes s p c h is = search (rules, below, get_without, member_elsewhere, get_remove_later, item_elsewhere)

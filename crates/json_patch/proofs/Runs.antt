@@ -1,10 +1,10 @@
 -- A run ends exactly where it is computed to end; joined lists.
-use Rattle.std.proofs.Common.{◌≡◌, ◌+◌, inl, inr, ℕ, zero, suc, List, [], ◌∷◌, ◌++◌, length, Result, Ok, Err, refl, sym, ap, ◌∙◌, subst, arith, rules}
+use Rattle.std.proofs.Common.{◌≡◌, ◌+◌, inl, inr, ℕ, suc, List, [], ◌∷◌, ◌++◌, length, Result, Ok, Err, refl, sym, ap, ◌∙◌, subst, arith, rules}
 use Rattle.serde_json.specs.Data.{Data}
 use Rattle.json_patch.specs.Document.{IsDocument}
 use Rattle.json_patch.specs.Operation.{Operation, test, IsWholeOp, AreWhole}
 use Rattle.json_patch.specs.declared.error.PatchErrorKind.{PatchErrorKind}
-use Rattle.json_patch.specs.Step.{Leaves, Refuses}
+use Rattle.json_patch.specs.Step.{Leaves}
 use Rattle.json_patch.specs.Run.{Accepts, RefusesAt, IsAccepted, IsRefused, Ends, AreTests}
 use Rattle.json_patch.specs.RunComputed.{Outcome, fault, counted, ran_on, stepped, ran}
 use Rattle.json_patch.proofs.Stepped.{leaves_stepped, refuses_stepped, stepped_leaves, stepped_refuses, leaves_document}
@@ -15,10 +15,9 @@ accepts_ran d (op ∷ ops) e hd hv h =
     rw (leaves_stepped d op h.0 hd hv.0 h.1, accepts_ran h.0 ops e (leaves_document d op h.0 hd hv.0 h.1) hv.1 h.2) refl
 
 pub refuses_ran : (d : Data) (ops : List Operation) (k : ℕ) (kind : PatchErrorKind) → IsDocument d → AreWhole ops → RefusesAt d ops k kind → ran d ops ≡ Err (fault k kind)
-refuses_ran d [] k kind hd hv h = absurd h
-refuses_ran d (op ∷ ops) zero kind hd hv h = rw (refuses_stepped d op kind hd hv.0 h) refl
 refuses_ran d (op ∷ ops) (suc k) kind hd hv h =
     rw (leaves_stepped d op h.0 hd hv.0 h.1, refuses_ran h.0 ops k kind (leaves_document d op h.0 hd hv.0 h.1) hv.1 h.2) refl
+refuses_ran d ops k kind hd hv h = search (rules, refuses_stepped)
 
 -- ---- where a run ends, found out
 
@@ -42,9 +41,7 @@ module _ (d : Data) (op : Operation) (ops : List Operation) (hd : IsDocument d) 
       let l : Leaves d op m = stepped_leaves d op m hd hv is in
       let c : (j : ℕ) × (k ≡ suc j) × (ran m ops ≡ Err (fault j kind)) = counted_err (ran m ops) k kind h in
       subst (λ n. RefusesAt d (op ∷ ops) n kind) (sym c.1) (m, l, more m c.0 (leaves_document d op m hd hv l) c.2)
-  refuses_on (Err other) k kind is more h =
-      let a : zero ≡ k = cc in let b : other ≡ kind = cc in
-      subst (λ n. RefusesAt d (op ∷ ops) n kind) a (subst (Refuses d op) b (stepped_refuses d op other hd hv is))
+  refuses_on r k kind is more h = search (rules, stepped_refuses)
 
 pub ran_accepts : (d : Data) (ops : List Operation) (e : Data) → IsDocument d → AreWhole ops → ran d ops ≡ Ok e → Accepts d ops e
 ran_accepts d [] e hd hv is = cc
@@ -86,18 +83,15 @@ accepts_split d (op ∷ xs) ys e h =
     let i : (m : Data) × Accepts h.0 xs m × Accepts m ys e = accepts_split h.0 xs ys e h.2 in (i.0, (h.0, h.1, i.1), i.2)
 
 pub refuses_second : (d : Data) (xs ys : List Operation) (m : Data) (j : ℕ) (kind : PatchErrorKind) → Accepts d xs m → RefusesAt m ys j kind → RefusesAt d (xs ++ ys) (length xs + j) kind
-refuses_second d [] ys m j kind h g =
-    let e : j ≡ 0 + j = omega arith in subst (λ n. RefusesAt d ys n kind) e (subst (λ x. RefusesAt x ys j kind) (sym h) g)
 refuses_second d (op ∷ xs) ys m j kind h g =
     let e : suc (length xs + j) ≡ suc (length xs) + j = omega arith in
     subst (λ n. RefusesAt d (op ∷ (xs ++ ys)) n kind) e (h.0, h.1, refuses_second h.0 xs ys m j kind h.2 g)
+refuses_second d xs ys m j kind h g = search rules
 
 pub refuses_first : (d : Data) (xs ys : List Operation) (k : ℕ) (kind : PatchErrorKind) → RefusesAt d xs k kind → RefusesAt d (xs ++ ys) k kind
-refuses_first d [] ys k kind h = absurd h
-refuses_first d (op ∷ xs) ys zero kind h = h
 refuses_first d (op ∷ xs) ys (suc k) kind h = (h.0, h.1, refuses_first h.0 xs ys k kind h.2)
+refuses_first d xs ys k kind h = search rules
 
 pub tests_end : (d : Data) (ops : List Operation) (e : Data) → AreTests ops → Accepts d ops e → e ≡ d
-tests_end d [] e t h = sym h
 tests_end d (test P v ∷ ops) e t h = tests_end h.0 ops e t h.2 ∙ h.1.1
-tests_end d (op ∷ ops) e t h = absurd t
+tests_end d ops e t h = search rules

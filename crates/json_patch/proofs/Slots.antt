@@ -41,11 +41,8 @@ aims_put v t (array ds) (place i) h = (array (insert_item i v ds), ap (option_ma
 aims_put v t p s h = absurd h
 
 pub aims_same : (p : Data) (t : List ℕ) (s r : Step) → Aims p t s → Aims p t r → s ≡ r
-aims_same (object ms) t (key k) (key l) h g = cc
 aims_same (array ds) t (place i) (place j) h g = let a : slot_of t ds ≡ Some i = slot_some t ds i h in let b : slot_of t ds ≡ Some j = slot_some t ds j g in cc
-aims_same (object ms) t (key k) (place j) h g = absurd g
-aims_same (array ds) t (place i) (key l) h g = absurd g
-aims_same p t s r h g = absurd h
+aims_same p t s r h g = search rules
 
 pub record PutsIn (v : Data) (t : List ℕ) (p q : Data) : Type 0 where
   pub s : Step
@@ -57,9 +54,8 @@ pub below : (o p : Option Data) (R : List Step) → o ≡ p → sight (option_an
 below o p R e = ap (λ o. sight (option_and_then (λ x. standing x R) o)) e
 
 member_elsewhere : (v : Data) (t : List ℕ) (ms : Members) (X : List Step) → IsBeside [] (key t) X → look (object (put t v ms)) X ≡ look (object ms) X
-member_elsewhere v t ms [] b = refl
 member_elsewhere v t ms (key q ∷ R) b = below _ _ R (get_member-put_other q t v ms (λ h. b R (ap (λ x. key x ∷ R) h)))
-member_elsewhere v t ms (place j ∷ R) b = refl
+member_elsewhere v t ms X b = search rules
 
 put_member_in : (v : Data) (t : List ℕ) (ms : Members) → PutsIn v t (object ms) (object (put t v ms))
 put_member_in v t ms = record {
@@ -73,9 +69,8 @@ pub not_from : (i j : ℕ) (R : List Step) → IsBeside [] (place i) (place j �
 not_from i j R b = ⊎_elim (λ (lt : j < i). lt) (λ (le : i ≤ j). absurd (b j R le refl)) (cases_lt j i)
 
 item_elsewhere : (v : Data) (i : ℕ) (ds : Items) → i ≤ items_len ds → (X : List Step) → IsBeside [] (place i) X → look (array (insert_item i v ds)) X ≡ look (array ds) X
-item_elsewhere v i ds le [] b = refl
-item_elsewhere v i ds le (key q ∷ R) b = refl
 item_elsewhere v i ds le (place j ∷ R) b = below _ _ R (get_insert_before j i v ds le (not_from i j R b))
+item_elsewhere v i ds le X b = search rules
 
 pub aims_within : (t : List ℕ) (ds : Items) (i : ℕ) → Aims (array ds) t (place i) → i ≤ items_len ds
 aims_within t ds i h = ⊎_elim (λ a. a.1) (λ a. let e : i ≡ items_len ds = a.1 in omega arith) h

@@ -27,15 +27,8 @@ both : (a b : Bool) → a && b ≡ true → (a ≡ true) × (b ≡ true)
 both a b h = search rules
 
 pub begins_prefix : (P Q : Pointer) → begins P Q ≡ true → IsProperPrefix P Q
-begins_prefix [] [] h = cc
-begins_prefix [] (u ∷ Q) h = (u, Q, refl)
-begins_prefix (t ∷ P) [] h = cc
-begins_prefix (t ∷ P) (u ∷ Q) h =
-    let two = both (bytes_eq t u) (begins P Q) h in
-    let i : IsProperPrefix P Q = begins_prefix P Q two.1 in
-    let e : t ≡ u = (bytes_eq-Decides t u).0 two.0 in
-    let f : Q ≡ P ++ i.0 ∷ i.1 = i.2 in
-    (i.0, i.1, cc)
+begins_prefix (t ∷ P) (u ∷ Q) h = search (rules, both, bytes_eq, bytes_eq-Decides, begins_prefix P Q)
+begins_prefix P Q h = search rules
 
 begins_long : (P : Pointer) (t : List ℕ) (R : Pointer) → begins P (P ++ t ∷ R) ≡ true
 begins_long [] t R = refl
@@ -142,13 +135,11 @@ added_refused d P v kind is = search (rules, or_err, added_none)
 module _ (d : Data) (F P : Pointer) (hd : IsDocument d) where
   move_leaves : (b : Bool) (o p : Option Data) (e : Data) → begins F P ≡ b → found d F ≡ o → removed d F ≡ p → (if b then Err CannotMoveInsideItself else moved P o p) ≡ Ok e
       → Leaves d (move F P) e
-  move_leaves true o p e b f r is = cc
-  move_leaves false None p e b f r is = cc
-  move_leaves false (Some v) None e b f r is = cc
   move_leaves false (Some v) (Some m) e b f r is =
       let s : StandsAt d F v = found_resolves d F v f in
       let g : IsRemoved d F m = removed_is d F m hd r in
       (not_prefix F P b, (v, m, s, g, added_leaves m P v e (removed_document d F m g) (stands_document d F v hd s) is))
+  move_leaves b o p e h f r is = search rules
 
   move_refused : (b : Bool) (o p : Option Data) (kind : PatchErrorKind) → begins F P ≡ b → found d F ≡ o → removed d F ≡ p → (if b then Err CannotMoveInsideItself else moved P o p) ≡ Err kind
       → Refuses d (move F P) kind
@@ -157,11 +148,7 @@ module _ (d : Data) (F P : Pointer) (hd : IsDocument d) where
       let e : InvalidFromPointer ≡ kind = cc in subst (Refuses d (move F P)) e (not_prefix F P b, nothing_removed d F f)
   move_refused false (Some v) None kind b f r is =
       let e : InvalidFromPointer ≡ kind = cc in subst (Refuses d (move F P)) e (not_prefix F P b, λ m. removed_none d F m r)
-  move_refused false (Some v) (Some m) kind b f r is =
-      let s : StandsAt d F v = found_resolves d F v f in
-      let g : IsRemoved d F m = removed_is d F m hd r in
-      let h = added_refused m P v kind is in
-      subst (Refuses d (move F P)) h.0 (not_prefix F P b, (v, m, s, g, h.1))
+  move_refused false (Some v) (Some m) kind b f r is = search (rules, found_resolves, removed_is, added_refused, not_prefix)
 
   copy_leaves : (o : Option Data) (e : Data) → found d F ≡ o → copied d P o ≡ Ok e → Leaves d (copy F P) e
   copy_leaves None e f is = cc
@@ -206,9 +193,6 @@ stepped_refuses d (copy F P) kind hd hv is = copy_refused d F P hd (found d F) k
 stepped_refuses d (test P v) kind hd hv is = test_refused_at d P v (found d P) kind hv refl is
 
 pub leaves_document : (d : Data) (op : Operation) (e : Data) → IsDocument d → IsWholeOp op → Leaves d op e → IsDocument e
-leaves_document d (add P v) e hd hv h = IsAdded_document d P v e hv h
-leaves_document d (remove P) e hd hv h = h.4
-leaves_document d (replace P v) e hd hv h = h.3
 leaves_document d (move F P) e hd hv h = IsAdded_document h.1.1 P h.1.0 e (stands_document d F h.1.0 hd h.1.2) h.1.4
 leaves_document d (copy F P) e hd hv h = IsAdded_document d P h.0 e (stands_document d F h.0 hd h.1) h.2
-leaves_document d (test P v) e hd hv h = subst IsDocument (sym h.1) hd
+leaves_document d op e hd hv h = search (rules, IsAdded_document)

@@ -1,5 +1,6 @@
 -- A recorded run, undone.
-use Rattle.std.proofs.Common.{◌≡◌, ◌+◌, ◌<◌, ◌≤◌, ℕ, zero, suc, List, [], ◌∷◌, ◌++◌, length, drop, take, map, Bool, bytes_eq, if◌then◌else◌, Vec, vec_len, Global, Option, Some, None, Result, Ok, Err, IfOk, refl, sym, ap, ◌∙◌, subst, append_assoc, arith, rules}
+use Rattle.std.proofs.lemmas.Grind.{common_steps}
+use Rattle.std.proofs.Common.{◌≡◌, ◌+◌, ◌≤◌, ℕ, zero, suc, List, [], ◌∷◌, ◌++◌, length, drop, take, map, Bool, bytes_eq, if◌then◌else◌, Vec, vec_len, Global, Option, Some, None, Result, Ok, Err, IfOk, refl, sym, ap, ◌∙◌, subst, append_assoc, arith, rules}
 use Rattle.std.specs.Int.Digits.{AllBelowBase, digits_of}
 use Rattle.std.specs.declared.alloc.AllocError.{AllocError}
 use Rattle.std.proofs.lemmas.Int.Digits.{all_below_base_digits_of}
@@ -104,9 +105,7 @@ encoded_digit x l h = let n = ne_eqb x 47 (λ e. omega arith) in let m = ne_eqb 
 
 encoded_digits : (ds : List ℕ) → AllBelowBase 10 ds → encoded (map (λ x. 48 + x) ds) ≡ map (λ x. 48 + x) ds
 encoded_digits [] h = refl
-encoded_digits (x ∷ ds) h =
-    let less : x < 10 = h.0 in
-    ap (λ b. b ++ encoded (map (λ y. 48 + y) ds)) (encoded_digit (48 + x) (omega arith) (omega arith)) ∙ ap (λ r. (48 + x) ∷ r) (encoded_digits ds h.1)
+encoded_digits (x ∷ ds) h = search (rules, encoded_digit, encoded_digits ds)
 
 place_unescaped : (i : ℕ) → IsUnescaped (token_of i)
 place_unescaped zero = refl
@@ -172,11 +171,7 @@ undo_last us rest u e new d is made h =
     (parts.0, ap (λ x. ran x (reverse (operations rest))) (made first.0 parts.1 first.1) ∙ first.2)
 
 pub take_more : (k : ℕ) (xs ys zs : List Operation) → take k xs ≡ zs → length zs ≡ k → take k (xs ++ ys) ≡ zs
-take_more zero xs ys zs is n = is
-take_more (suc k) [] ys zs is n = let z : 0 ≡ length zs = ap length is in absurd (omega arith)
-take_more (suc k) (x ∷ xs) ys zs is n =
-    let l : length (x ∷ take k xs) ≡ length zs = ap length is in
-    ap (λ r. x ∷ r) (take_more k xs ys (take k xs) refl (omega arith)) ∙ is
+take_more k xs ys zs is n = grind (arith, common_steps)
 
 pub same_count : (m : Vec PatchOperation Global) (len : ℕ) → len ≡ vec_len m → length m.items ≡ len
 same_count m len e = omega arith

@@ -34,7 +34,6 @@ pub fn added_is_document()
 {}
 
 /// Where a pointer below the root resolves, remove leaves a document.
-#[tactic(auto, using(crate::proofs::Removed::removed_there))]
 pub fn removed_where_it_resolves()
     ensures { (d : Data) (P : Pointer) (L : List Step) (s : Step) (c : Data) → IsDocument d
         → Resolves d P (L ++ s ∷ []) c → (e : Data) × IsRemoved d P e }
@@ -52,7 +51,6 @@ pub fn removed_is_computed()
 {}
 
 /// Where a pointer resolves, replace leaves a document.
-#[tactic(auto, using(crate::proofs::Replaced::replaced_there))]
 pub fn replaced_where_it_resolves()
     ensures { (d : Data) (P : Pointer) (v : Data) (L : List Step) (c : Data) → IsDocument d → IsDocument v
         → Resolves d P L c → (e : Data) × IsReplaced d P v e }
