@@ -1,16 +1,16 @@
 -- The item that a token names, and the place at which it puts a new one, by the index that is read of it.
-use Rattle.std.proofs.Common.{◌≡◌, ◌≢◌, ℕ, ◌<◌, ◌≤◌, ◌^◌, List, Bool, true, false, if◌then◌else◌, leb, bytes_eq, Option, Some, None, option_and_then, Result, MatchResult, refl, ap, ◌∙◌, arith, rules}
+use Rattle.std.proofs.Common.{◌≡◌, ◌≢◌, ℕ, ◌<◌, ◌≤◌, List, Bool, true, false, if◌then◌else◌, leb, bytes_eq, Option, Some, None, option_and_then, Result, MatchResult, refl, ap, ◌∙◌, arith, rules}
 use Rattle.std.proofs.lemmas.Bool.Decides.{nat_tests}
 use Rattle.std.proofs.lemmas.Slice.Eq.{bytes_eq-Decides}
 use Rattle.std.specs.Result.{IsErr, IsErrAnd}
-use Rattle.jsonptr.specs.Indexes.{IsIndexText, IsNoIndexText, place_in}
+use Rattle.jsonptr.specs.Indexes.{IsIndexText, place_in}
 use Rattle.jsonptr.specs.PlaceLaws.{next_is_no_place}
 use Rattle.jsonptr.specs.Places.{place_of, next_token}
 use Rattle.jsonptr.specs.declared.index.Index.{Index}
 use Rattle.json_patch.specs.ChangeComputed.{slot_in}
 use Rattle.json_patch.specs.declared.error.PatchErrorKind.{PatchErrorKind}
 use Rattle.json_patch.specs.declared.error.PatchErrorKind.TheVariants.{InvalidPointer}
-use Rattle.json_patch.proofs.Containers.{IsItem, IsNoItem}
+use Rattle.json_patch.proofs.Containers.{IsNoItem}
 
 -- a refusal that `?` made of an index's
 pub refused : (r : Result ℕ PatchErrorKind) (P : ℕ → Type 0) (Q : Type 0) → IsErr r × IsErrAnd r (λ kind. kind ≡ InvalidPointer) → Q → MatchResult r P (λ kind. (kind ≡ InvalidPointer) × Q)
@@ -18,14 +18,8 @@ refused r P Q h q = search rules
 
 -- ---- items
 
-pub no_item : (t : List ℕ) (len : ℕ) → IsNoIndexText t → len < 2 ^ 64 → IsNoItem t len
-no_item t len h fits = λ i is. let past : 2 ^ 64 ≤ i = h.past i is in omega arith
-
 pub item_outside : (t : List ℕ) (index : Index) (len : ℕ) → IsIndexText t index → len ≤ place_in index len → IsNoItem t len
 item_outside t index len h out = search (rules, next_is_no_place)
-
-pub item_within : (t : List ℕ) (index : Index) (len n : ℕ) → IsIndexText t index → n ≡ place_in index len → n < len → IsItem t len n
-item_within t index len n h is less = search rules
 
 -- ---- slots
 
@@ -46,9 +40,6 @@ fits i len le = grind (arith, nat_tests)
 
 no_slot_past : (t : List ℕ) (len : ℕ) → t ≢ next_token → ((i : ℕ) → place_of t ≡ Some i → len < i) → slot_in t len ≡ None
 no_slot_past t len other past = rw (not_next (bytes_eq t next_token) t refl other) (past_all (place_of t) len past)
-
-pub no_slot : (t : List ℕ) (len : ℕ) → IsNoIndexText t → len < 2 ^ 64 → slot_in t len ≡ None
-no_slot t len h fits = no_slot_past t len h.other (λ i is. let past : 2 ^ 64 ≤ i = h.past i is in omega arith)
 
 pub slot_outside : (t : List ℕ) (index : Index) (len : ℕ) → IsIndexText t index → len < place_in index len → slot_in t len ≡ None
 slot_outside t index len h out = search (rules, no_slot_past, place_is_not_next)

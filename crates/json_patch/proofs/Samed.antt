@@ -4,16 +4,13 @@ use Rattle.std.specs.Bool.{Decides}
 use Rattle.std.specs.Cmp.Lexicographic.{pointwise}
 use Rattle.std.specs.Ordering.{on}
 use Rattle.std.proofs.lemmas.Bool.Decides.{Decides-and, Decides-at, Decides-like}
-use Rattle.serde_json.specs.Data.{Num, Data, array, object, Items, item, Members, member}
-use Rattle.json_patch.specs.Document.{IsDocument, AreDocuments, AreMembers, IsWhole}
+use Rattle.serde_json.specs.Data.{Data, array, object, Items, item, Members, member}
+use Rattle.json_patch.specs.Document.{IsDocument, AreDocuments, AreMembers}
 use Rattle.json_patch.specs.Operation.{Operation, Parts, parts_of, operation_of, operations, IsWholeOp, AreWhole}
 use Rattle.json_patch.specs.declared.operation.PatchOperation.{PatchOperation}
-use Rattle.json_patch.specs.Same.{AreSameNumbers, AreSame, AreSameItems, AreSameMembers, AreSameAt, AreSameParts, AreSameOperations, AreSameLists}
+use Rattle.json_patch.specs.Same.{AreSame, AreSameItems, AreSameMembers, AreSameAt, AreSameParts, AreSameOperations, AreSameLists}
 use Rattle.json_patch.specs.SameComputed.{same, same_parts, same_operation}
 use Rattle.json_patch.specs.SameLaws.{AreSame-refl, AreSame-sym, same-Decides, parts-refl, parts-Decides}
-
-numbers-is : (m n : Num) → IsWhole m → AreSameNumbers m n → m ≡ n
-numbers-is m n w h = search rules
 
 mutual
   pub AreSame-is : (d e : Data) → IsDocument d → AreSame d e → d ≡ e

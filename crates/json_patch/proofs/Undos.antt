@@ -13,19 +13,14 @@ use Rattle.serde_json.proofs.Views.{items_len-items_view, view-Array}
 use Rattle.jsonptr.specs.Text.{Pointer, IsPrefix, ReplacesLast, encoded, encoded_byte}
 use Rattle.jsonptr.specs.Places.{next_token, token_of}
 use Rattle.std.proofs.lemmas.Bool.{ne_eqb}
-use Rattle.json_patch.specs.Attempt.{TakesOut}
 use Rattle.json_patch.specs.ChangeComputed.{found, front_of, last_of}
-use Rattle.json_patch.specs.Edits.{Undoes, undo_at_place}
 use Rattle.json_patch.specs.InPlace.{AreUnescaped, IsUnescaped}
 use Rattle.json_patch.specs.InverseComputed.{block, settled_token, undo_add, undo_at, undo_in, with_found}
-use Rattle.json_patch.specs.Operation.{Operation, add, replace, move, operation_of, operations, path_of}
+use Rattle.json_patch.specs.Operation.{Operation, replace, operation_of, operations, path_of}
 use Rattle.json_patch.specs.RunComputed.{ran, ran_on, stepped}
-use Rattle.json_patch.specs.PartRun.{block_at}
-use Rattle.json_patch.specs.SharedComputed.{extended}
 use Rattle.json_patch.specs.Undoing.{AreUndos, IsUndo, IsUndoable, count_in}
 use Rattle.json_patch.specs.declared.error.PatchErrorKind.{PatchErrorKind}
 use Rattle.json_patch.specs.declared.operation.PatchOperation.{PatchOperation}
-use Rattle.json_patch.specs.declared.walk.Displaced.{Displaced}
 use Rattle.json_patch.proofs.Below.{strip}
 use Rattle.json_patch.proofs.Parents.{no_last}
 use Rattle.json_patch.proofs.Resolved.{split_is, split_whole}
@@ -77,25 +72,11 @@ count_here n v m len is = let same : n ≡ length m.items = omega arith in rw (i
 
 -- ---- what is recorded
 
-at_place : (S P : Pointer) (was : Displaced) → extended S (undo_at_place P was) ≡ undo_at_place (S ++ P) was
-at_place S P was = search rules
-
 one_more : (olds news : List PatchOperation) (u : PatchOperation) (op : Operation) → news ≡ olds ++ u ∷ [] → operation_of u ≡ op → operations news ≡ operations olds ++ op ∷ []
 one_more olds news u op is same = ap operations is ∙ map-append operation_of olds (u ∷ []) ∙ ap (λ o. operations olds ++ o ∷ []) same
 
 first_of : (u w : Operation) (us ws : List Operation) → ◌≡◌ {A = List Operation} (u ∷ us) (w ∷ ws) → u ≡ w
 first_of u w us ws is = cc
-
-pub records_move : (olds held mids news : List PatchOperation) (a u : PatchOperation) (d m : Data) (v : Value) (S G Q place : Pointer) (was : Displaced) (x : Data) → held ≡ olds → mids ≡ held ++ a ∷ [] → news ≡ mids ++ u ∷ []
-    → operation_of a ≡ add G (view v) → operation_of u ≡ undo_at_place place was → IsPrefix S G → TakesOut d m (drop (length S) G) (drop (length S) Q) v → place ≡ S ++ path_of (undo_add m (drop (length S) Q))
-    → Undoes m (add (drop (length S) Q) x) was → operations news ≡ operations olds ++ reverse (block_at d S (move G Q))
-records_move olds held mids news a u d m v S G Q place was x room first second puts takes begun out at is =
-    let F = drop (length S) G in let P = drop (length S) Q in
-    let taken : operation_of u ≡ extended S (undo_add m P) =
-    takes ∙ ap (λ R. undo_at_place R was) at ∙ sym (at_place S (path_of (undo_add m P)) was) ∙ ap (extended S) (sym (first_of (undo_add m P) (undo_at_place (path_of (undo_add m P)) was) [] [] is)) in
-    let put : operation_of a ≡ add (S ++ F) (view v) = puts ∙ ap (λ R. add R (view v)) (prefix_rest S G begun) in
-    one_more mids news u (extended S (undo_add m P)) second taken ∙ ap (λ B. B ++ extended S (undo_add m P) ∷ []) (one_more olds mids a (add (S ++ F) (view v)) (first ∙ ap (λ us. us ++ a ∷ []) room) put)
-    ∙ append_assoc (operations olds) (add (S ++ F) (view v) ∷ []) (extended S (undo_add m P) ∷ []) ∙ rw (out.1, out.2) refl
 
 -- ---- without memory
 

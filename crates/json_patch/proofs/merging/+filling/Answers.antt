@@ -17,8 +17,7 @@ fill-returns t c hd hp =
     (ap view c.replace.ensures.after ∙ c.in_ok-value.ensures.cases) c.replace.ensures.value hp
 
 pub fill-returns-in_err-fill_members : goal.fill-returns-in_err-fill_members
-fill-returns-in_err-fill_members t c =
-    filled_no_object _ _ _ _ _ c.fill_members.new.members c.in-Object.changes c.from_residual.ensures.0 (c.in-Object-target.is ∙ ap Object (sym c.in-Object-target.members-is)) (search (rules, the_lemmas)) c.in-Object.is c.in_err-fill_members.ensures
+fill-returns-in_err-fill_members t c = search (rules, filled_no_object, the_lemmas)
 
 pub fill-returns-in-Object-target : goal.fill-returns-in-Object-target
 fill-returns-in-Object-target t c =

@@ -1,14 +1,9 @@
-use Rattle.std.proofs.Common.{sym, subst}
-use Rattle.serde_json.specs.View.{view}
-use Rattle.json_patch.specs.Document.{IsDocument}
+use Rattle.std.proofs.Common.{rules}
 use Rattle.json_patch.proofs.Applied.{state_document}
 use Rattle.json_patch.proofs.run.patch_unsafe.Goals as goal
 
 pub returns-in-Err-clause-document : goal.returns-in-Err-clause-document
-returns-in-Err-clause-document c =
-    subst IsDocument (sym c.in-Err.ensures.unchanged)
-    (state_document (view c.args.doc.now) (view c.loop-number.doc) c.args.patch.now c.loop-number.number c.requires.document c.requires.whole c.loop-number.invariant)
+returns-in-Err-clause-document c = search (rules, state_document)
 
 pub returns-clause-document : goal.returns-clause-document
-returns-clause-document c =
-    state_document (view c.args.doc.now) (view c.loop-number.doc) c.args.patch.now c.loop-number.number c.requires.document c.requires.whole c.loop-number.invariant
+returns-clause-document c = search (rules, state_document)

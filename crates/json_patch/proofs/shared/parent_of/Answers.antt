@@ -1,12 +1,11 @@
-use Rattle.std.proofs.Common.{◌≡◌, None, Some, option_map, sym, ap, ◌∙◌}
+use Rattle.std.proofs.Common.{◌≡◌, Some, option_map, sym, ap, ◌∙◌, rules}
 use Rattle.jsonptr.specs.Pointers.{token_of, tokens_of}
 use Rattle.json_patch.specs.Operation.{operation_of, from_of}
 use Rattle.json_patch.proofs.SharedTokens.{both_longest, even_if_none, parent_longest, root_source, root_within}
 use Rattle.json_patch.proofs.shared.parent_of.Goals as goal
 
 pub returns-in_err-parent-clause-none : goal.returns-in_err-parent-clause-none
-returns-in_err-parent-clause-none c =
-    even_if_none _ _ (root_within (operation_of c.args.operation.now) (sym c.path.ensures ∙ c.in_err-parent.ensures.root))
+returns-in_err-parent-clause-none c = search (rules, even_if_none, root_within)
 
 pub returns-in_err-source-in-Some-clause-none : goal.returns-in_err-source-in-Some-clause-none
 returns-in_err-source-in-Some-clause-none c =
@@ -24,6 +23,4 @@ returns-in_ok-source-in-Some-clause-shared c =
     from (sym c.path.ensures ∙ c.in_ok-parent.ensures.last) c.in_ok-source-in-Some.ensures.last m
 
 pub returns-in-None-clause-shared : goal.returns-in-None-clause-shared
-returns-in-None-clause-shared c =
-    let from : from_of (operation_of c.args.operation.now) ≡ None = sym (ap (λ p. p.from) c.parts.ensures) ∙ ap (λ o. option_map (λ F. F.now) o) c.in-None.is in
-    parent_longest (operation_of c.args.operation.now) (tokens_of c.in_ok-parent.parent) (token_of c.in_ok-parent._last) from (sym c.path.ensures ∙ c.in_ok-parent.ensures.last)
+returns-in-None-clause-shared c = search (rules, parent_longest)

@@ -1,14 +1,9 @@
-use Rattle.serde_json.specs.View.{view}
-use Rattle.jsonptr.specs.Pointers.{token_of, tokens_of}
+use Rattle.std.proofs.Common.{rules}
 use Rattle.json_patch.proofs.Parents.{added_in, undo_as_found}
 use Rattle.json_patch.proofs.step.add.Goals as goal
 
 pub returns-in-Some-clause-leaves : goal.returns-in-Some-clause-leaves
-returns-in-Some-clause-leaves c =
-    rw (added_in (view c.args.doc.now) (tokens_of c.args.path) (tokens_of c.in-Some.parent) (token_of c.in-Some.last) (view c.args.value) c.in-Some.ensures.last)
-    (rw c.tokens.ensures.value at c.edit_at.ensures.leaves)
+returns-in-Some-clause-leaves c = search (rules, added_in)
 
 pub returns-in-Some-clause-undo : goal.returns-in-Some-clause-undo
-returns-in-Some-clause-undo c =
-    undo_as_found _ c.args.value (view c.args.doc.now) (tokens_of c.args.path) (tokens_of c.in-Some.parent) (token_of c.in-Some.last) (view c.args.value) c.in-Some.ensures.last
-    (rw c.tokens.ensures.value at c.edit_at.ensures.displaces)
+returns-in-Some-clause-undo c = search (rules, undo_as_found)

@@ -1,4 +1,4 @@
-use Rattle.std.proofs.Common.{refl}
+use Rattle.std.proofs.Common.{refl, rules}
 use Rattle.serde_json.specs.View.{view}
 use Rattle.jsonptr.specs.Pointers.{tokens_of}
 use Rattle.json_patch.proofs.Parents.{move_inside, move_nowhere, not_inside}
@@ -8,6 +8,4 @@ pub returns-then-is_inside-clause-refused : goal.returns-then-is_inside-clause-r
 returns-then-is_inside-clause-refused c = move_inside (view c.args.doc.now) (tokens_of c.args.from) (tokens_of c.args.path) (c.if-is_inside.ensures.0 refl)
 
 pub returns-in-Err-Refused-clause-refused : goal.returns-in-Err-Refused-clause-refused
-returns-in-Err-Refused-clause-refused c =
-    let out = rw c.in-Err-Refused.field-0-is at c.in-Err-Refused.ensures.leaves in
-    move_nowhere (view c.args.doc.now) (tokens_of c.args.from) (tokens_of c.args.path) (not_inside _ _ c.if-is_inside.ensures) out.0.1
+returns-in-Err-Refused-clause-refused c = search (rules, move_nowhere, not_inside)
