@@ -202,6 +202,7 @@ fn undo_place(
 }
 
 /// How many items the list has, where this is one.
+#[tactic(auto, using(crate::proofs::Undos::count_here))]
 fn item_count(list: Option<&Value>) -> Option<usize>
     ensures { result ≡ count_in (option_map (λ v. view v.now) list.entry) }
 {
@@ -250,6 +251,7 @@ fn undo_one(alloc: Global, doc: &mut Value, operation: PatchOperation)
 }
 
 /// The token that names a place in a list (RFC 6901, section 4): its digits.
+#[tactic(auto, using(crate::proofs::Parents::place_text))]
 fn place_text(alloc: Global, index: usize) -> Result<String, AllocError>
     ensures { IfOk result (λ text. string_bytes text ≡ token_of index) }
 {

@@ -2,35 +2,13 @@ use Rattle.std.proofs.Common.{rules}
 use Rattle.serde_json.specs.View.{view}
 use Rattle.jsonptr.specs.Pointers.{token_of}
 use Rattle.json_patch.proofs.Attempts.{refused}
-use Rattle.json_patch.proofs.Containers.{found_item, inserts_item, inserts_nowhere, swaps_item, swaps_no_item, takes_item, takes_no_item}
+use Rattle.json_patch.proofs.Containers.{swaps_item, swaps_no_item}
 use Rattle.json_patch.proofs.walk.edit_items.Goals as goal
-
-pub returns-in_err-index-in-Insert-clause-leaves :
-    goal.returns-in_err-index-in-Insert-clause-leaves
-returns-in_err-index-in-Insert-clause-leaves c = search (rules, refused, inserts_nowhere)
-
-pub returns-in_err-index-in-Take-clause-leaves : goal.returns-in_err-index-in-Take-clause-leaves
-returns-in_err-index-in-Take-clause-leaves c = search (rules, refused, takes_no_item)
 
 pub returns-in_err-index-in-Swap-clause-leaves : goal.returns-in_err-index-in-Swap-clause-leaves
 returns-in_err-index-in-Swap-clause-leaves c =
     let out = c.in_err-index-in-Swap.ensures in
     refused _ _ _ _ c.from_residual-in_err-index-in-Swap.ensures out.0 (rw c.in-Swap.is (swaps_no_item (token_of c.args.token) c.args.items.now c.len-in-Swap.result (view c.in-Swap.value) c.len-in-Swap.ensures out.1))
 
-pub returns-in_ok-insert-in-Insert-clause-leaves :
-    goal.returns-in_ok-insert-in-Insert-clause-leaves
-returns-in_ok-insert-in-Insert-clause-leaves c = search (rules, inserts_item)
-
-pub returns-in_ok-index-in-Take-clause-leaves : goal.returns-in_ok-index-in-Take-clause-leaves
-returns-in_ok-index-in-Take-clause-leaves c = search (rules, takes_item)
-
-pub returns-in_ok-index-in-Take-clause-displaces :
-    goal.returns-in_ok-index-in-Take-clause-displaces
-returns-in_ok-index-in-Take-clause-displaces c = search (rules, found_item)
-
 pub returns-in_ok-index-in-Swap-clause-leaves : goal.returns-in_ok-index-in-Swap-clause-leaves
 returns-in_ok-index-in-Swap-clause-leaves c = search (rules, swaps_item)
-
-pub returns-in_ok-index-in-Swap-clause-displaces :
-    goal.returns-in_ok-index-in-Swap-clause-displaces
-returns-in_ok-index-in-Swap-clause-displaces c = search (rules, found_item)
