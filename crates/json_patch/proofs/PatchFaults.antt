@@ -1,5 +1,5 @@
 -- The faults of an operation value, in their order.
-use Rattle.std.proofs.Common.{◌≡◌, ◌<◌, ◌≤◌, ℕ, List, [], ◌∷◌, ◌⊎◌, Option, Some, None, Ordering, Less, nat_cmp, refl, sym, ap, ◌∙◌, subst, inl, inr, arith, ⊎_elim, codes, rules}
+use Rattle.std.proofs.Common.{◌≡◌, ℕ, List, [], ◌∷◌, ◌⊎◌, Option, Some, None, Ordering, Less, nat_cmp, refl, sym, ap, ◌∙◌, subst, inl, inr, ⊎_elim, codes, rules}
 use Rattle.std.specs.Cmp.Lexicographic.{slice_cmp}
 use Rattle.serde_json.specs.Data.{Num, Data, string, array, object, Items, no_items, item, Members, no_members, member}
 use Rattle.serde_json.specs.Find.{get}
@@ -7,10 +7,10 @@ use Rattle.jsonptr.specs.Text.{Pointer, text_of}
 use Rattle.jsonptr.specs.Faults.{IsFault}
 use Rattle.jsonptr.specs.declared.ParseError.{ParseError}
 use Rattle.json_patch.specs.Document.{IsDocument, AreDocuments, AreMembers, IsBelowMembers, IsWhole}
-use Rattle.json_patch.specs.PatchValue.{IsObject, Lacks, HasNoText, HasNoPointer, HasNoDocument, IsOneOf, IsFieldFault, NoneBelow, IsFirst, rank}
+use Rattle.json_patch.specs.PatchValue.{IsObject, Lacks, HasNoText, HasNoPointer, HasNoDocument, IsFieldFault, NoneBelow, IsFirst, rank}
 use Rattle.json_patch.specs.ReadSteps.{HasAnyFrom, IsPointerAt}
 use Rattle.json_patch.specs.declared.error.ReadKind.{ReadKind}
-use Rattle.json_patch.specs.declared.error.ReadKind.TheVariants.{NotAList, NotAnObject, MissingOp, OpNotText, UnknownOp, MissingFrom, FromNotText, BadFrom, MissingPath, PathNotText, BadPath, MissingValue, ValueNotWhole}
+use Rattle.json_patch.specs.declared.error.ReadKind.TheVariants.{BadFrom, BadPath}
 use Rattle.jsonptr.specs.TextLaws.{pointer_or_fault, pointer_has_no_fault, one_fault}
 
 -- ---- a value is a document, or it isn't
@@ -111,96 +111,23 @@ no_pointer_one v k e f h g = one_fault g.0 e f (subst (λ t. IsFault t e) (same_
 
 -- ---- the faults by their ranks
 
-module _ (names : List (List ℕ)) (v : Data) where
-  abbrev At : ReadKind → Type 0
-  At = IsFieldFault names v
-
-  pub object_clears : IsObject v → NoneBelow At 6
-  object_clears o NotAList l f = f
-  object_clears o NotAnObject l f = f o
-  object_clears o MissingOp l f = f
-  object_clears o OpNotText l f = f
-  object_clears o UnknownOp l f = f
-  object_clears o _ l f = absurd (omega arith)
-
-  pub not_object : (IsObject v → ⊥) → IsFirst At NotAnObject
-  not_object n = search rules
-
-  -- no fault is looked for before `path`
-  pub past_from : IsObject v → HasAnyFrom names v → NoneBelow At 9
-  past_from o has NotAnObject l f = f o
-  past_from o has MissingFrom l f = let F = has f.0 in found_lacks v (codes "from") _ F.1 f.1
-  past_from o has FromNotText l f = let F = has f.0 in found_text v (codes "from") _ F.1 f.1
-  past_from o has (BadFrom e) l f = let F = has f.0 in found_pointer v (codes "from") F.0 e F.1 f.1
-  past_from o has NotAList l f = f
-  past_from o has MissingOp l f = f
-  past_from o has OpNotText l f = f
-  past_from o has UnknownOp l f = f
-  past_from o has _ l f = absurd (omega arith)
-
-  module _ (below : NoneBelow At 6) (has : IsOneOf names (codes "from")) where
-    up_to : (r : ℕ) → r ≤ 8 → (6 < r → Lacks v (codes "from") → ⊥) → (7 < r → HasNoText v (codes "from") → ⊥) → NoneBelow At r
-    up_to r small a t MissingFrom l f = a l f.1
-    up_to r small a t FromNotText l f = t l f.1
-    up_to r small a t other l f = below other (omega (arith, l, small)) f
-
-    pub from_missing : Lacks v (codes "from") → IsFirst At MissingFrom
-    from_missing h = record { here = (has, h); none_before = below }
-
-    pub from_no_text : HasNoText v (codes "from") → IsFirst At FromNotText
-    from_no_text h = record { here = (has, h); none_before = up_to 7 (omega arith) (λ l. found_lacks v (codes "from") _ h.1) (λ l. absurd (omega (arith, l))) }
-
-    pub from_no_pointer : (e : ParseError) → HasNoPointer v (codes "from") e → IsFirst At (BadFrom e)
-    from_no_pointer e h = record { here = (has, h); none_before = up_to 8 (omega arith) (λ l. found_lacks v (codes "from") _ h.1) (λ l. found_text v (codes "from") _ h.1) }
-
-  module _ (below : NoneBelow At 9) where
-    path_up_to : (r : ℕ) → r ≤ 12 → (9 < r → Lacks v (codes "path") → ⊥) → (10 < r → HasNoText v (codes "path") → ⊥) → (11 < r → (e : ParseError) → HasNoPointer v (codes "path") e → ⊥) → NoneBelow At r
-    path_up_to r small a t p MissingPath l f = a l f
-    path_up_to r small a t p PathNotText l f = t l f
-    path_up_to r small a t p (BadPath e) l f = p l e f
-    path_up_to r small a t p other l f = below other (omega (arith, l, small)) f
-
-    pub path_clears : (P : Pointer) → get (codes "path") v ≡ Some (string (text_of P)) → NoneBelow At 12
-    path_clears P found = path_up_to 12 (omega arith) (λ l. found_lacks v (codes "path") _ found) (λ l. found_text v (codes "path") _ found) (λ l e. found_pointer v (codes "path") P e found)
-
-    pub path_missing : Lacks v (codes "path") → IsFirst At MissingPath
-    path_missing h = record { here = h; none_before = below }
-
-    pub path_no_text : HasNoText v (codes "path") → IsFirst At PathNotText
-    path_no_text h = record { here = h; none_before = path_up_to 10 (omega arith) (λ l. found_lacks v (codes "path") _ h.1) (λ l. absurd (omega (arith, l))) (λ l. absurd (omega (arith, l))) }
-
-    pub path_no_pointer : (e : ParseError) → HasNoPointer v (codes "path") e → IsFirst At (BadPath e)
-    path_no_pointer e h = record { here = h; none_before = path_up_to 11 (omega arith) (λ l. found_lacks v (codes "path") _ h.1) (λ l. found_text v (codes "path") _ h.1) (λ l. absurd (omega (arith, l))) }
-
-  module _ (below : NoneBelow At 12) (has : IsOneOf names (codes "value")) where
-    pub value_missing : Lacks v (codes "value") → IsFirst At MissingValue
-    value_missing h = record { here = (has, h); none_before = below }
-
-    pub value_no_document : HasNoDocument v (codes "value") → IsFirst At ValueNotWhole
-    value_no_document h = search rules
+-- no fault is looked for before `path`
+pub past_from : (names : List (List ℕ)) (v : Data) → IsObject v → HasAnyFrom names v → NoneBelow (IsFieldFault names v) 9
+past_from names v o has (BadFrom e) l f = let F = has f.0 in found_pointer v (codes "from") F.0 e F.1 f.1
+past_from names v o has kind l f = search rules
 
 -- no fault is looked for before `value`
 pub past_path : (v : Data) (P : Pointer) → IsPointerAt v (codes "path") P → NoneBelow (IsFieldFault (codes "path" ∷ codes "value" ∷ []) v) 12
-past_path v P found = path_clears (codes "path" ∷ codes "value" ∷ []) v (past_from (codes "path" ∷ codes "value" ∷ []) v (object_found (codes "path") v _ found) (λ h. cc)) P found
+past_path v P found (BadPath e) l f = found_pointer v (codes "path") P e found f
+past_path v P found kind l f = search rules
 
 -- ---- one first fault
 
 module _ (F : ReadKind → Type 0) (from_one : (e f : ParseError) → F (BadFrom e) → F (BadFrom f) → e ≡ f) (path_one : (e f : ParseError) → F (BadPath e) → F (BadPath f) → e ≡ f) where
   same_rank : (kind other : ReadKind) → rank kind ≡ rank other → F kind → F other → other ≡ kind
-  same_rank NotAList NotAList r h g = refl
-  same_rank NotAnObject NotAnObject r h g = refl
-  same_rank MissingOp MissingOp r h g = refl
-  same_rank OpNotText OpNotText r h g = refl
-  same_rank UnknownOp UnknownOp r h g = refl
-  same_rank MissingFrom MissingFrom r h g = refl
-  same_rank FromNotText FromNotText r h g = refl
   same_rank (BadFrom e) (BadFrom f) r h g = ap BadFrom (from_one f e g h)
-  same_rank MissingPath MissingPath r h g = refl
-  same_rank PathNotText PathNotText r h g = refl
   same_rank (BadPath e) (BadPath f) r h g = ap BadPath (path_one f e g h)
-  same_rank MissingValue MissingValue r h g = refl
-  same_rank ValueNotWhole ValueNotWhole r h g = refl
-  same_rank _ _ r h g = absurd (omega arith)
+  same_rank kind other r h g = search rules
 
   pub first_one : (kind other : ReadKind) → IsFirst F kind → IsFirst F other → other ≡ kind
   first_one kind other h g = search (rules, same_rank)

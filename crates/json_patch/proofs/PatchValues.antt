@@ -1,19 +1,20 @@
 -- A value reads as one patch, or is refused with one number and kind; what is written reads back.
-use Rattle.std.proofs.Common.{◌≡◌, ℕ, zero, suc, List, [], ◌∷◌, map, ◌⊎◌, Option, Some, None, refl, sym, ap, ◌∙◌, subst, inl, inr, arith, ⊎_elim, codes, Bool, true, false, true≢false, rules}
+use Rattle.std.proofs.Common.{◌≡◌, ℕ, zero, suc, List, [], ◌∷◌, map, ◌⊎◌, Option, Some, None, refl, sym, ap, ◌∙◌, subst, inl, inr, ⊎_elim, codes, Bool, true, false, true≢false, rules}
 use Rattle.std.specs.Str.{bytes_eq}
 use Rattle.std.proofs.lemmas.Slice.Eq.{bytes_eq-Decides}
-use Rattle.serde_json.specs.Data.{Data, null, string, array, object, Items, no_items, item}
+use Rattle.serde_json.specs.Data.{Data, null, string, array, Items, no_items, item}
 use Rattle.serde_json.specs.Find.{get}
 use Rattle.serde_json.specs.View.{items_of}
 use Rattle.jsonptr.specs.Text.{Pointer, text_of}
 use Rattle.json_patch.specs.Document.{IsDocument, AreDocuments}
 use Rattle.json_patch.specs.Operation.{Operation, add, remove, replace, move, copy, test, IsWholeOp, AreWhole}
-use Rattle.json_patch.specs.PatchValue.{name_of, field_names, ReadsFields, ReadsOperation, ReadsItems, ReadsPatch, IsObject, Lacks, HasNoText, IsOneOf, IsFieldFault, IsOperationFault, IsUnknown, NoneBelow, RefusesFields, RefusesOperation, RefusesItem, RefusesPatch, written, written_fields, written_patch}
+use Rattle.json_patch.specs.PatchValue.{name_of, field_names, ReadsFields, ReadsOperation, ReadsItems, ReadsPatch, IsObject, IsOneOf, IsFieldFault, IsOperationFault, RefusesFields, RefusesOperation, RefusesItem, written, written_fields, written_patch}
+use Rattle.json_patch.specs.ReadSteps.{HasAnyFrom}
 use Rattle.json_patch.specs.ReadLaws.{IsRead, IsUnread, IsReadAlone, IsUnreadAlone, IsReadLike, IsUnreadLike}
 use Rattle.json_patch.specs.declared.error.ReadKind.{ReadKind}
 use Rattle.json_patch.specs.declared.error.ReadKind.TheVariants.{NotAList, NotAnObject, MissingOp, OpNotText, UnknownOp, MissingFrom, FromNotText, BadFrom, MissingPath, PathNotText, BadPath, MissingValue, ValueNotWhole}
 use Rattle.jsonptr.specs.TextLaws.{one_pointer}
-use Rattle.json_patch.proofs.PatchFaults.{Text, pointer, lacks, no_text, no_pointer, text_at, Held, document, lacks_it, no_document, held_at, object_or_not, object_found, found_lacks, found_text, found_pointer, found_document, same_text, same_found, no_pointer_one, object_clears, not_object, past_from, from_missing, from_no_text, from_no_pointer, path_clears, path_missing, path_no_text, path_no_pointer, value_missing, value_no_document, first_one}
+use Rattle.json_patch.proofs.PatchFaults.{Text, pointer, lacks, no_text, no_pointer, text_at, Held, document, lacks_it, no_document, held_at, object_or_not, object_found, found_lacks, found_text, found_pointer, found_document, same_text, same_found, no_pointer_one, past_from, first_one, past_path}
 
 -- ---- what is read
 
@@ -32,16 +33,10 @@ reads_value v op h n = search rules
 -- ---- what is read has no fault
 
 reads_no_field_fault : (v : Data) (op : Operation) → ReadsFields v op → (kind : ReadKind) → IsFieldFault (field_names op) v kind → ⊥
-reads_no_field_fault v op h NotAnObject f = let p = reads_path v op h in f (object_found (codes "path") v _ p.1)
-reads_no_field_fault v op h MissingFrom f = let p = reads_from v op h f.0 in found_lacks v (codes "from") _ p.1 f.1
-reads_no_field_fault v op h FromNotText f = let p = reads_from v op h f.0 in found_text v (codes "from") _ p.1 f.1
 reads_no_field_fault v op h (BadFrom e) f = let p = reads_from v op h f.0 in found_pointer v (codes "from") p.0 e p.1 f.1
-reads_no_field_fault v op h MissingPath f = let p = reads_path v op h in found_lacks v (codes "path") _ p.1 f
-reads_no_field_fault v op h PathNotText f = let p = reads_path v op h in found_text v (codes "path") _ p.1 f
 reads_no_field_fault v op h (BadPath e) f = let p = reads_path v op h in found_pointer v (codes "path") p.0 e p.1 f
-reads_no_field_fault v op h MissingValue f = let x = reads_value v op h f.0 in found_lacks v (codes "value") _ x.1 f.1
 reads_no_field_fault v op h ValueNotWhole f = let x = reads_value v op h f.0 in found_document v (codes "value") x.0 x.1 x.2 f.1
-reads_no_field_fault v op h _ f = f
+reads_no_field_fault v op h kind f = search rules
 
 apart : (a b : List ℕ) → bytes_eq a b ≡ false → a ≡ b → ⊥
 apart a b differs e = true≢false (sym ((bytes_eq-Decides a b).1 e) ∙ differs)
@@ -82,27 +77,18 @@ FoundDocument v k = (d : Data) × (get k v ≡ Some d) × IsDocument d
 abbrev Unread : List (List ℕ) → Data → Type 0
 Unread names v = (kind : ReadKind) × RefusesFields names v kind
 
-module _ (names : List (List ℕ)) (v : Data) where
-  read_from : NoneBelow (IsFieldFault names v) 6 → IsOneOf names (codes "from") → Text v (codes "from") → FoundText v (codes "from") ⊎ Unread names v
-  read_from below has (pointer F e) = inl (F, e)
-  read_from below has (lacks h) = inr (MissingFrom, from_missing names v below has h)
-  read_from below has (no_text h) = inr (FromNotText, from_no_text names v below has h)
-  read_from below has (no_pointer e h) = inr (BadFrom e, from_no_pointer names v below has e h)
+module _ (names : List (List ℕ)) (v : Data) (is : IsObject v) where
+  read_from : IsOneOf names (codes "from") → Text v (codes "from") → FoundText v (codes "from") ⊎ Unread names v
+  read_from has (pointer F e) = inl (F, e)
+  read_from has (lacks h) = inr (MissingFrom, search rules)
+  read_from has (no_text h) = inr (FromNotText, search rules)
+  read_from has (no_pointer e h) = inr (BadFrom e, search rules)
 
-  read_path : NoneBelow (IsFieldFault names v) 9 → Text v (codes "path") → FoundText v (codes "path") ⊎ Unread names v
-  read_path below (pointer F e) = inl (F, e)
-  read_path below (lacks h) = inr (MissingPath, path_missing names v below h)
-  read_path below (no_text h) = inr (PathNotText, path_no_text names v below h)
-  read_path below (no_pointer e h) = inr (BadPath e, path_no_pointer names v below e h)
-
-  read_value : NoneBelow (IsFieldFault names v) 12 → IsOneOf names (codes "value") → Held v (codes "value") → FoundDocument v (codes "value") ⊎ Unread names v
-  read_value below has (document d e doc) = inl (d, e, doc)
-  read_value below has (lacks_it h) = inr (MissingValue, value_missing names v below has h)
-  read_value below has (no_document h) = inr (ValueNotWhole, value_no_document names v below has h)
-
-  -- a first fault, or what is said of an object
-  of_object : {A : Type 0} → (IsObject v → A ⊎ Unread names v) → A ⊎ Unread names v
-  of_object rest = ⊎_elim rest (λ n. inr (NotAnObject, not_object names v n)) (object_or_not v)
+  read_path : HasAnyFrom names v → Text v (codes "path") → FoundText v (codes "path") ⊎ Unread names v
+  read_path from (pointer P e) = inl (P, e)
+  read_path from (lacks h) = inr (MissingPath, search (rules, past_from))
+  read_path from (no_text h) = inr (PathNotText, search (rules, past_from))
+  read_path from (no_pointer e h) = inr (BadPath e, search (rules, past_from))
 
 abbrev path_alone : List (List ℕ)
 path_alone = codes "path" ∷ []
@@ -117,17 +103,25 @@ from_and_path = codes "from" ∷ codes "path" ∷ []
 then : {A B U : Type 0} → A ⊎ U → (A → B ⊎ U) → (A × B) ⊎ U
 then a b = ⊎_elim (λ x. ⊎_elim (λ y. inl (x, y)) inr (b x)) inr a
 
+-- a first fault, or what is said of an object
+of_object : {A : Type 0} (names : List (List ℕ)) (v : Data) → (IsObject v → A ⊎ Unread names v) → A ⊎ Unread names v
+of_object names v rest = ⊎_elim rest (λ n. inr (NotAnObject, search rules)) (object_or_not v)
+
+read_value : (v : Data) → FoundText v (codes "path") → Held v (codes "value") → FoundDocument v (codes "value") ⊎ Unread path_and_value v
+read_value v P (document d e doc) = inl (d, e, doc)
+read_value v P (lacks_it h) = inr (MissingValue, search (rules, past_path))
+read_value v P (no_document h) = inr (ValueNotWhole, search (rules, past_path))
+
 read_path_alone : (v : Data) → FoundText v (codes "path") ⊎ Unread path_alone v
-read_path_alone v = of_object path_alone v (λ is. read_path path_alone v (past_from path_alone v is (λ h. cc)) (text_at v (codes "path") is))
+read_path_alone v = of_object path_alone v (λ is. read_path path_alone v is (λ h. cc) (text_at v (codes "path") is))
 
 read_path_and_value : (v : Data) → (FoundText v (codes "path") × FoundDocument v (codes "value")) ⊎ Unread path_and_value v
-read_path_and_value v = of_object path_and_value v (λ is.
-    let clear : NoneBelow (IsFieldFault path_and_value v) 9 = past_from path_and_value v is (λ h. cc) in
-    then (read_path path_and_value v clear (text_at v (codes "path") is))
-    (λ P. read_value path_and_value v (path_clears path_and_value v clear P.0 P.1) refl (held_at v (codes "value") is)))
+read_path_and_value v =
+    of_object path_and_value v (λ is. then (read_path path_and_value v is (λ h. cc) (text_at v (codes "path") is)) (λ P. read_value v P (held_at v (codes "value") is)))
 
 read_from_and_path : (v : Data) → (FoundText v (codes "from") × FoundText v (codes "path")) ⊎ Unread from_and_path v
-read_from_and_path v = search (rules, of_object, then, read_from, object_clears, text_at, read_path, past_from)
+read_from_and_path v =
+    of_object from_and_path v (λ is. then (read_from from_and_path v is refl (text_at v (codes "from") is)) (λ F. read_path from_and_path v is (λ h. F) (text_at v (codes "path") is)))
 
 -- the members of an operation like this one are read, or there is a first fault
 abbrev FieldsOutcome : Data → Operation → Type 0
@@ -157,9 +151,6 @@ read_like_or_refused like v =
 
 -- ---- by the name in `op`
 
-unnamed : (v : Data) → (IsObject v → ⊥) → RefusesOperation v NotAnObject
-unnamed v n = search rules
-
 -- a first fault with the members that the named operation has is the first fault
 pub named_refused : (v : Data) (op : Operation) (kind : ReadKind) → get (codes "op") v ≡ Some (string (name_of op)) → RefusesFields (field_names op) v kind → RefusesOperation v kind
 named_refused v op kind e h = search rules
@@ -167,25 +158,8 @@ named_refused v op kind e h = search rules
 abbrev At : Data → ReadKind → Type 0
 At v = IsOperationFault v
 
-op_clears : (v : Data) → IsObject v → NoneBelow (At v) 3
-op_clears v is NotAList l f = f.2
-op_clears v is NotAnObject l f = f is
-op_clears v is _ l f = absurd (omega arith)
-
-op_missing : (v : Data) → Lacks v (codes "op") → RefusesOperation v MissingOp
-op_missing v h = record { here = h; none_before = op_clears v h.0 }
-
-op_no_text : (v : Data) → HasNoText v (codes "op") → RefusesOperation v OpNotText
-op_no_text v h = search rules
-
-op_unknown : (v : Data) (n : List ℕ) → get (codes "op") v ≡ Some (string n) → IsUnknown n → RefusesOperation v UnknownOp
-op_unknown v n e h = search rules
-
 same_or_not : (a b : List ℕ) (r : Bool) → bytes_eq a b ≡ r → (a ≡ b) ⊎ (a ≡ b → ⊥)
 same_or_not a b r e = search rules
-
-unknown : (n : List ℕ) → (n ≡ codes "add" → ⊥) → (n ≡ codes "remove" → ⊥) → (n ≡ codes "replace" → ⊥) → (n ≡ codes "move" → ⊥) → (n ≡ codes "copy" → ⊥) → (n ≡ codes "test" → ⊥) → IsUnknown n
-unknown n a r p m c t h e = search rules
 
 abbrev Outcome : Data → Type 0
 Outcome v = ((op : Operation) × ReadsOperation v op) ⊎ ((kind : ReadKind) × RefusesOperation v kind)
@@ -204,18 +178,18 @@ module _ (v : Data) where
       ⊎_elim (named_as n e (move [] [])) (λ m.
       ⊎_elim (named_as n e (copy [] [])) (λ c.
       ⊎_elim (named_as n e (test [] null)) (λ t.
-      inr (UnknownOp, op_unknown v n e (unknown n a r p m c t)))
+      inr (UnknownOp, search rules))
       (same_or_not n (codes "test") _ refl)) (same_or_not n (codes "copy") _ refl)) (same_or_not n (codes "move") _ refl))
       (same_or_not n (codes "replace") _ refl)) (same_or_not n (codes "remove") _ refl)) (same_or_not n (codes "add") _ refl)
 
   by_text : Text v (codes "op") → Outcome v
   by_text (pointer P e) = by_name _ e
-  by_text (lacks h) = inr (MissingOp, op_missing v h)
-  by_text (no_text h) = inr (OpNotText, op_no_text v h)
+  by_text (lacks h) = inr (MissingOp, search rules)
+  by_text (no_text h) = inr (OpNotText, search rules)
   by_text (no_pointer f h) = by_name h.0 h.1
 
   operation_read_or_refused : Outcome v
-  operation_read_or_refused = ⊎_elim (λ is. by_text (text_at v (codes "op") is)) (λ n. inr (NotAnObject, unnamed v n)) (object_or_not v)
+  operation_read_or_refused = ⊎_elim (λ is. by_text (text_at v (codes "op") is)) (λ n. inr (NotAnObject, search rules)) (object_or_not v)
 
 operation_fault_one : (v : Data) (kind other : ReadKind) → RefusesOperation v kind → RefusesOperation v other → other ≡ kind
 operation_fault_one v = first_one (At v) (λ e f h g. no_pointer_one v (codes "from") e f h.2.1 g.2.1) (λ e f h g. no_pointer_one v (codes "path") e f h.2 g.2)
@@ -254,26 +228,13 @@ same_item_refused ds k j kind other h g = search (rules, operation_fault_one)
 -- a list reads as one patch, or is refused at one item for one kind
 list_read_or_refused : (ds : Items) → ((ops : List Operation) × IsRead (array ds) ops) ⊎ ((k : Option ℕ) × (kind : ReadKind) × IsUnread (array ds) k kind)
 list_read_or_refused ds =
-    ⊎_elim (λ h. inl (h.0, record { reads = h.1; alone = λ others g. same_items_read ds h.0 others h.1 g; nowhere = nowhere h.0 h.1 }))
-    (λ h. inr (Some h.0, h.1, record { refuses = h.2; alone = alone h.0 h.1 h.2; never = λ ops g. items_exclude ds ops h.0 h.1 g h.2 }))
+    ⊎_elim (λ h. inl (h.0, search (rules, same_items_read, items_exclude))) (λ h. inr (Some h.0, h.1, search (rules, same_item_refused, items_exclude)))
     (items_read_or_refused ds)
-  where
-    nowhere : (ops : List Operation) → ReadsItems ds ops → (k : Option ℕ) (kind : ReadKind) → RefusesPatch (array ds) k kind → ⊥
-    nowhere ops h None kind g = g
-    nowhere ops h (Some k) kind g = items_exclude ds ops k kind h g
-
-    alone : (k : ℕ) (kind : ReadKind) → RefusesItem ds k kind → (j : Option ℕ) (other : ReadKind) → RefusesPatch (array ds) j other → (j ≡ Some k) × (other ≡ kind)
-    alone k kind h None other g = absurd g
-    alone k kind h (Some j) other g = let same = same_item_refused ds k j kind other h g in (ap Some same.0, same.1)
-
-no_list : (v : Data) → RefusesPatch v None NotAList → ((ops : List Operation) → ReadsPatch v ops → ⊥) → ((k : ℕ) (kind : ReadKind) → RefusesPatch v (Some k) kind → ⊥)
-    → ((kind : ReadKind) → RefusesPatch v None kind → kind ≡ NotAList) → IsUnread v None NotAList
-no_list v here never numbered only = search rules
 
 -- a value reads as one patch, or is refused with one number and kind
 pub read_or_refused : (v : Data) → ((ops : List Operation) × IsRead v ops) ⊎ ((k : Option ℕ) × (kind : ReadKind) × IsUnread v k kind)
-read_or_refused (object ms) = inr (None, NotAList, no_list (object ms) refl (λ ops h. h) (λ k kind h. h) (λ kind h. h))
-read_or_refused v = search (rules, list_read_or_refused, no_list)
+read_or_refused (array ds) = list_read_or_refused ds
+read_or_refused v = inr (None, NotAList, search rules)
 
 -- ---- what is written reads back
 
