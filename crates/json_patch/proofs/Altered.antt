@@ -28,18 +28,12 @@ look_child : (s : Step) (d c : Data) (R : List Step) → child s d ≡ Some c �
 look_child s d c R is = ap (λ o. sight (option_and_then (λ x. standing x R) o)) is
 
 module _ (s : Step) (d c e : Data) (L : List Step) (p q : Data) (is : child s d ≡ Some c) (g : Grafts c e L p q) where
-  apart_same : (Y : List Step) → IsApart (s ∷ L) (s ∷ Y) → look (set_child s e d) (s ∷ Y) ≡ look d (s ∷ Y)
-  apart_same Y out = search (rules, look_child, child_set)
-
   apart_step : (X : List Step) → IsApart (s ∷ L) X → look (set_child s e d) X ≡ look d X
   apart_step [] out = sight_set s d e
   apart_step (r ∷ Y) out =
       ⊎_elim
-      (λ (same : r ≡ s). subst (λ x. IsApart (s ∷ L) (x ∷ Y) → look (set_child s e d) (x ∷ Y) ≡ look d (x ∷ Y)) (sym same) (apart_same Y) out)
+      (λ (same : r ≡ s). subst (λ x. IsApart (s ∷ L) (x ∷ Y) → look (set_child s e d) (x ∷ Y) ≡ look d (x ∷ Y)) (sym same) (search (rules, look_child, child_set)) out)
       (λ (other : r ≡ s → ⊥). ap (λ o. sight (option_and_then (λ x. standing x Y) o)) (child_set_other r s d e other)) (step_cases r s)
-
-  grafts_step : Grafts d (set_child s e d) (s ∷ L) p q
-  grafts_step = search (rules, look_child, child_set, apart_step)
 
 altered_step : (f : Data → Option Data) (d : Data) (t : List ℕ) (P : List (List ℕ)) (s : Step) (c b : Data) → step_of d t ≡ Some s → child s d ≡ Some c
     → IsAltered f c P b → IsAltered f d (t ∷ P) (set_child s b d)
@@ -49,7 +43,7 @@ altered_step f d t P s c b named is a = record {
   q = a.q;
   resolves = (c, step_names d t s named, is, a.resolves);
   result = a.result;
-  grafts = grafts_step s d c b a.L a.p a.q is a.grafts;
+  grafts = (search (rules, look_child, child_set, apart_step));
   keeps = λ hd keep. set_document s d b hd (a.keeps (child_document s d c hd is) keep);
 }
 

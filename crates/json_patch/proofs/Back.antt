@@ -15,7 +15,7 @@ use Rattle.json_patch.specs.InverseComputed.{block, inverse}
 use Rattle.json_patch.proofs.Resolved.{resolves_same}
 use Rattle.json_patch.proofs.Stepped.{leaves_stepped, stepped_leaves, refuses_stepped, stepped_refuses}
 use Rattle.json_patch.proofs.Runs.{accepts_ran, ran_accepts, refuses_ran, ran_refuses, accepts_split, accepts_joined, accepts_document}
-use Rattle.json_patch.proofs.Inverted.{block_back, block_whole, block_length, inverse_back, inverse_whole, inverse_length, inverse_joined, inverse_twice, whole_joined}
+use Rattle.json_patch.proofs.Inverted.{block_back, block_whole, inverse_back, inverse_whole, inverse_length, inverse_joined, inverse_twice, whole_joined}
 use Rattle.json_patch.proofs.Blocks.{block_is, block_only, inverse_is, inverse_only}
 
 -- ---- what is computed, both ways
@@ -44,7 +44,7 @@ module _ (d : Data) (op : Operation) (e : Data) (hd : IsDocument d) (hv : IsWhol
   block_exactly B = (λ g. sym (block_only d op B hd g), λ g. subst (IsBlock d op) g (block_is d op e hd hv h))
 
   pub block_leads_back : (B : List Operation) → IsBlock d op B → AreWhole B × (length B ≤ 2) × Accepts e B d
-  block_leads_back B g = search (rules, block_only, block_whole, block_length, block_back)
+  block_leads_back B g = search (rules, block_only, block_whole, block_back)
 
 module _ (d : Data) (ops : List Operation) (hd : IsDocument d) (hv : AreWhole ops) where
   pub inverse_exactly : (e : Data) → Accepts d ops e → (I : List Operation) → IsInverse d ops I ↔ (inverse d ops ≡ I)

@@ -10,7 +10,7 @@ use Rattle.serde_json.proofs.Views.{view-Array, view-Object}
 use Rattle.jsonptr.specs.Text.{Pointer}
 use Rattle.json_patch.specs.Attempt.{Attempts}
 use Rattle.json_patch.specs.ChangeComputed.{step_of, set_child, found, altered}
-use Rattle.json_patch.specs.Document.{Step, child}
+use Rattle.json_patch.specs.Document.{child}
 use Rattle.json_patch.specs.Edits.{Displaces, DisplacesAt}
 use Rattle.json_patch.specs.declared.error.PatchErrorKind.{PatchErrorKind}
 use Rattle.json_patch.specs.declared.error.PatchErrorKind.TheVariants.{InvalidPointer}
@@ -28,18 +28,14 @@ within f t d = option_and_then (λ s. option_and_then (λ c. option_map (λ e. s
 
 -- ---- at a child that is there
 
-at_child : {T : Type 0} (r : Result T StepFault) (f : Data → Option Data) (t : List ℕ) (d e : Data) (s : Step) (c b : Data) → step_of d t ≡ Some s → child s d ≡ Some c
-    → (f c ≡ Some b → set_child s b d ≡ e) → (b ≡ c → e ≡ d) → Attempts r (f c) c b → Attempts r (within f t d) d e
-at_child r f t d e s c b named is done same h = search rules
-
 pub attempts_item : {T : Type 0} (r : Result T StepFault) (f : Data → Option Data) (t : List ℕ) (m : Vec Value Global) (len i : ℕ) (v w : Value) → len ≡ vec_len m → IsItem t len i → v ≡ get_or m.items i v → Attempts r (f (view v)) (view v) (view w)
     → Attempts r (within f t (array (items_view m.items))) (array (items_view m.items)) (array (items_view (set m.items i w)))
-attempts_item r f t m len i v w e at is h = search (rules, at_child, item_child, items_view-set, items_view-set_same)
+attempts_item r f t m len i v w e at is h = search (rules, item_child, items_view-set, items_view-set_same)
 
 pub attempts_member : {T : Type 0} (r : Result T StepFault) (f : Data → Option Data) (t : List ℕ) (m n : BTreeMap (String Global) Value) (v w : Value) → AreInOrder m.entries → Some v ≡ lookup (is_named t) m.entries
     → n.entries ≡ set_value (is_named t) m.entries w → Attempts r (f (view v)) (view v) (view w)
     → Attempts r (within f t (object (members_view m.entries))) (object (members_view m.entries)) (object (members_view n.entries))
-attempts_member r f t m n v w order is wrote h = search (rules, at_child, member_child, members_view-set_value, members_view-set_same)
+attempts_member r f t m n v w order is wrote h = search (rules, member_child, members_view-set_value, members_view-set_same)
 
 -- ---- at values
 
@@ -76,14 +72,11 @@ next_within f d P rest t is = rw is
 
 -- ---- what stands there
 
-found_within : (d c : Data) (s : Step) (t : List ℕ) (P : Pointer) → step_of d t ≡ Some s → child s d ≡ Some c → found d (t ∷ P) ≡ found c P
-found_within d c s t P named is = rw (named, is)
-
 pub found_at_item : (t : List ℕ) (P rest : Pointer) (old : Value) (m : Vec Value Global) (len i : ℕ) (v : Value) → P ≡ t ∷ rest → old ≡ Array m → len ≡ vec_len m → IsItem t len i → v ≡ get_or m.items i v → found (view old) P ≡ found (view v) rest
-found_at_item t P rest old m len i v way o e at is = search (rules, view-Array, found_within, item_child)
+found_at_item t P rest old m len i v way o e at is = search (rules, view-Array, item_child)
 
 pub found_at_member : (t : List ℕ) (P rest : Pointer) (old : Value) (m : BTreeMap (String Global) Value) (v : Value) → P ≡ t ∷ rest → old ≡ Object m → Some v ≡ lookup (is_named t) m.entries → found (view old) P ≡ found (view v) rest
-found_at_member t P rest old m v way o is = search (rules, view-Object, found_within, member_child)
+found_at_member t P rest old m v way o is = search (rules, view-Object, member_child)
 
 pub displaces_below : (r : Result Displaced StepFault) (edit : Edit) (d c : Data) (P rest : Pointer) (last : List ℕ) → found d P ≡ found c rest → IfOk r (DisplacesAt edit c rest last) → IfOk r (DisplacesAt edit d P last)
 displaces_below r edit d c P rest last same h = search rules

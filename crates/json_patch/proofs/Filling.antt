@@ -131,9 +131,6 @@ restored_object log old new m n is after back = rw (is, after, view-Object m, vi
 
 -- ---- filled
 
-absent_in : (d : Data) (k : List ℕ) → sight_of d ≢ an_object → get k d ≡ None
-absent_in d k other = search rules
-
 on_cases : (o : Ordering) (found : Option Data) (q : Data) → IsFilledMember None found found → IsFilledMember None (Some q) (Some q) → IsFilledMember None (match_ordering o found (Some q) found) (match_ordering o found (Some q) found)
 on_cases o found q later here = search rules
 
@@ -144,7 +141,7 @@ value_itself q h = fills (λ h. cc) h
 -- a value of the patch fills a name as it is: what the patch removes within it goes later
 mutual
   pub filled_itself : (p d : Data) → (sight_of p ≡ an_object → sight_of d ≢ an_object) → IsFilled d p p
-  filled_itself (object ps) d other = by_key refl refl (λ k. subst (λ o. IsFilledMember o (get_member k ps) (get_member k ps)) (sym (absent_in d k (other refl))) (member_itself k ps))
+  filled_itself (object ps) d other = by_key refl refl (λ k. subst (λ o. IsFilledMember o (get_member k ps) (get_member k ps)) (sym (search rules)) (member_itself k ps))
   filled_itself p d other = replaces (λ h. cc)
 
   member_itself : (k : List ℕ) (ps : Members) → IsFilledMember None (get_member k ps) (get_member k ps)

@@ -11,7 +11,7 @@ use Rattle.json_patch.specs.Inverse.{IsInverse}
 use Rattle.json_patch.specs.Run.{Accepts}
 use Rattle.json_patch.specs.Shared.{IsWithin, AreWithin}
 use Rattle.json_patch.specs.ChangeComputed.{found, removed, replaced, front_of, last_of}
-use Rattle.json_patch.specs.InverseComputed.{undo_at, undo_in, undo_add, with_found, with_left, block, inverse}
+use Rattle.json_patch.specs.InverseComputed.{undo_in, undo_add, with_found, with_left, block, inverse}
 use Rattle.json_patch.specs.RunComputed.{stepped}
 use Rattle.json_patch.specs.SharedComputed.{stripped, stripped_all, extended, extended_all}
 use Rattle.json_patch.specs.declared.error.PatchErrorKind.{PatchErrorKind}
@@ -28,15 +28,12 @@ use Rattle.json_patch.proofs.Undone.{found_document}
 
 -- ---- an add
 
-at_under : (S P : Pointer) (o : Option Data) → undo_at (S ++ P) o ≡ extended S (undo_at P o)
-at_under S P o = search rules
-
 with_under : {X : Type 0} (S : Pointer) (o : Option X) (f g : X → List Operation) → ((w : X) → o ≡ Some w → f w ≡ extended_all S (g w)) → with_found o f ≡ extended_all S (with_found o g)
 with_under S o f g h = search rules
 
 module _ (d : Data) (S : Pointer) (b : Data) (at : found d S ≡ Some b) where
   in_under : (F : Pointer) (t : List ℕ) (P : Pointer) (o : Option Data) → undo_in d (S ++ F) t (S ++ P) o ≡ extended S (undo_in b F t P o)
-  in_under F t P o = search (rules, append_assoc, found_under, at_under)
+  in_under F t P o = search (rules, append_assoc, found_under)
 
   undo_under : (t : List ℕ) (P : Pointer) → undo_add d (S ++ t ∷ P) ≡ extended S (undo_add b (t ∷ P))
   undo_under t P =

@@ -10,7 +10,7 @@ use Rattle.json_patch.specs.Step.{Leaves}
 use Rattle.json_patch.specs.Run.{Accepts}
 use Rattle.json_patch.specs.ChangeComputed.{found, removed}
 use Rattle.json_patch.specs.RunComputed.{or_refused, stepped, ran}
-use Rattle.json_patch.specs.InverseComputed.{undo_at, undo_in, undo_add, with_left, block, inverse}
+use Rattle.json_patch.specs.InverseComputed.{undo_in, undo_add, with_left, block, inverse}
 use Rattle.json_patch.proofs.Found.{resolves_found}
 use Rattle.json_patch.proofs.Exact.{added_exact, removed_exact, replaced_exact}
 use Rattle.json_patch.proofs.Stepped.{stands_found, stands_document, removed_document, leaves_stepped, leaves_document}
@@ -47,20 +47,14 @@ block_ran d (test P v) e hd hv h = ap Ok h.1
 
 -- ---- the block's values are documents
 
-undo_at_whole : (d : Data) (P : Pointer) (o : Option Data) → IsDocument d → found d P ≡ o → IsWholeOp (undo_at P o)
-undo_at_whole d P o hd is = search (rules, found_document)
-
 undo_in_whole : (d : Data) (front : Pointer) (last : List ℕ) (P : Pointer) (o : Option Data) → IsDocument d → IsWholeOp (undo_in d front last P o)
-undo_in_whole d front last P o hd = search (rules, undo_at_whole)
-
-undo_add_whole : (d : Data) (P : Pointer) → IsDocument d → IsWholeOp (undo_add d P)
-undo_add_whole d P hd = search (rules, undo_in_whole)
+undo_in_whole d front last P o hd = search (rules, found_document)
 
 pub block_whole : (d : Data) (op : Operation) (e : Data) → IsDocument d → IsWholeOp op → Leaves d op e → AreWhole (block d op)
 block_whole d (move F P) e hd hv h =
     rw (stands_found d F h.1.0 h.1.2, removed_exact d F h.1.1 hd h.1.3)
-    (undo_add_whole h.1.1 P (removed_document d F h.1.1 h.1.3), (stands_document d F h.1.0 hd h.1.2, tt))
-block_whole d op e hd hv h = search (rules, undo_add_whole, resolves_found, found_document)
+    ((search (rules, undo_in_whole)), (stands_document d F h.1.0 hd h.1.2, tt))
+block_whole d op e hd hv h = search (rules, undo_in_whole, resolves_found, found_document)
 
 pub block_back : (d : Data) (op : Operation) (e : Data) → IsDocument d → IsWholeOp op → Leaves d op e → Accepts e (block d op) d
 block_back d op e hd hv h = ran_accepts e (block d op) d (leaves_document d op e hd hv h) (block_whole d op e hd hv h) (block_ran d op e hd hv h)
@@ -100,12 +94,9 @@ inverse_twice d ops e hd hv h = inverse_back e (inverse d ops) d (accepts_docume
 
 -- ---- its length
 
-pub block_length : (op : Operation) (d : Data) → length (block d op) ≤ 2
-block_length op d = search rules
-
 left_length : (o : Result Data PatchErrorKind) (f : Data → List Operation) (n : ℕ) → ((m : Data) → length (f m) ≤ n) → length (with_left o f) ≤ n
 left_length o f n h = search rules
 
 pub inverse_length : (ops : List Operation) (d : Data) → length (inverse d ops) ≤ 2 * length ops
 inverse_length [] d = omega arith
-inverse_length (op ∷ ops) d = search (rules, left_length, length-append, block_length, inverse_length ops)
+inverse_length (op ∷ ops) d = search (rules, left_length, length-append, inverse_length ops)

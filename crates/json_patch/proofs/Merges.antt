@@ -30,12 +30,9 @@ or_null_document o h = search rules
 pub was_document : (k : List ℕ) (ms : Members) → AreMembers ms → IsDocument (unwrap_or (get_member k ms) null)
 was_document k ms h = or_null_document (get_member k ms) (λ d is. member_document k d ms h is)
 
-pub are_members : (d : Data) → IsDocument d → AreMembers (members_of d)
-are_members d h = search rules
-
 mutual
   pub merged_document : (p d : Data) → IsDocument d → IsDocument p → IsDocument (merged d p)
-  merged_document (object ps) d hd hp = merged_are_members ps (members_of d) (are_members d hd) hp
+  merged_document (object ps) d hd hp = merged_are_members ps (members_of d) (search rules) hp
   merged_document p d hd hp = hp
 
   merged_are_members : (ps ms : Members) → AreMembers ms → AreMembers ps → AreMembers (merged_members ms ps)
@@ -71,7 +68,7 @@ member_next k l q ps ms ns next once keeps here later =
 mutual
   pub merged_is : (p d : Data) → IsDocument d → IsDocument p → IsMerged d p (merged d p)
   merged_is (object ps) d hd hp =
-      by_key refl refl (λ k. along (sym (get_members k d)) refl refl (member_is ps (members_of d) k (are_members d hd) hp))
+      by_key refl refl (λ k. along (sym (get_members k d)) refl refl (member_is ps (members_of d) k (search rules) hp))
   merged_is null d hd hp = replaces (λ h. cc)
   merged_is (boolean b) d hd hp = replaces (λ h. cc)
   merged_is (number n) d hd hp = replaces (λ h. cc)
@@ -125,22 +122,16 @@ mutual
 pub merged_exactly : (d p e : Data) → IsDocument d → IsDocument p → IsDocument e → IsMerged d p e ↔ (merged d p ≡ e)
 merged_exactly d p e hd hp he = (λ h. one e (merged_document p d hd hp) he (merged_is p d hd hp) h, λ is. subst (IsMerged d p) is (merged_is p d hd hp))
 
-pub is_replaced : {d p e : Data} → sight_of p ≢ map → IsMerged d p e → e ≡ p
-is_replaced other h = search rules
-
-at_key : {d p e : Data} (k : List ℕ) → sight_of p ≡ map → IsMerged d p e → IsMergedMember (get k d) (get k p) (get k e)
-at_key k is h = search rules
-
 kept : {was named left : Option Data} → named ≡ None → IsMergedMember was named left → left ≡ was
 kept is stays = refl
 kept is goes = cc
 kept is (merges other h) = cc
 
 pub unnamed_stays : {d p e : Data} (k : List ℕ) → sight_of p ≡ map → IsMerged d p e → get k p ≡ None → get k e ≡ get k d
-unnamed_stays k named h is = kept is (at_key k named h)
+unnamed_stays k named h is = kept is (search rules)
 
 pub exactly_one : (d p : Data) → IsDocument d → IsDocument p → (e : Data) × IsDocument e × IsMerged d p e × ((f : Data) → IsDocument f → IsMerged d p f → f ≡ e)
 exactly_one d p hd hp = (merged d p, merged_document p d hd hp, merged_is p d hd hp, λ f hf h. one (merged d p) hf (merged_document p d hd hp) h (merged_is p d hd hp))
 
 pub no_object : (d p e : Data) → sight_of p ≢ map → IsMerged d p e ↔ (e ≡ p)
-no_object d p e other = (is_replaced other, λ is. subst (IsMerged d p) (sym is) (replaces other))
+no_object d p e other = ((search rules), λ is. subst (IsMerged d p) (sym is) (replaces other))

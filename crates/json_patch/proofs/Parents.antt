@@ -18,7 +18,7 @@ use Rattle.json_patch.specs.ChangeComputed.{step_of, set_child, put_in, take_fro
 use Rattle.json_patch.specs.Edits.{Displaces, DisplacesAt, IsTaken, Undoes, undo_at_place}
 use Rattle.json_patch.specs.InPlace.{AreUnescaped, IsUnescaped}
 use Rattle.json_patch.specs.InverseComputed.{undo_in, undo_add}
-use Rattle.json_patch.specs.RunComputed.{moved, stepped}
+use Rattle.json_patch.specs.RunComputed.{stepped}
 use Rattle.json_patch.specs.SharedComputed.{stripped}
 use Rattle.json_patch.specs.declared.error.PatchErrorKind.TheVariants.{InvalidFromPointer, CannotMoveInsideItself}
 use Rattle.json_patch.specs.declared.walk.Displaced.{Displaced}
@@ -89,11 +89,8 @@ move_inside d F P h = rw (prefix_begins F P h)
 pub moves : {T : Type 0} (r : Result T StepFault) (d m e v : Data) (F P : Pointer) → (IsProperPrefix F P → ⊥) → removed d F ≡ Some m → found d F ≡ Some v → Attempts r (added m P v) m e → Steps r (stepped d (move F P)) e
 moves r d m e v F P out gone stood h = search (rules, not_begins)
 
-no_source : (P : Pointer) (o : Option Data) → moved P o None ≡ Err InvalidFromPointer
-no_source P o = search rules
-
 pub move_nowhere : (d : Data) (F P : Pointer) → (IsProperPrefix F P → ⊥) → removed d F ≡ None → stepped d (move F P) ≡ Err InvalidFromPointer
-move_nowhere d F P out none = rw (not_begins F P out, none) (no_source P (found d F))
+move_nowhere d F P out none = rw (not_begins F P out, none) (search rules)
 
 pub not_inside : (F P : Pointer) → (IsTrue false ↔ IsProperPrefix F P) → IsProperPrefix F P → ⊥
 not_inside F P h p = let yes : false ≡ true = h.1 p in cc
@@ -101,7 +98,7 @@ not_inside F P h p = let yes : false ≡ true = h.1 p in cc
 -- the value is out, and is added or not
 pub move_goes : {T : Type 0} (r : Result T StepFault) (d m e : Data) (v : Value) (S F P G Q : Pointer) → F ≡ drop (length S) G → P ≡ drop (length S) Q → TakesOut d m F P v → Attempts r (added m P (view v)) m e
     → Steps r (stepped d (stripped S (move G Q))) e
-move_goes r d m e v S F P G Q from path out h = search (rules, moves)
+move_goes r d m e v S F P G Q from path out h = search (rules, not_begins)
 
 -- what `?` passed on
 pub move_stops : {T : Type 0} (U : Type 0) (r : Result T StepFault) (fault : StepFault) (d m e : Data) (v : Value) (S F P G Q : Pointer) → F ≡ drop (length S) G → P ≡ drop (length S) Q → IsErr r × IsErrAnd r (λ f. f ≡ fault) → TakesOut d m F P v

@@ -27,11 +27,8 @@ use Rattle.json_patch.proofs.Undone.{found_document}
 
 -- ---- an operation at the root
 
-stripped_root : (op : Operation) → stripped [] op ≡ op
-stripped_root op = search rules
-
 pub stripped_whole : (S : Pointer) (op : Operation) → S ≡ [] → stripped S op ≡ op
-stripped_whole S op root = ap (λ X. stripped X op) root ∙ stripped_root op
+stripped_whole S op root = ap (λ X. stripped X op) root ∙ (search rules)
 
 extended_root : (ops : List Operation) → extended_all [] ops ≡ ops
 extended_root [] = refl
@@ -48,14 +45,8 @@ block_whole d S op root = ap (λ o. extended_all S (block d o)) (stripped_whole 
 pub step_whole : (T : Type 0) (r : Result T StepFault) (d new : Data) (S : Pointer) (op : Operation) → S ≡ [] → Steps r (stepped d (stripped S op)) new → Steps r (stepped d op) new
 step_whole T r d new S op root h = subst (λ o. Steps r (stepped d o) new) (stripped_whole S op root) h
 
-root_begins : (op : Operation) → IsBegun [] op
-root_begins op = search rules
-
 begins : (S P : Pointer) → IsProperPrefix S P → IsPrefix S P
 begins S P h = (h.0 ∷ h.1, h.2)
-
-within_begun : (S : Pointer) (op : Operation) → IsWithin S op → IsBegun S op
-within_begun S op h = search rules
 
 -- ---- an operation at a part, or at the root
 
@@ -63,10 +54,10 @@ abbrev pub IsAtPart : Pointer → Operation → Type 0
 IsAtPart S op = (S ≡ []) ⊎ IsWithin S op
 
 pub begun_whole : (S : Pointer) (op : Operation) → S ≡ [] → IsBegun S op
-begun_whole S op root = subst (λ X. IsBegun X op) (sym root) (root_begins op)
+begun_whole S op root = subst (λ X. IsBegun X op) (sym root) (search rules)
 
 pub begun_part : (S : Pointer) (op : Operation) → IsAtPart S op → IsBegun S op
-begun_part S op h = ⊎_elim (begun_whole S op) (within_begun S op) h
+begun_part S op h = ⊎_elim (begun_whole S op) (search rules) h
 
 within_at : (S : Pointer) (os : List PatchOperation) (start n k : ℕ) (o : PatchOperation) → start ≤ k → k < start + n → k < length os → IsAt os k o → AreWithin S (operations (take n (drop start os))) → IsWithin S (operation_of o)
 within_at S (x ∷ os) zero (suc n) (suc k) o from to less is h = within_at S os zero n k o (omega arith) (omega arith) (omega arith) is h.1

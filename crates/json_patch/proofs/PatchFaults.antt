@@ -1,12 +1,11 @@
 -- The faults of an operation value, in their order.
-use Rattle.std.proofs.Common.{◌≡◌, ℕ, List, [], ◌∷◌, ◌⊎◌, Option, Some, None, Ordering, Less, nat_cmp, refl, sym, ap, ◌∙◌, subst, inl, inr, ⊎_elim, codes, rules}
-use Rattle.std.specs.Cmp.Lexicographic.{slice_cmp}
-use Rattle.serde_json.specs.Data.{Num, Data, string, array, object, Items, no_items, item, Members, no_members, member}
+use Rattle.std.proofs.Common.{◌≡◌, ℕ, List, [], ◌∷◌, ◌⊎◌, Option, Some, None, refl, sym, ap, ◌∙◌, subst, inl, inr, ⊎_elim, codes, rules}
+use Rattle.serde_json.specs.Data.{Data, string, array, object, Items, no_items, item, Members, no_members, member}
 use Rattle.serde_json.specs.Find.{get}
 use Rattle.jsonptr.specs.Text.{Pointer, text_of}
 use Rattle.jsonptr.specs.Faults.{IsFault}
 use Rattle.jsonptr.specs.declared.ParseError.{ParseError}
-use Rattle.json_patch.specs.Document.{IsDocument, AreDocuments, AreMembers, IsBelowMembers, IsWhole}
+use Rattle.json_patch.specs.Document.{IsDocument, AreDocuments, AreMembers, IsBelowMembers}
 use Rattle.json_patch.specs.PatchValue.{IsObject, Lacks, HasNoText, HasNoPointer, HasNoDocument, IsFieldFault, NoneBelow, IsFirst, rank}
 use Rattle.json_patch.specs.ReadSteps.{HasAnyFrom, IsPointerAt}
 use Rattle.json_patch.specs.declared.error.ReadKind.{ReadKind}
@@ -15,24 +14,18 @@ use Rattle.jsonptr.specs.TextLaws.{pointer_or_fault, pointer_has_no_fault, one_f
 
 -- ---- a value is a document, or it isn't
 
-less_or_not : (o : Ordering) → (o ≡ Less) ⊎ (o ≡ Less → ⊥)
-less_or_not o = search rules
-
 both_or_not : {A B : Type 0} → A ⊎ (A → ⊥) → B ⊎ (B → ⊥) → (A × B) ⊎ (A × B → ⊥)
 both_or_not a b = ⊎_elim (λ x. ⊎_elim (λ y. inl (x, y)) (λ n. inr (λ h. n h.1)) b) (λ n. inr (λ h. n h.0)) a
 
 below_or_not : (k : List ℕ) (ms : Members) → IsBelowMembers k ms ⊎ (IsBelowMembers k ms → ⊥)
 below_or_not k no_members = inl tt
-below_or_not k (member l d ms) = both_or_not (less_or_not (slice_cmp nat_cmp k l)) (below_or_not k ms)
-
-whole_or_not : (n : Num) → IsWhole n ⊎ (IsWhole n → ⊥)
-whole_or_not n = search rules
+below_or_not k (member l d ms) = both_or_not (search rules) (below_or_not k ms)
 
 mutual
   pub document_or_not : (d : Data) → IsDocument d ⊎ (IsDocument d → ⊥)
   document_or_not (array ds) = documents_or_not ds
   document_or_not (object ms) = members_or_not ms
-  document_or_not d = search (rules, whole_or_not)
+  document_or_not d = search rules
 
   documents_or_not : (ds : Items) → AreDocuments ds ⊎ (AreDocuments ds → ⊥)
   documents_or_not no_items = inl tt
@@ -55,10 +48,6 @@ text_or_not d = search rules
 some_or_none : (o : Option Data) → ((d : Data) × (o ≡ Some d)) ⊎ (o ≡ None)
 some_or_none None = inr refl
 some_or_none (Some d) = inl (d, refl)
-
--- only an object has a member
-pub object_found : (k : List ℕ) (v d : Data) → get k v ≡ Some d → IsObject v
-object_found k v d e = search rules
 
 -- what is found of a member that is to be a pointer's text
 pub data Text (v : Data) (k : List ℕ) : Type 0 where
@@ -90,11 +79,8 @@ held_at v k o =
 pub found_lacks : (v : Data) (k : List ℕ) (d : Data) → get k v ≡ Some d → Lacks v k → ⊥
 found_lacks v k d e h = let n = h.1 in cc
 
-pub same_found : (v : Data) (k : List ℕ) (d c : Data) → get k v ≡ Some d → get k v ≡ Some c → d ≡ c
-same_found v k d c e f = cc
-
 pub found_text : (v : Data) (k t : List ℕ) → get k v ≡ Some (string t) → HasNoText v k → ⊥
-found_text v k t e h = h.2 t (same_found v k h.0 (string t) h.1 e)
+found_text v k t e h = h.2 t (search rules)
 
 pub same_text : (v : Data) (k t s : List ℕ) → get k v ≡ Some (string t) → get k v ≡ Some (string s) → t ≡ s
 same_text v k t s e f = cc
@@ -104,7 +90,7 @@ found_pointer v k P e f h =
     pointer_has_no_fault P e (subst (λ t. IsFault t e) (same_text v k h.0 (text_of P) h.1 f) h.2)
 
 pub found_document : (v : Data) (k : List ℕ) (d : Data) → get k v ≡ Some d → IsDocument d → HasNoDocument v k → ⊥
-found_document v k d e doc h = h.2 (subst IsDocument (same_found v k d h.0 e h.1) doc)
+found_document v k d e doc h = h.2 (subst IsDocument (search rules) doc)
 
 pub no_pointer_one : (v : Data) (k : List ℕ) (e f : ParseError) → HasNoPointer v k e → HasNoPointer v k f → e ≡ f
 no_pointer_one v k e f h g = one_fault g.0 e f (subst (λ t. IsFault t e) (same_text v k h.0 g.0 h.1 g.1) h.2) g.2

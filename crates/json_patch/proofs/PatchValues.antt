@@ -14,7 +14,7 @@ use Rattle.json_patch.specs.ReadLaws.{IsRead, IsUnread, IsReadAlone, IsUnreadAlo
 use Rattle.json_patch.specs.declared.error.ReadKind.{ReadKind}
 use Rattle.json_patch.specs.declared.error.ReadKind.TheVariants.{NotAList, NotAnObject, MissingOp, OpNotText, UnknownOp, MissingFrom, FromNotText, BadFrom, MissingPath, PathNotText, BadPath, MissingValue, ValueNotWhole}
 use Rattle.jsonptr.specs.TextLaws.{one_pointer}
-use Rattle.json_patch.proofs.PatchFaults.{Text, pointer, lacks, no_text, no_pointer, text_at, Held, document, lacks_it, no_document, held_at, object_or_not, object_found, found_lacks, found_text, found_pointer, found_document, same_text, same_found, no_pointer_one, past_from, first_one, past_path}
+use Rattle.json_patch.proofs.PatchFaults.{Text, pointer, lacks, no_text, no_pointer, text_at, Held, document, lacks_it, no_document, held_at, object_or_not, found_lacks, found_text, found_pointer, found_document, same_text, no_pointer_one, past_from, first_one, past_path}
 
 -- ---- what is read
 
@@ -51,7 +51,7 @@ field_fault : (v : Data) (op other : Operation) (kind : ReadKind) → get (codes
 field_fault v op other kind e g f = search rules
 
 reads_no_fault : (v : Data) (op : Operation) → ReadsOperation v op → (kind : ReadKind) → IsOperationFault v kind → ⊥
-reads_no_fault v op h NotAnObject f = f (object_found (codes "op") v _ h.0.0)
+reads_no_fault v op h NotAnObject f = f (search rules)
 reads_no_fault v op h MissingOp f = found_lacks v (codes "op") _ h.0.0 f
 reads_no_fault v op h OpNotText f = found_text v (codes "op") _ h.0.0 f
 reads_no_fault v op h UnknownOp f = f.2 op (same_text v (codes "op") _ _ h.0.0 f.1)
@@ -60,7 +60,7 @@ reads_no_fault v op h kind f = reads_no_field_fault v op (h.0.1, h.1) kind (fiel
 -- ---- one operation is read
 
 same_fields : (v : Data) (op other : Operation) → name_of op ≡ name_of other → ReadsFields v op → ReadsFields v other → other ≡ op
-same_fields v op other e h g = search (rules, same_pointer, same_found, apart)
+same_fields v op other e h g = search (rules, same_pointer, apart)
 
 same_operation : (v : Data) (op other : Operation) → ReadsOperation v op → ReadsOperation v other → other ≡ op
 same_operation v op other h g =
@@ -151,10 +151,6 @@ read_like_or_refused like v =
 
 -- ---- by the name in `op`
 
--- a first fault with the members that the named operation has is the first fault
-pub named_refused : (v : Data) (op : Operation) (kind : ReadKind) → get (codes "op") v ≡ Some (string (name_of op)) → RefusesFields (field_names op) v kind → RefusesOperation v kind
-named_refused v op kind e h = search rules
-
 abbrev At : Data → ReadKind → Type 0
 At v = IsOperationFault v
 
@@ -168,7 +164,7 @@ module _ (v : Data) where
   named_as : (n : List ℕ) → get (codes "op") v ≡ Some (string n) → (like : Operation) → n ≡ name_of like → Outcome v
   named_as n e like is =
       let named : get (codes "op") v ≡ Some (string (name_of like)) = e ∙ ap (λ m. Some (string m)) is in
-      ⊎_elim (λ h. inl (h.0, ((named ∙ ap (λ m. Some (string m)) (sym h.1), h.2.0), h.2.1))) (λ h. inr (h.0, named_refused v like h.0 named h.1)) (fields_read_or_refused v like)
+      ⊎_elim (λ h. inl (h.0, ((named ∙ ap (λ m. Some (string m)) (sym h.1), h.2.0), h.2.1))) (λ h. inr (h.0, (search rules))) (fields_read_or_refused v like)
 
   by_name : (n : List ℕ) → get (codes "op") v ≡ Some (string n) → Outcome v
   by_name n e =
@@ -238,15 +234,9 @@ read_or_refused v = inr (None, NotAList, search rules)
 
 -- ---- what is written reads back
 
-written_reads : (op : Operation) → IsWholeOp op → ReadsOperation (written op) op
-written_reads op w = search rules
-
-written_fields_read : (op : Operation) → IsWholeOp op → ReadsFields (written_fields op) op
-written_fields_read op w = search rules
-
 written_items_read : (ops : List Operation) → AreWhole ops → ReadsItems (items_of (map written ops)) ops
 written_items_read [] w = tt
-written_items_read (op ∷ ops) w = (written_reads op w.0, written_items_read ops w.1)
+written_items_read (op ∷ ops) w = ((search rules), written_items_read ops w.1)
 
 -- what is written of an operation is a document, where its value is one
 written_document : (op : Operation) → IsWholeOp op → IsDocument (written op)
@@ -254,7 +244,7 @@ written_document op w = search rules
 
 written_items_documents : (ops : List Operation) → AreWhole ops → AreDocuments (items_of (map written ops))
 written_items_documents [] w = tt
-written_items_documents (op ∷ ops) w = (written_document op w.0, written_items_documents ops w.1)
+written_items_documents (op ∷ ops) w = ((search rules), written_items_documents ops w.1)
 
 pub written_patch_document : (ops : List Operation) → AreWhole ops → IsDocument (written_patch ops)
 written_patch_document ops w = written_items_documents ops w
@@ -272,9 +262,9 @@ read_alone_is v op h =
     ⊎_elim (λ g. subst (IsReadAlone v) (sym (g.1.alone op h)) g.1) (λ g. absurd (g.1.never op h)) (read_alone_or_refused v)
 
 pub written_reads_alone : (op : Operation) → IsWholeOp op → IsReadAlone (written op) op
-written_reads_alone op w = read_alone_is (written op) op (written_reads op w)
+written_reads_alone op w = read_alone_is (written op) op (search rules)
 
 pub written_fields_read_back : (op : Operation) → IsWholeOp op → IsReadLike op (written_fields op) op
 written_fields_read_back op w =
-    ⊎_elim (λ g. subst (IsReadLike op (written_fields op)) (sym (g.1.alone op refl (written_fields_read op w))) g.1)
-    (λ g. absurd (g.1.never op refl (written_fields_read op w))) (read_like_or_refused op (written_fields op))
+    ⊎_elim (λ g. subst (IsReadLike op (written_fields op)) (sym (g.1.alone op refl (search rules))) g.1)
+    (λ g. absurd (g.1.never op refl (search rules))) (read_like_or_refused op (written_fields op))

@@ -24,12 +24,6 @@ abbrev pub IsMoved : List Step → Step → List Step → Type 0
 IsMoved L (key k) X = (R : List Step) × (X ≡ L ++ key k ∷ R)
 IsMoved L (place i) X = (j : ℕ) × (R : List Step) × (i ≤ j) × (X ≡ L ++ place j ∷ R)
 
-apart_beside : (L : List Step) (s : Step) (X : List Step) → IsApart L X → IsBeside L s X
-apart_beside L s X out = search rules
-
-beside_start : (s : Step) → IsBeside [] s []
-beside_start s = search rules
-
 next_cases : (s r : Step) (R : List Step) → IsMoved [] s (r ∷ R) ⊎ IsBeside [] s (r ∷ R)
 next_cases (key k) r R = ⊎_elim (λ e. inl (R, ap (λ x. x ∷ R) e)) (λ out. inr (λ Q h. out cc)) (step_cases r (key k))
 next_cases (place i) (key k) R = inr (λ j Q le h. cc)
@@ -37,12 +31,8 @@ next_cases (place i) (place j) R =
     ⊎_elim (λ (lt : j < i). inr (λ m Q le h. (let e : j ≡ m = cc in omega arith))) (λ (le : i ≤ j). inl (j, R, le, refl)) (cases_lt j i)
 
 split_cases : (s : Step) (Y : List Step) → IsMoved [] s Y ⊎ IsBeside [] s Y
-split_cases s [] = inr (beside_start s)
+split_cases s [] = inr (search rules)
 split_cases s (r ∷ R) = next_cases s r R
-
--- what holds below L, seen from the start
-moved_under : (L : List Step) (s : Step) (Y : List Step) → IsMoved [] s Y → IsMoved L s (L ++ Y)
-moved_under L s Y m = search rules
 
 beside_under : (L : List Step) (s : Step) (Y : List Step) → IsBeside [] s Y → IsBeside L s (L ++ Y)
 beside_under L s Y b = search (rules, append_cancel_left)
@@ -51,8 +41,8 @@ pub beside_inside : (L : List Step) (s : Step) (Y : List Step) → IsBeside L s 
 beside_inside L s Y b = search rules
 
 moved_cases_at : (L : List Step) (s : Step) (Y : List Step) → IsMoved L s (L ++ Y) ⊎ IsBeside L s (L ++ Y)
-moved_cases_at L s Y = ⊎_elim (λ m. inl (moved_under L s Y m)) (λ b. inr (beside_under L s Y b)) (split_cases s Y)
+moved_cases_at L s Y = ⊎_elim (λ m. inl (search rules)) (λ b. inr (beside_under L s Y b)) (split_cases s Y)
 
 pub moved_cases : (L : List Step) (s : Step) (X : List Step) → IsMoved L s X ⊎ IsBeside L s X
 moved_cases L s X =
-    ⊎_elim (λ (u : IsUnder L X). subst (λ Z. IsMoved L s Z ⊎ IsBeside L s Z) (sym u.1) (moved_cases_at L s u.0)) (λ (out : IsApart L X). inr (apart_beside L s X out)) (under_cases L X)
+    ⊎_elim (λ (u : IsUnder L X). subst (λ Z. IsMoved L s Z ⊎ IsBeside L s Z) (sym u.1) (moved_cases_at L s u.0)) (λ (out : IsApart L X). inr (search rules)) (under_cases L X)

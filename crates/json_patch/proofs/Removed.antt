@@ -4,13 +4,13 @@ use Rattle.std.proofs.lemmas.Option.{option_and_then_some}
 use Rattle.serde_json.specs.Data.{Data, array, object, Items, Members}
 use Rattle.json_patch.specs.Document.{IsDocument, Step, key, place, child, look}
 use Rattle.json_patch.specs.Resolve.{Names, Resolves}
-use Rattle.json_patch.specs.Change.{IsBeside, ShiftsDown, TakesAt, IsRemoved}
+use Rattle.json_patch.specs.Change.{IsBeside, TakesAt, IsRemoved}
 use Rattle.json_patch.specs.ChangeComputed.{step_of, drop_child, front_of, last_of, take_from, removed, remove_item, without}
 use Rattle.json_patch.proofs.Alike.{alike}
 use Rattle.json_patch.proofs.Members.{get_without, get_without_other, without_members}
 use Rattle.json_patch.proofs.Items.{get_remove_later, get_remove_before, remove_items}
 use Rattle.json_patch.proofs.Places.{IsMoved, moved_cases}
-use Rattle.json_patch.proofs.Resolved.{option_map_some, step_names, names_step, resolves_same, resolves_document, Ends, ends, ended, last_same, no_end}
+use Rattle.json_patch.proofs.Resolved.{option_map_some, step_names, resolves_same, resolves_document, Ends, ends, ended, last_same, no_end}
 use Rattle.json_patch.proofs.Altered.{Grafts, IsAltered, altered_is, altered_some}
 use Rattle.json_patch.proofs.Slots.{below, not_from}
 use Rattle.json_patch.proofs.Added.{elsewhere_lift}
@@ -22,9 +22,6 @@ member_elsewhere k ms X b = search rules
 item_elsewhere : (i : ℕ) (ds : Items) (X : List Step) → IsBeside [] (place i) X → look (array (remove_item i ds)) X ≡ look (array ds) X
 item_elsewhere i ds (place j ∷ R) b = below _ _ R (get_remove_before j i ds (not_from i j R b))
 item_elsewhere i ds X b = search rules
-
-drop_takes : (s : Step) (p c : Data) → IsDocument p → child s p ≡ Some c → TakesAt p (drop_child s p) [] s
-drop_takes s p c h is = search (rules, below, get_without, member_elsewhere, get_remove_later, item_elsewhere)
 
 pub drop_document : (s : Step) (p : Data) → IsDocument p → IsDocument (drop_child s p)
 drop_document s p h = search (rules, without_members, remove_items)
@@ -42,20 +39,14 @@ take_from_takes t p q is =
     option_map_some _ (child s p) q more (λ c stands whole.
     record { s = s; c = c; names = step_names p t s named; stands = stands; whole = whole }))
 
-take_from_some : (t : List ℕ) (p : Data) (s : Step) (c : Data) → Names p t s → child s p ≡ Some c → take_from t p ≡ Some (drop_child s p)
-take_from_some t p s c names stands = rw (names_step p t s names, stands)
-
-shifts_lift : (d e : Data) (L : List Step) (p q : Data) (s : Step) → Grafts d e L p q → ShiftsDown p q [] s → ShiftsDown d e L s
-shifts_lift d e L p q s g h = search rules
-
 takes_lift : (d e : Data) (L : List Step) (p q : Data) (s : Step) → Grafts d e L p q → TakesAt p q [] s → TakesAt d e L s
-takes_lift d e L p q s g h = record { later = shifts_lift d e L p q s g h.later; elsewhere = elsewhere_lift d e L p q s g h.elsewhere }
+takes_lift d e L p q s g h = record { later = (search rules); elsewhere = elsewhere_lift d e L p q s g h.elsewhere }
 
 removed_below : (d : Data) (t : List ℕ) (P : List (List ℕ)) (e : Data) → IsDocument d → IsAltered (take_from (last_of t P)) d (front_of t P) e → IsRemoved d (t ∷ P) e
 removed_below d t P e hd a =
     let i : TakesIn (last_of t P) a.p a.q = take_from_takes (last_of t P) a.p a.q a.result in
     let hp : IsDocument a.p = resolves_document d (front_of t P) a.L a.p hd a.resolves in
-    let takes : TakesAt a.p a.q [] i.s = subst (λ q. TakesAt a.p q [] i.s) i.whole (drop_takes i.s a.p i.c hp i.stands) in (
+    let takes : TakesAt a.p a.q [] i.s = subst (λ q. TakesAt a.p q [] i.s) i.whole (search (rules, below, get_without, member_elsewhere, get_remove_later, item_elsewhere)) in (
       a.L,
       i.s,
       i.c,
@@ -73,7 +64,7 @@ removed_none d [] e is h = no_end h.0 h.1 d h.2 h.3
 removed_none d (t ∷ P) e is h =
     let i : Ends d t P h.0 h.1 h.2 = ends d t P h.0 h.1 h.2 h.3 in
     let a : (e : Data) × (removed d (t ∷ P) ≡ Some e) =
-    altered_some _ d (front_of t P) h.0 i.p (drop_child h.1 i.p) i.front (take_from_some (last_of t P) i.p h.1 h.2 i.names i.stands) in
+    altered_some _ d (front_of t P) h.0 i.p (drop_child h.1 i.p) i.front (search rules) in
     let b : removed d (t ∷ P) ≡ Some a.0 = a.1 in cc
 
 -- where there is something to remove, a document is left
@@ -82,7 +73,7 @@ removed_there d [] L s c hd h = absurd (no_end L s d c h)
 removed_there d (t ∷ P) L s c hd h =
     let i : Ends d t P L s c = ends d t P L s c h in
     let a : (e : Data) × (removed d (t ∷ P) ≡ Some e) =
-    altered_some _ d (front_of t P) L i.p (drop_child s i.p) i.front (take_from_some (last_of t P) i.p s c i.names i.stands) in
+    altered_some _ d (front_of t P) L i.p (drop_child s i.p) i.front (search rules) in
     (a.0, removed_is d (t ∷ P) a.0 hd a.1)
 
 takes_moved : (d e f : Data) (L : List Step) (s : Step) (X : List Step) → TakesAt d e L s → TakesAt d f L s → IsMoved L s X → look e X ≡ look f X

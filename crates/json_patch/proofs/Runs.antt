@@ -21,9 +21,6 @@ refuses_ran d ops k kind hd hv h = search (rules, refuses_stepped)
 
 -- ---- where a run ends, found out
 
-counted_ok : (o : Outcome) (e : Data) → counted o ≡ Ok e → o ≡ Ok e
-counted_ok o e h = search rules
-
 counted_err : (o : Outcome) (k : ℕ) (kind : PatchErrorKind) → counted o ≡ Err (fault k kind) → (j : ℕ) × (k ≡ suc j) × (o ≡ Err (fault j kind))
 counted_err o k kind h = search rules
 
@@ -32,7 +29,7 @@ module _ (d : Data) (op : Operation) (ops : List Operation) (hd : IsDocument d) 
       → ran_on r (λ m. ran m ops) ≡ Ok e → Accepts d (op ∷ ops) e
   accepts_on (Ok m) e is more h =
       let l : Leaves d op m = stepped_leaves d op m hd hv is in
-      (m, l, more m (leaves_document d op m hd hv l) (counted_ok (ran m ops) e h))
+      (m, l, more m (leaves_document d op m hd hv l) (search rules))
   accepts_on (Err kind) e is more h = cc
 
   refuses_on : (r : Result Data PatchErrorKind) (k : ℕ) (kind : PatchErrorKind) → stepped d op ≡ r → ((m : Data) (j : ℕ) → IsDocument m → ran m ops ≡ Err (fault j kind) → RefusesAt m ops j kind)

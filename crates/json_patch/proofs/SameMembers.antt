@@ -1,7 +1,6 @@
 -- Objects whose members stand in order are the same where each name has the same in both.
-use Rattle.std.proofs.Common.{◌≡◌, ◌↔◌, ℕ, List, Option, Some, Ordering, Equal, nat_cmp, refl, subst, rules}
+use Rattle.std.proofs.Common.{◌≡◌, ◌↔◌, ℕ, List, Ordering, Equal, nat_cmp, refl, subst, rules}
 use Rattle.std.specs.Cmp.Lexicographic.{slice_cmp}
-use Rattle.std.specs.Ordering.{match_ordering}
 use Rattle.serde_json.specs.Data.{Data, object, Members, no_members, member}
 use Rattle.serde_json.specs.Find.{get_member}
 use Rattle.json_patch.specs.Document.{IsBelowMembers}
@@ -11,11 +10,8 @@ use Rattle.json_patch.proofs.Members.{tied_same, less_back, below_more, below_ab
 abbrev AreSameByName : Members → Members → Type 0
 AreSameByName ms ns = (q : List ℕ) → AreSameAt (get_member q ms) (get_member q ns)
 
-at_first : (o : Ordering) (d e : Data) (f g : Option Data) → AreSame d e → AreSameAt f g → AreSameAt (match_ordering o f (Some d) f) (match_ordering o g (Some e) g)
-at_first o d e f g h rest = search rules
-
 by_name : (ms ns : Members) → AreSameMembers ms ns → AreSameByName ms ns
-by_name (member k d ms) (member l e ns) h q = search (rules, at_first, by_name ms ns)
+by_name (member k d ms) (member l e ns) h q = search (rules, by_name ms ns)
 by_name ms ns h q = search rules
 
 module _ (k : List ℕ) (d e : Data) (ms ns : Members) (below : IsBelowMembers k ms) (under : IsBelowMembers k ns) (same : AreSameByName (member k d ms) (member k e ns)) where

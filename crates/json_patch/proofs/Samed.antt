@@ -36,12 +36,8 @@ at-is : (o p : Option Data) → IfSome o IsDocument → AreSameAt o p → o ≡ 
 at-is (Some d) (Some e) w h = ap Some (AreSame-is d e w h)
 at-is o p w h = search rules
 
--- an operation is what its parts are
-one_operation : (op other : Operation) → parts_of op ≡ parts_of other → op ≡ other
-one_operation op other h = search rules
-
 operation-is : (op other : Operation) → IsWholeOp op → AreSameOperations op other → op ≡ other
-operation-is op other w h = search (rules, one_operation, at-is)
+operation-is op other w h = search (rules, at-is)
 
 lists-is : (ops others : List Operation) → AreWhole ops → AreSameLists ops others → ops ≡ others
 lists-is (op ∷ ops) (other ∷ others) hv h = rw (operation-is op other hv.0 h.0, lists-is ops others hv.1 h.1)

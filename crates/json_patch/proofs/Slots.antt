@@ -19,12 +19,8 @@ use Rattle.json_patch.proofs.Resolved.{option_map_some}
 within : (b : Bool) (j n i : ℕ) → leb j n ≡ b → (if b then Some j else None) ≡ Some i → (j ≡ i) × (j ≤ n)
 within b j n i is h = search rules
 
-slot_at : (b : Bool) (o : Option ℕ) (t : List ℕ) (ds : Items) (i : ℕ) → bytes_eq t next_token ≡ b → place_of t ≡ o
-    → (if b then Some (items_len ds) else option_and_then (λ j. if leb j (items_len ds) then Some j else None) o) ≡ Some i → Aims (array ds) t (place i)
-slot_at b o t ds i next is h = search rules
-
 pub slot_aims : (t : List ℕ) (ds : Items) (i : ℕ) → slot_of t ds ≡ Some i → Aims (array ds) t (place i)
-slot_aims t ds i h = slot_at (bytes_eq t next_token) (place_of t) t ds i refl refl h
+slot_aims t ds i h = (search rules)
 
 fits : (i n : ℕ) → i ≤ n → leb i n ≡ true
 fits i n le = grind (arith, nat_tests)
@@ -33,7 +29,7 @@ not_next : (b : Bool) (t : List ℕ) (i : ℕ) → bytes_eq t next_token ≡ b �
 not_next b t i is h = search (rules, bytes_eq-Decides, next_is_no_place)
 
 pub slot_some : (t : List ℕ) (ds : Items) (i : ℕ) → Aims (array ds) t (place i) → slot_of t ds ≡ Some i
-slot_some t ds i h = search (rules, not_next, bytes_eq, fits)
+slot_some t ds i h = search (rules, not_next, bytes_eq, nat_tests)
 
 pub aims_put : (v : Data) (t : List ℕ) (p : Data) (s : Step) → Aims p t s → (q : Data) × (put_in v t p ≡ Some q)
 aims_put v t (object ms) (key k) h = (object (put t v ms), refl)

@@ -64,12 +64,9 @@ printed_items_more done before whole ds es d step h = simp append_assoc (rw step
 pub printed_items_end : (done before whole : List ℕ) (ds : Items) → ds ≡ no_items → done ++ printed_items before ds ≡ whole → done ≡ whole
 printed_items_end done before whole ds none h = sym (append-nil done) ∙ (rw none at h)
 
-regroup : (a b q e p r : List ℕ) → (((a ++ b) ++ (q ++ e)) ++ p) ++ r ≡ a ++ (b ++ (q ++ (e ++ (p ++ r))))
-regroup a b q e p r = simp append_assoc
-
 pub printed_members_more : (done before whole k : List ℕ) (ms ns : Members) (d : Data) → ms ≡ member k d ns
     → done ++ printed_members before ms ≡ whole → (((done ++ before) ++ (quoted k ++ codes ":")) ++ printed d) ++ printed_members (codes ",") ns ≡ whole
-printed_members_more done before whole k ms ns d step h = grind (arith, common_steps, regroup)
+printed_members_more done before whole k ms ns d step h = grind (arith, common_steps)
 
 pub printed_members_end : (done before whole : List ℕ) (ms : Members) → ms ≡ no_members → done ++ printed_members before ms ≡ whole → done ≡ whole
 printed_members_end done before whole ms none h = sym (append-nil done) ∙ (rw none at h)

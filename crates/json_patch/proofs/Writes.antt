@@ -62,20 +62,13 @@ no_entry name e es v order less is =
     let some : Some (view v) ≡ get_member name (members_view es) = ap (λ o. option_map view o) (sym is) ∙ view-lookup name es in
     cc
 
-module _ (name : List ℕ) (w v : Value) (e : Entry) (es : List Entry) (order : AreInOrder (e ∷ es))
-    (more : lookup (is_named name) es ≡ Some v → members_view (set_value (is_named name) es w) ≡ put name (view w) (members_view es)) where
-  sets : (o : Ordering) → slice_cmp nat_cmp name (string_bytes e.0) ≡ o → cond (is_eq o) (Some e.1) (lookup (is_named name) es) ≡ Some v
-      → members_view (cond (is_eq o) ((e.0, w) ∷ es) (e ∷ set_value (is_named name) es w))
-      ≡ match_ordering o (member name (view w) (members_view (e ∷ es))) (member (string_bytes e.0) (view w) (members_view es)) (member (string_bytes e.0) (view e.1) (put name (view w) (members_view es)))
-  sets o is found = search (rules, no_entry)
-
 rest_in_order : (e : Entry) (es : List Entry) → AreInOrder (e ∷ es) → AreInOrder es
 unfolding IsStrictlySortedBy
 rest_in_order e es order = order.1
 
 pub members_view-set_value : (name : List ℕ) (es : List Entry) (w v : Value) → AreInOrder es → lookup (is_named name) es ≡ Some v → members_view (set_value (is_named name) es w) ≡ put name (view w) (members_view es)
 members_view-set_value name [] w v order found = cc
-members_view-set_value name (e ∷ es) w v order found = search (rules, sets, rest_in_order, members_view-set_value name es w v)
+members_view-set_value name (e ∷ es) w v order found = search (rules, no_entry, rest_in_order, members_view-set_value name es w v)
 
 -- a value in place of one that looks the same changes nothing
 keeps : (o : Ordering) (e : Entry) (es left : List Entry) (w v : Value) (found : Option Value) → cond (is_eq o) (Some e.1) found ≡ Some v → view w ≡ view v → (found ≡ Some v → members_view left ≡ members_view es)

@@ -253,7 +253,6 @@ fn read_operation(alloc: Global, value: &Value) -> Result<PatchOperation, ItemFa
 impl Patch {
     /// Reads a list of operations (RFC 6902, section 3). Answers the first fault of the first
     /// item that isn't an operation, or `Memory` where a growth was refused.
-    #[tactic(auto, using(serde_json::specs::declared::value::Value::the_lemmas, crate::proofs::ReadItems::item_refused, crate::proofs::ReadItems::item_read, crate::proofs::ReadItems::reads_whole))]
     pub fn from_value(alloc: Global, value: &Value) -> Result<Patch, ReadFault>
         ensures read { IfOk result (λ p. ReadsPatch (view value.now) (operations p.0.items)) }
         ensures whole { IfOk result (λ p. AreWhole (operations p.0.items)) }

@@ -1,0 +1,13 @@
+use Rattle.std.proofs.Common.{rules}
+use Rattle.serde_json.specs.declared.value.Value.{the_lemmas}
+use Rattle.json_patch.proofs.ReadItems.{item_refused, item_read, reads_whole}
+use Rattle.json_patch.proofs.operation.Patch.from_value.Goals as goal
+
+pub returns-in-Err-Refused-clause-refused : goal.returns-in-Err-Refused-clause-refused
+returns-in-Err-Refused-clause-refused c = search (rules, the_lemmas, item_refused)
+
+pub loop-number-preserved : goal.loop-number-preserved
+loop-number-preserved c = search (rules, item_read)
+
+pub returns-clause-whole : goal.returns-clause-whole
+returns-clause-whole c = search (rules, reads_whole _ _ c.loop-number.invariant)
