@@ -7,7 +7,7 @@ use Rattle.json_patch.specs.Resolve.{Resolves}
 use Rattle.json_patch.specs.ChangeComputed.{step_of, set_child, altered}
 use Rattle.json_patch.proofs.Children.{child_document, child_set, child_set_other, sight_set, set_document, step_cases}
 use Rattle.json_patch.proofs.Places.{IsApart}
-use Rattle.json_patch.proofs.Resolved.{option_map_some, step_names, names_step}
+use Rattle.json_patch.proofs.Resolved.{option_map_some, names_step}
 
 -- e is d with q in place of p, which stands at L
 pub record Grafts (d e : Data) (L : List Step) (p q : Data) : Type 0 where
@@ -41,7 +41,7 @@ altered_step f d t P s c b named is a = record {
   L = s ∷ a.L;
   p = a.p;
   q = a.q;
-  resolves = (c, step_names d t s named, is, a.resolves);
+  resolves = (c, (search rules), is, a.resolves);
   result = a.result;
   grafts = (search (rules, look_child, child_set, apart_step));
   keeps = λ hd keep. set_document s d b hd (a.keeps (child_document s d c hd is) keep);

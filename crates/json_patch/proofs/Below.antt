@@ -194,12 +194,9 @@ module _ (d : Data) (S : Pointer) (b : Data) (hd : IsDocument d) (at : found d S
 
 -- ---- runs
 
-pub whole_stripped : (S : Pointer) (op : Operation) → IsWholeOp op → IsWholeOp (stripped S op)
-whole_stripped S op h = search rules
-
 pub all_whole_stripped : (S : Pointer) (ops : List Operation) → AreWhole ops → AreWhole (stripped_all S ops)
 all_whole_stripped S [] h = tt
-all_whole_stripped S (op ∷ ops) h = (whole_stripped S op h.0, all_whole_stripped S ops h.1)
+all_whole_stripped S (op ∷ ops) h = ((search rules), all_whole_stripped S ops h.1)
 
 -- the run on d, by that on the document at S
 unfoldable pub RunsUnder : Data → Pointer → List Operation → Outcome → Type 0
@@ -218,7 +215,7 @@ on_step : (d : Data) (S : Pointer) (b : Data) (op : Operation) (ops : List Opera
 unfolding RunsUnder lifted
 on_step d S b op ops (Ok m) hd hv at within is more =
     let hb : IsDocument b = found_document d S b hd at in
-    let hs : IsWholeOp (stripped S op) = whole_stripped S op hv in
+    let hs : IsWholeOp (stripped S op) = (search rules) in
     let hm : IsDocument m = leaves_document b (stripped S op) m hb hs (stepped_leaves b (stripped S op) m hb hs is) in
     let x : (x : Data) × (replaced d S m ≡ Some x) = some_replaced d S b hd at m in
     let r : Replaces d S m x.0 = replaces d S m x.0 hd hm x.1 in

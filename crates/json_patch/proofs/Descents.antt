@@ -1,5 +1,5 @@
 -- A walk down a value: what an attempt at a child leaves of what holds the child, and what stands there.
-use Rattle.std.proofs.Common.{◌≡◌, ℕ, List, ◌∷◌, set, get_or, Vec, vec_len, Option, Some, None, option_map, option_and_then, Result, IfOk, BTreeMap, String, Global, refl, sym, rules}
+use Rattle.std.proofs.Common.{◌≡◌, ℕ, List, ◌∷◌, get_or, Vec, vec_len, Option, Some, None, option_map, option_and_then, Result, IfOk, BTreeMap, String, Global, refl, sym, rules}
 use Rattle.std.specs.Map.{lookup, set_value}
 use Rattle.std.specs.Result.{IsErr, IsErrAnd}
 use Rattle.std.specs.Vec.{with_item}
@@ -28,25 +28,16 @@ within f t d = option_and_then (λ s. option_and_then (λ c. option_map (λ e. s
 
 -- ---- at a child that is there
 
-pub attempts_item : {T : Type 0} (r : Result T StepFault) (f : Data → Option Data) (t : List ℕ) (m : Vec Value Global) (len i : ℕ) (v w : Value) → len ≡ vec_len m → IsItem t len i → v ≡ get_or m.items i v → Attempts r (f (view v)) (view v) (view w)
-    → Attempts r (within f t (array (items_view m.items))) (array (items_view m.items)) (array (items_view (set m.items i w)))
-attempts_item r f t m len i v w e at is h = search (rules, item_child, items_view-set, items_view-set_same)
-
-pub attempts_member : {T : Type 0} (r : Result T StepFault) (f : Data → Option Data) (t : List ℕ) (m n : BTreeMap (String Global) Value) (v w : Value) → AreInOrder m.entries → Some v ≡ lookup (is_named t) m.entries
-    → n.entries ≡ set_value (is_named t) m.entries w → Attempts r (f (view v)) (view v) (view w)
-    → Attempts r (within f t (object (members_view m.entries))) (object (members_view m.entries)) (object (members_view n.entries))
-attempts_member r f t m n v w order is wrote h = search (rules, member_child, members_view-set_value, members_view-set_same)
-
 -- ---- at values
 
 pub walks_to_item : {T : Type 0} (r : Result T StepFault) (wanted : Option Data) (f : Data → Option Data) (t : List ℕ) (old new : Value) (m : Vec Value Global) (len i : ℕ) (v w : Value)
     → wanted ≡ within f t (view old) → old ≡ Array m → new ≡ Array (with_item m i w) → len ≡ vec_len m → IsItem t len i → v ≡ get_or m.items i v → Attempts r (f (view v)) (view v) (view w) → Attempts r wanted (view old) (view new)
-walks_to_item r wanted f t old new m len i v w q o n e at is h = rw (q, o, n, view-Array m, view-Array (with_item m i w)) (attempts_item r f t m len i v w e at is h)
+walks_to_item r wanted f t old new m len i v w q o n e at is h = rw (q, o, n, view-Array m, view-Array (with_item m i w)) (search (rules, item_child, items_view-set, items_view-set_same))
 
 pub walks_to_member : {T : Type 0} (r : Result T StepFault) (wanted : Option Data) (f : Data → Option Data) (t : List ℕ) (old new : Value) (m n : BTreeMap (String Global) Value) (v w : Value)
     → wanted ≡ within f t (view old) → old ≡ Object m → new ≡ Object n → AreInOrder m.entries → Some v ≡ lookup (is_named t) m.entries → n.entries ≡ set_value (is_named t) m.entries w → Attempts r (f (view v)) (view v) (view w)
     → Attempts r wanted (view old) (view new)
-walks_to_member r wanted f t old new m n v w q o p order is wrote h = rw (q, o, p, view-Object m, view-Object n) (attempts_member r f t m n v w order is wrote h)
+walks_to_member r wanted f t old new m n v w q o p order is wrote h = rw (q, o, p, view-Object m, view-Object n) (search (rules, member_child, members_view-set_value, members_view-set_same))
 
 within_no_item : (f : Data → Option Data) (t : List ℕ) (m : Vec Value Global) (len : ℕ) → len ≡ vec_len m → IsNoItem t len → within f t (array (items_view m.items)) ≡ None
 within_no_item f t m len e past =

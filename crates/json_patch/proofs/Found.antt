@@ -7,14 +7,14 @@ use Rattle.json_patch.specs.Document.{Step, child, standing}
 use Rattle.json_patch.specs.Resolve.{Resolves, StandsAt}
 use Rattle.json_patch.specs.Step.{Never}
 use Rattle.json_patch.specs.ChangeComputed.{step_of, found}
-use Rattle.json_patch.proofs.Resolved.{step_names, names_step}
+use Rattle.json_patch.proofs.Resolved.{names_step}
 
 pub found_resolves : (d : Data) (P : List (List ℕ)) (c : Data) → found d P ≡ Some c → (L : List Step) × Resolves d P L c
 found_resolves d [] c is = ([], cc)
 found_resolves d (t ∷ P) c is =
     option_and_then_some _ (step_of d t) c is (λ s named more.
     option_and_then_some _ (child s d) c more (λ e stands rest.
-    (let i : (L : List Step) × Resolves e P L c = found_resolves e P c rest in (s ∷ i.0, (e, step_names d t s named, stands, i.1)))))
+    (let i : (L : List Step) × Resolves e P L c = found_resolves e P c rest in (s ∷ i.0, (e, (search rules), stands, i.1)))))
 
 pub resolves_found : (d : Data) (P : List (List ℕ)) (L : List Step) (c : Data) → Resolves d P L c → found d P ≡ Some c
 resolves_found d (t ∷ P) (s ∷ L) c h = rw (names_step d t s h.1, h.2) (resolves_found h.0 P L c h.3)

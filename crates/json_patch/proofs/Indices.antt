@@ -1,5 +1,5 @@
 -- The item that a token names, and the place at which it puts a new one, by the index that is read of it.
-use Rattle.std.proofs.Common.{◌≡◌, ◌≢◌, ℕ, ◌<◌, ◌≤◌, List, Bool, true, false, leb, bytes_eq, Some, None, Result, MatchResult, refl, ap, ◌∙◌, arith, rules}
+use Rattle.std.proofs.Common.{◌≡◌, ◌≢◌, ℕ, ◌<◌, ◌≤◌, List, Bool, true, false, leb, bytes_eq, Some, None, Result, MatchResult, ap, ◌∙◌, arith, rules}
 use Rattle.std.proofs.lemmas.Bool.Decides.{nat_tests}
 use Rattle.std.proofs.lemmas.Slice.Eq.{bytes_eq-Decides}
 use Rattle.std.specs.Result.{IsErr, IsErrAnd}
@@ -35,11 +35,8 @@ is_next t is = (bytes_eq-Decides t next_token).1 is
 fits : (i len : ℕ) → i ≤ len → leb i len ≡ true
 fits i len le = grind (arith, nat_tests)
 
-no_slot_past : (t : List ℕ) (len : ℕ) → t ≢ next_token → ((i : ℕ) → place_of t ≡ Some i → len < i) → slot_in t len ≡ None
-no_slot_past t len other past = rw (not_next (bytes_eq t next_token) t refl other) (search rules)
-
 pub slot_outside : (t : List ℕ) (index : Index) (len : ℕ) → IsIndexText t index → len < place_in index len → slot_in t len ≡ None
-slot_outside t index len h out = search (rules, no_slot_past, place_is_not_next)
+slot_outside t index len h out = search (rules, not_next, place_is_not_next)
 
 pub slot_within : (t : List ℕ) (index : Index) (len n : ℕ) → IsIndexText t index → n ≡ place_in index len → n ≤ len → (n ≤ len) × (slot_in t len ≡ Some n)
 slot_within t index len n h is le = search (rules, not_next, bytes_eq, place_is_not_next, nat_tests, is_next)

@@ -15,7 +15,7 @@ use Rattle.json_patch.specs.InverseComputed.{undo_in, undo_add, with_found, with
 use Rattle.json_patch.specs.RunComputed.{stepped}
 use Rattle.json_patch.specs.SharedComputed.{stripped, stripped_all, extended, extended_all}
 use Rattle.json_patch.specs.declared.error.PatchErrorKind.{PatchErrorKind}
-use Rattle.json_patch.proofs.Below.{Replaces, replaces, lifted, over, some_replaced, found_under, removed_under, stepped_under, whole_stripped, all_whole_stripped, with_one, with_two}
+use Rattle.json_patch.proofs.Below.{Replaces, replaces, lifted, over, some_replaced, found_under, removed_under, stepped_under, all_whole_stripped, with_one, with_two}
 use Rattle.json_patch.proofs.Blocks.{inverse_is, inverse_only, inverse_accepted}
 use Rattle.json_patch.proofs.Locality.{runs_alike}
 use Rattle.json_patch.proofs.Parents.{undo_add_in}
@@ -75,7 +75,7 @@ inverse_under d S b (op ∷ ops) hd hv at within =
         → with_left (lifted d S r) (λ m. inverse m ops) ≡ extended_all S (with_left r (λ m. inverse m (stripped_all S ops)))
     later more (Ok m) is =
         let hb : IsDocument b = found_document d S b hd at in
-        let hs : IsWholeOp (stripped S op) = whole_stripped S op hv.0 in
+        let hs : IsWholeOp (stripped S op) = (search rules) in
         let hm : IsDocument m = leaves_document b (stripped S op) m hb hs (stepped_leaves b (stripped S op) m hb hs is) in
         let x : (x : Data) × (replaced d S m ≡ Some x) = some_replaced d S b hd at m in
         let r : Replaces d S m x.0 = replaces d S m x.0 hd hm x.1 in

@@ -1,10 +1,9 @@
 -- The inverse of an accepted list leads back, through every state.
-use Rattle.std.proofs.Common.{◌≡◌, ◌≤◌, ◌*◌, ℕ, List, [], ◌∷◌, ◌++◌, length, length-append, append_assoc, append-nil, Option, Some, Result, Ok, refl, sym, ap, ◌∙◌, subst, arith, rules}
+use Rattle.std.proofs.Common.{◌≡◌, ◌≤◌, ◌*◌, ℕ, List, [], ◌∷◌, ◌++◌, length, length-append, append_assoc, append-nil, Option, Some, Ok, refl, sym, ap, ◌∙◌, subst, arith, rules}
 use Rattle.serde_json.specs.Data.{Data}
 use Rattle.jsonptr.specs.Text.{Pointer}
 use Rattle.json_patch.specs.Document.{IsDocument}
 use Rattle.json_patch.specs.Operation.{Operation, add, remove, replace, move, copy, test, IsWholeOp, AreWhole}
-use Rattle.json_patch.specs.declared.error.PatchErrorKind.{PatchErrorKind}
 use Rattle.json_patch.specs.declared.error.PatchErrorKind.TheVariants.{InvalidPointer}
 use Rattle.json_patch.specs.Step.{Leaves}
 use Rattle.json_patch.specs.Run.{Accepts}
@@ -94,9 +93,6 @@ inverse_twice d ops e hd hv h = inverse_back e (inverse d ops) d (accepts_docume
 
 -- ---- its length
 
-left_length : (o : Result Data PatchErrorKind) (f : Data → List Operation) (n : ℕ) → ((m : Data) → length (f m) ≤ n) → length (with_left o f) ≤ n
-left_length o f n h = search rules
-
 pub inverse_length : (ops : List Operation) (d : Data) → length (inverse d ops) ≤ 2 * length ops
 inverse_length [] d = omega arith
-inverse_length (op ∷ ops) d = search (rules, left_length, length-append, inverse_length ops)
+inverse_length (op ∷ ops) d = search (rules, length-append, inverse_length ops)

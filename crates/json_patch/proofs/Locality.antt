@@ -15,14 +15,13 @@ use Rattle.json_patch.specs.ChangeComputed.{set_child, found, replaced}
 use Rattle.json_patch.specs.RunComputed.{Outcome, fault, or_refused, stepped, ran}
 use Rattle.json_patch.specs.SharedComputed.{stripped, stripped_all}
 use Rattle.json_patch.proofs.Children.{child_set}
-use Rattle.json_patch.proofs.Resolved.{step_names, names_step}
+use Rattle.json_patch.proofs.Resolved.{names_step}
 use Rattle.json_patch.proofs.Altered.{altered_some}
 use Rattle.json_patch.proofs.Replaced.{replaced_is}
 use Rattle.json_patch.proofs.Exact.{replaced_exact}
-use Rattle.json_patch.proofs.Level.{step_of_set}
 use Rattle.json_patch.proofs.Stepped.{stands_found, stands_document, leaves_stepped, refuses_stepped, stepped_leaves, stepped_refuses, leaves_document}
 use Rattle.json_patch.proofs.Runs.{accepts_ran, ran_accepts, refuses_ran, ran_refuses, accepts_document}
-use Rattle.json_patch.proofs.Below.{lifted, some_replaced, stepped_under, whole_stripped, all_whole_stripped, RunsUnder, ran_under}
+use Rattle.json_patch.proofs.Below.{lifted, some_replaced, stepped_under, all_whole_stripped, RunsUnder, ran_under}
 
 -- ---- one step
 
@@ -31,7 +30,7 @@ module _ (d : Data) (S : Pointer) (b : Data) (op : Operation) (hd : IsDocument d
   unfolding lifted
   local_leaves e h =
       let hb : IsDocument b = stands_document d S b hd at in
-      let hs : IsWholeOp (stripped S op) = whole_stripped S op hv in
+      let hs : IsWholeOp (stripped S op) = (search rules) in
       let f : found d S ≡ Some b = stands_found d S b at in
       let x : (x : Data) × (replaced d S e ≡ Some x) = some_replaced d S b hd f e in
       let step : stepped d op ≡ Ok x.0 = stepped_under d S b hd f op within ∙ ap (lifted d S) (leaves_stepped b (stripped S op) e hb hs h) ∙ ap (or_refused InvalidPointer) x.1 in
@@ -41,7 +40,7 @@ module _ (d : Data) (S : Pointer) (b : Data) (op : Operation) (hd : IsDocument d
   unfolding lifted
   local_refuses kind h =
       let hb : IsDocument b = stands_document d S b hd at in
-      let hs : IsWholeOp (stripped S op) = whole_stripped S op hv in
+      let hs : IsWholeOp (stripped S op) = (search rules) in
       let step : stepped d op ≡ Err kind = stepped_under d S b hd (stands_found d S b at) op within ∙ ap (lifted d S) (refuses_stepped b (stripped S op) kind hb hs h) in
       stepped_refuses d op kind hd hv step
 
@@ -94,7 +93,7 @@ resolves_replaced d (t ∷ S) (s ∷ L) b e x h is =
     let w : replaced d (t ∷ S) e ≡ Some (set_child s i.0 d) = rw (names_step d t s h.1, h.2, i.1) refl in
     let same : set_child s i.0 d ≡ x = cc in
     subst (λ z. Resolves z (t ∷ S) (s ∷ L) e) same
-    (i.0, step_names (set_child s i.0 d) t s (step_of_set s d i.0 t ∙ names_step d t s h.1), child_set s d h.0 i.0 h.2, resolves_replaced h.0 S L b e i.0 h.3 i.1)
+    (i.0, (search rules), child_set s d h.0 i.0 h.2, resolves_replaced h.0 S L b e i.0 h.3 i.1)
 resolves_replaced d S L b e x h is = search rules
 
 -- in every state of the run S resolves to the same location

@@ -44,9 +44,6 @@ mutual
 pub name_cases : (q k : List ℕ) → (q ≡ k) ⊎ (q ≢ k)
 name_cases q k = ⊎_elim (λ (e : key q ≡ key k). inl cc) (λ (out : key q ≡ key k → ⊥). inr (λ h. out (ap key h))) (step_cases (key q) (key k))
 
-get_members : (q : List ℕ) (d : Data) → get_member q (members_of d) ≡ get q d
-get_members q d = search rules
-
 -- a name that the patch has not keeps its member
 unnamed : (k : List ℕ) (ps ms : Members) → get_member k ps ≡ None → get_member k (merged_members ms ps) ≡ get_member k ms
 unnamed k no_members ms is = refl
@@ -68,7 +65,7 @@ member_next k l q ps ms ns next once keeps here later =
 mutual
   pub merged_is : (p d : Data) → IsDocument d → IsDocument p → IsMerged d p (merged d p)
   merged_is (object ps) d hd hp =
-      by_key refl refl (λ k. along (sym (get_members k d)) refl refl (member_is ps (members_of d) k (search rules) hp))
+      by_key refl refl (λ k. along (sym (search rules)) refl refl (member_is ps (members_of d) k (search rules) hp))
   merged_is null d hd hp = replaces (λ h. cc)
   merged_is (boolean b) d hd hp = replaces (λ h. cc)
   merged_is (number n) d hd hp = replaces (λ h. cc)

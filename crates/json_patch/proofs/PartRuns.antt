@@ -20,7 +20,7 @@ use Rattle.json_patch.specs.declared.error.PatchErrorKind.TheVariants.{InvalidPo
 use Rattle.json_patch.specs.declared.operation.PatchOperation.{PatchOperation}
 use Rattle.json_patch.specs.declared.walk.StepFault.{StepFault}
 use Rattle.json_patch.proofs.Applied.{IsAt, IsState, recorded_more, state_more, whole_at}
-use Rattle.json_patch.proofs.Below.{Replaces, replaced_itself, replaces, lifted, some_replaced, stepped_under, whole_stripped}
+use Rattle.json_patch.proofs.Below.{Replaces, replaced_itself, replaces, lifted, some_replaced, stepped_under}
 use Rattle.json_patch.proofs.InversesBelow.{block_under}
 use Rattle.json_patch.proofs.Stepped.{leaves_document, stepped_leaves}
 use Rattle.json_patch.proofs.Undone.{found_document}
@@ -92,7 +92,7 @@ module _ (x : Data) (S : Pointer) (b : Data) (op : Operation) (hx : IsDocument x
   pub part_steps : (e : Data) → IsAtPart S op → IsWholeOp op → stepped b (stripped S op) ≡ Ok e → (y : Data) × (stepped x op ≡ Ok y) × Replaces x S e y
   unfolding lifted
   part_steps e at whole h =
-      let hs : IsWholeOp (stripped S op) = whole_stripped S op whole in
+      let hs : IsWholeOp (stripped S op) = (search rules) in
       let he : IsDocument e = leaves_document b (stripped S op) e hb hs (stepped_leaves b (stripped S op) e hb hs h) in
       let y : (y : Data) × (replaced x S e ≡ Some y) = some_replaced x S b hx there e in
       (y.0, stepped_part at ∙ ap (lifted x S) h ∙ ap (or_refused InvalidPointer) y.1, replaces x S e y.0 hx he y.1)

@@ -87,13 +87,13 @@ same_text v k t s e f = cc
 
 pub found_pointer : (v : Data) (k : List ℕ) (P : Pointer) (e : ParseError) → get k v ≡ Some (string (text_of P)) → HasNoPointer v k e → ⊥
 found_pointer v k P e f h =
-    pointer_has_no_fault P e (subst (λ t. IsFault t e) (same_text v k h.0 (text_of P) h.1 f) h.2)
+    pointer_has_no_fault P e (subst (λ t. IsFault t e) (search rules) h.2)
 
 pub found_document : (v : Data) (k : List ℕ) (d : Data) → get k v ≡ Some d → IsDocument d → HasNoDocument v k → ⊥
 found_document v k d e doc h = h.2 (subst IsDocument (search rules) doc)
 
 pub no_pointer_one : (v : Data) (k : List ℕ) (e f : ParseError) → HasNoPointer v k e → HasNoPointer v k f → e ≡ f
-no_pointer_one v k e f h g = one_fault g.0 e f (subst (λ t. IsFault t e) (same_text v k h.0 g.0 h.1 g.1) h.2) g.2
+no_pointer_one v k e f h g = one_fault g.0 e f (subst (λ t. IsFault t e) (search rules) h.2) g.2
 
 -- ---- the faults by their ranks
 

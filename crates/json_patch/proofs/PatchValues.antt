@@ -14,12 +14,12 @@ use Rattle.json_patch.specs.ReadLaws.{IsRead, IsUnread, IsReadAlone, IsUnreadAlo
 use Rattle.json_patch.specs.declared.error.ReadKind.{ReadKind}
 use Rattle.json_patch.specs.declared.error.ReadKind.TheVariants.{NotAList, NotAnObject, MissingOp, OpNotText, UnknownOp, MissingFrom, FromNotText, BadFrom, MissingPath, PathNotText, BadPath, MissingValue, ValueNotWhole}
 use Rattle.jsonptr.specs.TextLaws.{one_pointer}
-use Rattle.json_patch.proofs.PatchFaults.{Text, pointer, lacks, no_text, no_pointer, text_at, Held, document, lacks_it, no_document, held_at, object_or_not, found_lacks, found_text, found_pointer, found_document, same_text, no_pointer_one, past_from, first_one, past_path}
+use Rattle.json_patch.proofs.PatchFaults.{Text, pointer, lacks, no_text, no_pointer, text_at, Held, document, lacks_it, no_document, held_at, object_or_not, found_lacks, found_text, found_pointer, found_document, no_pointer_one, past_from, first_one, past_path}
 
 -- ---- what is read
 
 same_pointer : (v : Data) (k : List ℕ) (P Q : Pointer) → get k v ≡ Some (string (text_of P)) → get k v ≡ Some (string (text_of Q)) → P ≡ Q
-same_pointer v k P Q e f = one_pointer P Q (same_text v k _ _ e f)
+same_pointer v k P Q e f = one_pointer P Q (search rules)
 
 reads_from : (v : Data) (op : Operation) → ReadsFields v op → IsOneOf (field_names op) (codes "from") → (F : Pointer) × (get (codes "from") v ≡ Some (string (text_of F)))
 reads_from v op h n = search rules
@@ -54,7 +54,7 @@ reads_no_fault : (v : Data) (op : Operation) → ReadsOperation v op → (kind :
 reads_no_fault v op h NotAnObject f = f (search rules)
 reads_no_fault v op h MissingOp f = found_lacks v (codes "op") _ h.0.0 f
 reads_no_fault v op h OpNotText f = found_text v (codes "op") _ h.0.0 f
-reads_no_fault v op h UnknownOp f = f.2 op (same_text v (codes "op") _ _ h.0.0 f.1)
+reads_no_fault v op h UnknownOp f = f.2 op (search rules)
 reads_no_fault v op h kind f = reads_no_field_fault v op (h.0.1, h.1) kind (field_fault v op f.0 kind h.0.0 f.1 f.2)
 
 -- ---- one operation is read
@@ -64,7 +64,7 @@ same_fields v op other e h g = search (rules, same_pointer, apart)
 
 same_operation : (v : Data) (op other : Operation) → ReadsOperation v op → ReadsOperation v other → other ≡ op
 same_operation v op other h g =
-    same_fields v op other (same_text v (codes "op") _ _ h.0.0 g.0.0) (h.0.1, h.1) (g.0.1, g.1)
+    same_fields v op other (search rules) (h.0.1, h.1) (g.0.1, g.1)
 
 -- ---- the members are read, or there is a first fault
 

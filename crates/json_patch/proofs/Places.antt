@@ -34,14 +34,11 @@ split_cases : (s : Step) (Y : List Step) → IsMoved [] s Y ⊎ IsBeside [] s Y
 split_cases s [] = inr (search rules)
 split_cases s (r ∷ R) = next_cases s r R
 
-beside_under : (L : List Step) (s : Step) (Y : List Step) → IsBeside [] s Y → IsBeside L s (L ++ Y)
-beside_under L s Y b = search (rules, append_cancel_left)
-
 pub beside_inside : (L : List Step) (s : Step) (Y : List Step) → IsBeside L s (L ++ Y) → IsBeside [] s Y
 beside_inside L s Y b = search rules
 
 moved_cases_at : (L : List Step) (s : Step) (Y : List Step) → IsMoved L s (L ++ Y) ⊎ IsBeside L s (L ++ Y)
-moved_cases_at L s Y = ⊎_elim (λ m. inl (search rules)) (λ b. inr (beside_under L s Y b)) (split_cases s Y)
+moved_cases_at L s Y = ⊎_elim (λ m. inl (search rules)) (λ b. inr (search (rules, append_cancel_left))) (split_cases s Y)
 
 pub moved_cases : (L : List Step) (s : Step) (X : List Step) → IsMoved L s X ⊎ IsBeside L s X
 moved_cases L s X =

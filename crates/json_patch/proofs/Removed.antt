@@ -10,7 +10,7 @@ use Rattle.json_patch.proofs.Alike.{alike}
 use Rattle.json_patch.proofs.Members.{get_without, get_without_other, without_members}
 use Rattle.json_patch.proofs.Items.{get_remove_later, get_remove_before, remove_items}
 use Rattle.json_patch.proofs.Places.{IsMoved, moved_cases}
-use Rattle.json_patch.proofs.Resolved.{option_map_some, step_names, resolves_same, resolves_document, Ends, ends, ended, last_same, no_end}
+use Rattle.json_patch.proofs.Resolved.{option_map_some, resolves_same, resolves_document, Ends, ends, ended, last_same, no_end}
 use Rattle.json_patch.proofs.Altered.{Grafts, IsAltered, altered_is, altered_some}
 use Rattle.json_patch.proofs.Slots.{below, not_from}
 use Rattle.json_patch.proofs.Added.{elsewhere_lift}
@@ -37,7 +37,7 @@ pub take_from_takes : (t : List ℕ) (p q : Data) → take_from t p ≡ Some q �
 take_from_takes t p q is =
     option_and_then_some _ (step_of p t) q is (λ s named more.
     option_map_some _ (child s p) q more (λ c stands whole.
-    record { s = s; c = c; names = step_names p t s named; stands = stands; whole = whole }))
+    record { s = s; c = c; names = (search rules); stands = stands; whole = whole }))
 
 takes_lift : (d e : Data) (L : List Step) (p q : Data) (s : Step) → Grafts d e L p q → TakesAt p q [] s → TakesAt d e L s
 takes_lift d e L p q s g h = record { later = (search rules); elsewhere = elsewhere_lift d e L p q s g h.elsewhere }

@@ -10,9 +10,6 @@ use Rattle.json_patch.proofs.Children.{child_document}
 pub option_map_some : {A B P : Type 0} (f : A → B) (o : Option A) (y : B) → option_map f o ≡ Some y → ((x : A) → o ≡ Some x → f x ≡ y → P) → P
 option_map_some f o y is k = search rules
 
-pub step_names : (d : Data) (t : List ℕ) (s : Step) → step_of d t ≡ Some s → Names d t s
-step_names d t s is = search rules
-
 pub names_step : (d : Data) (t : List ℕ) (s : Step) → Names d t s → step_of d t ≡ Some s
 names_step d t s h = search rules
 

@@ -1,5 +1,5 @@
 -- Where a token puts a new child, and what that leaves.
-use Rattle.std.proofs.Common.{◌≡◌, ℕ, ◌<◌, ◌≤◌, List, [], ◌∷◌, ⊎_elim, Bool, true, false, if◌then◌else◌, leb, bytes_eq, Option, Some, None, option_map, option_and_then, refl, ap, arith, rules}
+use Rattle.std.proofs.Common.{◌≡◌, ℕ, ◌<◌, ◌≤◌, List, [], ◌∷◌, ⊎_elim, Bool, true, if◌then◌else◌, leb, bytes_eq, Option, Some, None, option_map, option_and_then, refl, ap, arith, rules}
 use Rattle.std.proofs.lemmas.Bool.{cases_lt}
 use Rattle.std.proofs.lemmas.Bool.Decides.{nat_tests}
 use Rattle.std.proofs.lemmas.Slice.Eq.{bytes_eq-Decides}
@@ -7,7 +7,6 @@ use Rattle.serde_json.specs.Data.{Data, array, object, Items, Members, put}
 use Rattle.serde_json.specs.Events.{items_len}
 use Rattle.serde_json.proofs.Views.{get_member-put, get_member-put_other}
 use Rattle.jsonptr.specs.PlaceLaws.{next_is_no_place}
-use Rattle.jsonptr.specs.Places.{place_of, next_token}
 use Rattle.json_patch.specs.Document.{IsDocument, Step, key, place, look, sight, standing}
 use Rattle.json_patch.specs.Resolve.{Aims}
 use Rattle.json_patch.specs.Change.{PutsAt, IsBeside}
@@ -25,11 +24,8 @@ slot_aims t ds i h = (search rules)
 fits : (i n : ℕ) → i ≤ n → leb i n ≡ true
 fits i n le = grind (arith, nat_tests)
 
-not_next : (b : Bool) (t : List ℕ) (i : ℕ) → bytes_eq t next_token ≡ b → place_of t ≡ Some i → b ≡ false
-not_next b t i is h = search (rules, bytes_eq-Decides, next_is_no_place)
-
 pub slot_some : (t : List ℕ) (ds : Items) (i : ℕ) → Aims (array ds) t (place i) → slot_of t ds ≡ Some i
-slot_some t ds i h = search (rules, not_next, bytes_eq, nat_tests)
+slot_some t ds i h = search (rules, bytes_eq-Decides, next_is_no_place, bytes_eq, nat_tests)
 
 pub aims_put : (v : Data) (t : List ℕ) (p : Data) (s : Step) → Aims p t s → (q : Data) × (put_in v t p ≡ Some q)
 aims_put v t (object ms) (key k) h = (object (put t v ms), refl)
