@@ -96,14 +96,10 @@ unfolding over
 altered_under f d S P b at = search (rules, altered_append, altered_walks, option_and_then)
 
 pub added_under : (d : Data) (S : Pointer) (t : List ℕ) (P : Pointer) (v b : Data) → found d S ≡ Some b → added d (S ++ t ∷ P) v ≡ over d S (added b (t ∷ P) v)
-added_under d S t P v b at =
-    ap (λ Q. added d Q v) (ap (λ Q. S ++ Q) (split_whole t P) ∙ sym (append_assoc S (front_of t P) (last_of t P ∷ []))) ∙ added_at d (S ++ front_of t P) (last_of t P) v
-    ∙ altered_under (put_in v (last_of t P)) d S (front_of t P) b at
+added_under d S t P v b at = search (rules, split_whole t P, append_assoc S (front_of t P) (last_of t P ∷ []), added_at d (S ++ front_of t P) (last_of t P) v, altered_under (put_in v (last_of t P)) d S (front_of t P) b at, split_whole, append_assoc, added_at, altered_under)
 
 pub removed_under : (d : Data) (S : Pointer) (t : List ℕ) (P : Pointer) (b : Data) → found d S ≡ Some b → removed d (S ++ t ∷ P) ≡ over d S (removed b (t ∷ P))
-removed_under d S t P b at =
-    ap (removed d) (ap (λ Q. S ++ Q) (split_whole t P) ∙ sym (append_assoc S (front_of t P) (last_of t P ∷ []))) ∙ removed_at d (S ++ front_of t P) (last_of t P)
-    ∙ altered_under (take_from (last_of t P)) d S (front_of t P) b at
+removed_under d S t P b at = search (rules, split_whole t P, append_assoc S (front_of t P) (last_of t P ∷ []), removed_at d (S ++ front_of t P) (last_of t P), altered_under (take_from (last_of t P)) d S (front_of t P) b at, split_whole, append_assoc, removed_at, altered_under)
 
 pub found_under : (d : Data) (S P : Pointer) (b : Data) → found d S ≡ Some b → found d (S ++ P) ≡ found b P
 found_under d S P b at = found_append d S P ∙ ap (option_and_then (λ p. found p P)) at
@@ -159,12 +155,7 @@ module _ (d : Data) (S : Pointer) (b : Data) (hd : IsDocument d) (at : found d S
   moved_under : (t : List ℕ) (P : Pointer) (o p : Option Data) → ((v : Data) → o ≡ Some v → IsDocument v) → ((m : Data) → p ≡ Some m → IsDocument m)
       → moved (S ++ t ∷ P) o (over d S p) ≡ lifted d S (moved (t ∷ P) o p)
   unfolding over lifted
-  moved_under t P (Some v) (Some m) ho hp =
-      let x : (x : Data) × (replaced d S m ≡ Some x) = some_replaced m in
-      let r : Replaces d S m x.0 = replaces d S m x.0 hd (hp m refl) x.1 in
-      rw x.1 (ap (or_refused InvalidPointer) (added_under x.0 S t P v m r.found_there
-      ∙ again_under m x.0 (added m (t ∷ P) v) (hp m refl) x.1 (λ e is. IsAdded_document m (t ∷ P) v e (ho v refl) (added_is m (t ∷ P) v e (hp m refl) (ho v refl) is)))
-      ∙ lifted_or d S (added m (t ∷ P) v))
+  moved_under t P (Some v) (Some m) ho hp = search (rules, some_replaced m, replaces d S m, added_under, again_under m, IsAdded_document m (t ∷ P) v, added_is m (t ∷ P) v, lifted_or d S (added m (t ∷ P) v), some_replaced, replaces, again_under, IsAdded_document, added_is, lifted_or)
   moved_under t P o p ho hp = search rules
 
   on_test : (c : Bool) (X Y : Result Data PatchErrorKind) → X ≡ lifted d S Y → (if c then Err CannotMoveInsideItself else X) ≡ lifted d S (if c then Err CannotMoveInsideItself else Y)
@@ -172,10 +163,7 @@ module _ (d : Data) (S : Pointer) (b : Data) (hd : IsDocument d) (at : found d S
   on_test c X Y h = search rules
 
   move_under : (t : List ℕ) (F : Pointer) (u : List ℕ) (P : Pointer) → stepped d (move (S ++ t ∷ F) (S ++ u ∷ P)) ≡ lifted d S (stepped b (move (t ∷ F) (u ∷ P)))
-  move_under t F u P =
-      rw (begins_under S (t ∷ F) (u ∷ P), found_under d S (t ∷ F) b at, removed_under d S t F b at)
-      (on_test (begins (t ∷ F) (u ∷ P)) (moved (S ++ u ∷ P) (found b (t ∷ F)) (over d S (removed b (t ∷ F)))) (moved (u ∷ P) (found b (t ∷ F)) (removed b (t ∷ F)))
-      (moved_under u P (found b (t ∷ F)) (removed b (t ∷ F)) (λ v is. found_document b (t ∷ F) v there is) (λ m is. (removed_is b (t ∷ F) m there is).4)))
+  move_under t F u P = search (rules, begins_under S (t ∷ F) (u ∷ P), found_under d S (t ∷ F) b at, removed_under d S t F b at, on_test (begins (t ∷ F) (u ∷ P)) (moved (S ++ u ∷ P) (found b (t ∷ F)) (over d S (removed b (t ∷ F)))) (moved (u ∷ P) (found b (t ∷ F)) (removed b (t ∷ F))), moved_under u P (found b (t ∷ F)) (removed b (t ∷ F)), found_document b (t ∷ F), there, removed_is b (t ∷ F), begins_under, found_under, removed_under, on_test, moved_under, found_document, removed_is)
 
   pub stepped_under : (op : Operation) → IsWithin S op → stepped d op ≡ lifted d S (stepped b (stripped S op))
   stepped_under (add P v) h =
@@ -186,9 +174,7 @@ module _ (d : Data) (S : Pointer) (b : Data) (hd : IsDocument d) (at : found d S
       with_one S (λ Q R. stepped d (replace Q v) ≡ lifted d S (stepped b (replace R v)))
       (λ t Q. ap (or_refused InvalidPointer) (altered_under (λ c. Some v) d S (t ∷ Q) b at) ∙ lifted_or d S (replaced b (t ∷ Q) v)) P h
   stepped_under (move F P) h = with_two S (λ G H Q R. stepped d (move G Q) ≡ lifted d S (stepped b (move H R))) (λ t G u Q. move_under t G u Q) F P h.0 h.1
-  stepped_under (copy F P) h =
-      with_two S (λ G H Q R. stepped d (copy G Q) ≡ lifted d S (stepped b (copy H R)))
-      (λ t G u Q. ap (copied d (S ++ u ∷ Q)) (found_under d S (t ∷ G) b at) ∙ copied_under u Q (found b (t ∷ G))) F P h.0 h.1
+  stepped_under (copy F P) h = grind (arith, common_steps, with_two S, found_under d S, copied_under)
   stepped_under (test P v) h =
       with_one S (λ Q R. stepped d (test Q v) ≡ lifted d S (stepped b (test R v))) (λ t Q. ap (tested d v) (found_under d S (t ∷ Q) b at) ∙ tested_under v (found b (t ∷ Q))) P h
 
@@ -206,8 +192,7 @@ RunsUnder d S ops (Err f) = ran d ops ≡ Err f
 counted_under : (d : Data) (S : Pointer) (b : Data) (op : Operation) (ops : List Operation) (m x : Data) (o : Outcome) → IsDocument d → IsDocument m → replaced d S m ≡ Some x → stepped d op ≡ Ok x
     → RunsUnder x S ops o → RunsUnder d S (op ∷ ops) (counted o)
 unfolding RunsUnder
-counted_under d S b op ops m x (Ok e) hd hm is step h =
-    (h.0, (h.1.0, sym ((replaces d S m x hd hm is).again e h.0) ∙ h.1.1, rw (step, h.1.2) refl))
+counted_under d S b op ops m x (Ok e) hd hm is step h = search (rules, replaces d S m x hd hm is, replaces)
 counted_under d S b op ops m x (Err (fault k kind)) hd hm is step h = rw (step, h) refl
 
 on_step : (d : Data) (S : Pointer) (b : Data) (op : Operation) (ops : List Operation) (r : Result Data PatchErrorKind) → IsDocument d → IsWholeOp op → found d S ≡ Some b → IsWithin S op → stepped b (stripped S op) ≡ r
@@ -221,8 +206,7 @@ on_step d S b op ops (Ok m) hd hv at within is more =
     let r : Replaces d S m x.0 = replaces d S m x.0 hd hm x.1 in
     let step : stepped d op ≡ Ok x.0 = stepped_under d S b hd at op within ∙ ap (lifted d S) is ∙ ap (or_refused InvalidPointer) x.1 in
     counted_under d S b op ops m x.0 (ran m (stripped_all S ops)) hd hm x.1 step (more x.0 m r.document r.found_there)
-on_step d S b op ops (Err kind) hd hv at within is more =
-    let step : stepped d op ≡ Err kind = stepped_under d S b hd at op within ∙ ap (lifted d S) is in rw step refl
+on_step d S b op ops (Err kind) hd hv at within is more = search (rules, stepped_under d S b hd at op within, stepped_under)
 
 pub ran_under : (d : Data) (S : Pointer) (b : Data) (ops : List Operation) → IsDocument d → AreWhole ops → found d S ≡ Some b → AreWithin S ops → RunsUnder d S ops (ran b (stripped_all S ops))
 unfolding RunsUnder

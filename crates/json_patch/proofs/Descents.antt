@@ -1,5 +1,5 @@
 -- A walk down a value: what an attempt at a child leaves of what holds the child, and what stands there.
-use Rattle.std.proofs.Common.{◌≡◌, ℕ, List, ◌∷◌, get_or, Vec, vec_len, Option, Some, None, option_map, option_and_then, Result, IfOk, BTreeMap, String, Global, refl, sym, rules}
+use Rattle.std.proofs.Common.{◌≡◌, ℕ, List, ◌∷◌, get_or, Vec, vec_len, Option, Some, None, option_map, option_and_then, Result, IfOk, BTreeMap, String, Global, rules}
 use Rattle.std.specs.Map.{lookup, set_value}
 use Rattle.std.specs.Result.{IsErr, IsErrAnd}
 use Rattle.std.specs.Vec.{with_item}
@@ -40,14 +40,10 @@ pub walks_to_member : {T : Type 0} (r : Result T StepFault) (wanted : Option Dat
 walks_to_member r wanted f t old new m n v w q o p order is wrote h = rw (q, o, p, view-Object m, view-Object n) (search (rules, member_child, members_view-set_value, members_view-set_same))
 
 within_no_item : (f : Data → Option Data) (t : List ℕ) (m : Vec Value Global) (len : ℕ) → len ≡ vec_len m → IsNoItem t len → within f t (array (items_view m.items)) ≡ None
-within_no_item f t m len e past =
-    no_item t m len (λ s. option_and_then (λ c. option_map (λ b. set_child s b (array (items_view m.items))) (f c)) (child s (array (items_view m.items))))
-    (λ s h. goes_none (array (items_view m.items)) (λ r c. option_map (λ b. set_child r b (array (items_view m.items))) (f c)) s h) e past
+within_no_item f t m len e past = search (rules, no_item t m len, goes_none (array (items_view m.items)), no_item, goes_none)
 
 within_no_member : (f : Data → Option Data) (t : List ℕ) (m : BTreeMap (String Global) Value) → None ≡ lookup (is_named t) m.entries → within f t (object (members_view m.entries)) ≡ None
-within_no_member f t m none =
-    no_member t m.entries None (λ s. option_and_then (λ c. option_map (λ b. set_child s b (object (members_view m.entries))) (f c)) (child s (object (members_view m.entries))))
-    (λ s h. goes_none (object (members_view m.entries)) (λ r c. option_map (λ b. set_child r b (object (members_view m.entries))) (f c)) s h) refl none
+within_no_member f t m none = search (rules, no_member t m.entries None, goes_none (object (members_view m.entries)), no_member, goes_none)
 
 pub walks_to_no_item : {T : Type 0} (r : Result T StepFault) (kind : PatchErrorKind) (wanted : Option Data) (f : Data → Option Data) (t : List ℕ) (old new : Value) (m : Vec Value Global) (len : ℕ)
     → wanted ≡ within f t (view old) → old ≡ Array m → new ≡ Array m → len ≡ vec_len m → IsErr r × IsErrAnd r (λ x. x ≡ Refused kind) → kind ≡ InvalidPointer → IsNoItem t len → Attempts r wanted (view old) (view new)
@@ -84,6 +80,4 @@ displaces_at_members r edit t old m o h = rw (o, view-Object m) h
 -- ---- where nothing stands
 
 pub found_no_item : (t : List ℕ) (P rest : Pointer) (old : Value) (m : Vec Value Global) (len : ℕ) → P ≡ t ∷ rest → old ≡ Array m → len ≡ vec_len m → IsNoItem t len → None ≡ found (view old) P
-found_no_item t P rest old m len way o e past =
-    rw (way, o, view-Array m)
-    (sym (no_item t m len (λ s. option_and_then (λ c. found c rest) (child s (array (items_view m.items)))) (λ s h. goes_none (array (items_view m.items)) (λ r c. found c rest) s h) e past))
+found_no_item t P rest old m len way o e past = search (rules, view-Array m, no_item t m len, goes_none (array (items_view m.items)), view-Array, no_item, goes_none)

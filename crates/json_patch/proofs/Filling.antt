@@ -113,9 +113,7 @@ before_last log e ms = ap (λ l. restored l ms) (map-append (λ (f : Bor (List �
 
 pub puts_back : (t : List ℕ) (es new : List Entry) (f : Former) (d w : Value) → AreInOrder es → Some d ≡ lookup (is_named t) es → new ≡ set_value (is_named t) es w → formerly f (Some (view d)) ≡ Some (view w)
     → members_view new ≡ with_member t (formerly f (get_member t (members_view es))) (members_view es)
-puts_back t es new f d w order found is back =
-    let here : get_member t (members_view es) ≡ Some (view d) = sym (view-lookup t es) ∙ ap (option_map view) (sym found) in
-    ap members_view is ∙ members_view-set_value t es w d order (sym found) ∙ ap (λ o. with_member t o (members_view es)) (sym (ap (formerly f) here ∙ back))
+puts_back t es new f d w order found is back = search (rules, view-lookup t es, members_view-set_value t es w d order (sym found), view-lookup, members_view-set_value)
 
 pub puts_nothing_back : (t : List ℕ) (es new : List Entry) (f : Former) → None ≡ lookup (is_named t) es → new ≡ es → formerly f None ≡ None
     → members_view new ≡ with_member t (formerly f (get_member t (members_view es))) (members_view es)

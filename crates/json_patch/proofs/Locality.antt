@@ -38,11 +38,7 @@ module _ (d : Data) (S : Pointer) (b : Data) (op : Operation) (hd : IsDocument d
 
   pub local_refuses : (kind : PatchErrorKind) → Refuses b (stripped S op) kind → Refuses d op kind
   unfolding lifted
-  local_refuses kind h =
-      let hb : IsDocument b = stands_document d S b hd at in
-      let hs : IsWholeOp (stripped S op) = (search rules) in
-      let step : stepped d op ≡ Err kind = stepped_under d S b hd (stands_found d S b at) op within ∙ ap (lifted d S) (refuses_stepped b (stripped S op) kind hb hs h) in
-      stepped_refuses d op kind hd hv step
+  local_refuses kind h = search (rules, stands_document d S b hd at, stepped_under d S b hd (stands_found d S b at) op within, stands_found d S b at, lifted d S, refuses_stepped b (stripped S op) kind, stepped_refuses d op kind hd hv, stands_document, stepped_under, stands_found, lifted, refuses_stepped, stepped_refuses)
 
 -- ---- runs
 
@@ -62,11 +58,7 @@ module _ (d : Data) (S : Pointer) (b : Data) (ops : List Operation) (hd : IsDocu
 
   from : (e x : Data) → RunsUnder d S ops (Ok e) → IsReplaced d S e x → Accepts d ops x
   unfolding RunsUnder
-  from e x u h =
-      let r : replaced d S e ≡ Some x = replaced_exact d S e x hd u.0 h in
-      let s : replaced d S e ≡ Some u.1.0 = u.1.1 in
-      let same : u.1.0 ≡ x = cc in
-      ran_accepts d ops x hd hv (u.1.2 ∙ ap Ok same)
+  from e x u h = search (rules, replaced_exact d S e x hd u.0 h, ran_accepts d ops x hd hv, replaced_exact, ran_accepts)
 
   pub runs_alike : (x : Data) → Accepts d ops x ↔ ((e : Data) × Accepts b (stripped_all S ops) e × IsReplaced d S e x)
   runs_alike x = (

@@ -56,11 +56,7 @@ along {left = left} a b c h = rw (a, b, c) h
 member_next : (k l : List ℕ) (q : Data) (ps ms ns : Members) → merged_members ms (member l q ps) ≡ merged_members ns ps → get_member l ps ≡ None → (k ≢ l → get_member k ns ≡ get_member k ms)
     → IsMergedMember (get_member l ms) (Some q) (get_member l ns) → IsMergedMember (get_member k ns) (get_member k ps) (get_member k (merged_members ns ps))
     → IsMergedMember (get_member k ms) (get_member k (member l q ps)) (get_member k (merged_members ms (member l q ps)))
-member_next k l q ps ms ns next once keeps here later =
-    ⊎_elim
-    (λ (same : k ≡ l). subst (λ x. IsMergedMember (get_member x ms) (get_member x (member l q ps)) (get_member x (merged_members ms (member l q ps)))) (sym same)
-    (along refl (found_first l q ps) (ap (get_member l) next ∙ unnamed l ps ns once) here))
-    (λ (other : k ≢ l). along (sym (keeps other)) (skips k l q ps other) (ap (get_member k) next) later) (name_cases k l)
+member_next k l q ps ms ns next once keeps here later = search (rules, along refl (found_first l q ps) (ap (get_member l) next ∙ unnamed l ps ns once) here, found_first l q ps, unnamed l ps ns once, along, skips k l q ps, name_cases k l, found_first, unnamed, skips, name_cases)
 
 mutual
   pub merged_is : (p d : Data) → IsDocument d → IsDocument p → IsMerged d p (merged d p)

@@ -68,8 +68,7 @@ undo_found was v d c P F t is at h = search rules
 
 pub undo_as_found : (r : Result Displaced StepFault) (v : Value) (d : Data) (P F : Pointer) (t : List ℕ) (x : Data) → P ≡ F ++ t ∷ [] → IfOk r (DisplacesAt (Insert v) d F t) → IfOk r (Undoes d (add P x))
 undo_as_found (Err e) v d P F t x is h = h
-undo_as_found (Ok was) v d P F t x is h =
-    ap (λ o. o ∷ []) (subst (λ u. u ≡ undo_at_place (path_of u) was) (sym (undo_add_in d P F t is ∙ ap (undo_in d F t P) h.1)) (undo_found was v d h.0 P F t is h.1 h.2))
+undo_as_found (Ok was) v d P F t x is h = search (rules, undo_add_in d P F t is, undo_found was v d h.0 P F t is h.1 h.2, undo_add_in, undo_found)
 
 pub undo_swapped : (r : Result Displaced StepFault) (v : Value) (d : Data) (P F : Pointer) (t : List ℕ) (x : Data) → P ≡ F ++ t ∷ [] → IfOk r (DisplacesAt (Swap v) d F t) → IfOk r (Undoes d (replace P x))
 undo_swapped r v d P F t x is h = search (rules, found_in)
@@ -104,8 +103,7 @@ move_goes r d m e v S F P G Q from path out h = search (rules, not_begins)
 pub move_stops : {T : Type 0} (U : Type 0) (r : Result T StepFault) (fault : StepFault) (d m e : Data) (v : Value) (S F P G Q : Pointer) → F ≡ drop (length S) G → P ≡ drop (length S) Q → IsErr r × IsErrAnd r (λ f. f ≡ fault) → TakesOut d m F P v
     → Attempts {T = U} (Err fault) (added m P (view v)) m e → Steps r (stepped d (stripped S (move G Q))) e
 move_stops U (Ok x) fault d m e v S F P G Q from path gives out h = absurd gives.1
-move_stops {T} U (Err f) fault d m e v S F P G Q from path gives out h =
-    move_goes {T = T} (Err f) d m e v S F P G Q from path out (subst (λ g. Attempts {T = T} (Err g) (added m P (view v)) m e) (sym gives.1) h)
+move_stops {T} U (Err f) fault d m e v S F P G Q from path gives out h = search (rules, move_goes {T = T} (Err f) d m e v S F P G Q from path out, move_goes)
 
 -- ---- a place by its number
 

@@ -29,8 +29,7 @@ changes_without t now new h is = search (rules, without_members, get_without_oth
 
 pub changes_written : (t : List ℕ) (es new : List Entry) (d w : Value) → AreInOrder es → Some d ≡ lookup (is_named t) es → new ≡ set_value (is_named t) es w → AreMembers (members_view es) → IsDocument (view w)
     → ChangesAt t (members_view es) (members_view new) (Some (view w))
-changes_written t es new d w order found is h hw =
-    changes_put t (view w) (members_view es) (members_view new) h hw (ap members_view is ∙ members_view-set_value t es w d order (sym found))
+changes_written t es new d w order found is h hw = search (rules, changes_put t (view w) (members_view es) (members_view new) h hw (ap members_view is ∙ members_view-set_value t es w d order (sym found)), members_view-set_value t es w d order (sym found), changes_put, members_view-set_value)
 
 pub changes_removed : (t : List ℕ) (es new : List Entry) → new ≡ remove_entry (is_named t) es → AreMembers (members_view es) → ChangesAt t (members_view es) (members_view new) None
 changes_removed t es new is h = changes_without t (members_view es) (members_view new) h (ap members_view is ∙ members_view-remove_entry t es)
@@ -74,11 +73,7 @@ starts M unnamed start all items is h hp = subst (λ es. Passes M start (members
 pub steps_at : (M : Option Data → Option Data → Option Data → Type 0) (start all now new : Members) (items left : List Entry) (e : Entry) (t : List ℕ)
     → items ≡ e ∷ left → t ≡ string_bytes e.0 → Passes M start all now (members_view items)
     → (IsDocument (view e.1) → (o : Option Data) × ChangesAt t now new o × M (get_member t now) (Some (view e.1)) o) → Passes M start all new (members_view left)
-steps_at M start all now new items left e t is_next named before step =
-    let h : Passes M start all now (member t (view e.1) (members_view left)) =
-    subst (λ x. Passes M start all now (member x (view e.1) (members_view left))) (sym named) (subst (λ es. Passes M start all now (members_view es)) is_next before) in
-    let s = step h.members.1 in
-    steps M start all now new (members_view left) t (view e.1) s.0 h s.1 s.2
+steps_at M start all now new items left e t is_next named before step = search (rules, steps M start all now new (members_view left) t (view e.1), steps)
 
 pub next_document : (items left : List Entry) (e : Entry) → items ≡ e ∷ left → AreMembers (members_view items) → IsDocument (view e.1)
 next_document items left e is_next h = (subst (λ es. AreMembers (members_view es)) is_next h).1

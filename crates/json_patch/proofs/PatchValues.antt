@@ -1,5 +1,6 @@
 -- A value reads as one patch, or is refused with one number and kind; what is written reads back.
-use Rattle.std.proofs.Common.{◌≡◌, ℕ, zero, suc, List, [], ◌∷◌, map, ◌⊎◌, Option, Some, None, refl, sym, ap, ◌∙◌, subst, inl, inr, ⊎_elim, codes, Bool, true, false, true≢false, rules}
+use Rattle.std.proofs.lemmas.Grind.{common_steps}
+use Rattle.std.proofs.Common.{◌≡◌, ℕ, zero, suc, List, [], ◌∷◌, map, ◌⊎◌, Option, Some, None, refl, sym, ◌∙◌, inl, inr, ⊎_elim, codes, Bool, true, false, true≢false, rules, arith}
 use Rattle.std.specs.Str.{bytes_eq}
 use Rattle.std.proofs.lemmas.Slice.Eq.{bytes_eq-Decides}
 use Rattle.serde_json.specs.Data.{Data, null, string, array, Items, no_items, item}
@@ -63,8 +64,7 @@ same_fields : (v : Data) (op other : Operation) → name_of op ≡ name_of other
 same_fields v op other e h g = search (rules, same_pointer, apart)
 
 same_operation : (v : Data) (op other : Operation) → ReadsOperation v op → ReadsOperation v other → other ≡ op
-same_operation v op other h g =
-    same_fields v op other (search rules) (h.0.1, h.1) (g.0.1, g.1)
+same_operation v op other h g = search (rules, same_fields v op other, same_fields)
 
 -- ---- the members are read, or there is a first fault
 
@@ -139,15 +139,11 @@ fields_fault_one : (names : List (List ℕ)) (v : Data) (kind other : ReadKind) 
 fields_fault_one names v = first_one (IsFieldFault names v) (λ e f h g. no_pointer_one v (codes "from") e f h.1 g.1) (λ e f h g. no_pointer_one v (codes "path") e f h g)
 
 reads_no_like_fault : (v : Data) (op like : Operation) → name_of op ≡ name_of like → ReadsFields v op → (kind : ReadKind) → RefusesFields (field_names like) v kind → ⊥
-reads_no_like_fault v op like e h kind f =
-    reads_no_field_fault v op h kind (subst (λ names. IsFieldFault names v kind) (same_field_names like op (sym e)) f.here)
+reads_no_like_fault v op like e h kind f = search (rules, reads_no_field_fault v op h kind, same_field_names like op (sym e), reads_no_field_fault, same_field_names)
 
 -- a value reads as one operation like this one, or is refused for one kind
 pub read_like_or_refused : (like : Operation) (v : Data) → ((op : Operation) × IsReadLike like v op) ⊎ ((kind : ReadKind) × IsUnreadLike like v kind)
-read_like_or_refused like v =
-    ⊎_elim (λ h. inl (h.0, record { named = h.1; reads = h.2; alone = λ other e g. same_fields v h.0 other (h.1 ∙ sym e) h.2 g; nowhere = λ kind f. reads_no_like_fault v h.0 like h.1 h.2 kind f }))
-    (λ h. inr (h.0, record { refuses = h.1; alone = λ other g. fields_fault_one (field_names like) v h.0 other h.1 g; never = λ op e g. reads_no_like_fault v op like e g h.0 h.1 }))
-    (fields_read_or_refused v like)
+read_like_or_refused like v = search (rules, same_fields v, reads_no_like_fault v, fields_fault_one (field_names like) v, fields_read_or_refused v like, same_fields, reads_no_like_fault, fields_fault_one, fields_read_or_refused)
 
 -- ---- by the name in `op`
 
@@ -162,9 +158,7 @@ Outcome v = ((op : Operation) × ReadsOperation v op) ⊎ ((kind : ReadKind) × 
 
 module _ (v : Data) where
   named_as : (n : List ℕ) → get (codes "op") v ≡ Some (string n) → (like : Operation) → n ≡ name_of like → Outcome v
-  named_as n e like is =
-      let named : get (codes "op") v ≡ Some (string (name_of like)) = e ∙ ap (λ m. Some (string m)) is in
-      ⊎_elim (λ h. inl (h.0, ((named ∙ ap (λ m. Some (string m)) (sym h.1), h.2.0), h.2.1))) (λ h. inr (h.0, (search rules))) (fields_read_or_refused v like)
+  named_as n e like is = search (rules, fields_read_or_refused v like, fields_read_or_refused)
 
   by_name : (n : List ℕ) → get (codes "op") v ≡ Some (string n) → Outcome v
   by_name n e =
@@ -217,8 +211,7 @@ same_items_read ds ops others h g = search rules
 same_item_refused : (ds : Items) (k j : ℕ) (kind other : ReadKind) → RefusesItem ds k kind → RefusesItem ds j other → (j ≡ k) × (other ≡ kind)
 same_item_refused (item d ds) zero (suc j) kind other h g = absurd (reads_no_fault d g.0 g.1 kind h.here)
 same_item_refused (item d ds) (suc k) zero kind other h g = absurd (reads_no_fault d h.0 h.1 other g.here)
-same_item_refused (item d ds) (suc k) (suc j) kind other h g =
-    let rest = same_item_refused ds k j kind other h.2 g.2 in (ap suc rest.0, rest.1)
+same_item_refused (item d ds) (suc k) (suc j) kind other h g = grind (arith, common_steps, same_item_refused ds k j kind other h.2 g.2)
 same_item_refused ds k j kind other h g = search (rules, operation_fault_one)
 
 -- a list reads as one patch, or is refused at one item for one kind
@@ -251,20 +244,16 @@ written_patch_document ops w = written_items_documents ops w
 
 -- what reads is read: as that patch and no other, and refused for nothing
 read_is : (v : Data) (ops : List Operation) → ReadsPatch v ops → IsRead v ops
-read_is v ops h =
-    ⊎_elim (λ g. subst (IsRead v) (sym (g.1.alone ops h)) g.1) (λ g. absurd (g.2.never ops h)) (read_or_refused v)
+read_is v ops h = search (rules, IsRead v, read_or_refused v, IsRead, read_or_refused)
 
 pub written_reads_back : (ops : List Operation) → AreWhole ops → IsRead (written_patch ops) ops
 written_reads_back ops w = read_is (written_patch ops) ops (written_items_read ops w)
 
 read_alone_is : (v : Data) (op : Operation) → ReadsOperation v op → IsReadAlone v op
-read_alone_is v op h =
-    ⊎_elim (λ g. subst (IsReadAlone v) (sym (g.1.alone op h)) g.1) (λ g. absurd (g.1.never op h)) (read_alone_or_refused v)
+read_alone_is v op h = search (rules, IsReadAlone v, read_alone_or_refused v, IsReadAlone, read_alone_or_refused)
 
 pub written_reads_alone : (op : Operation) → IsWholeOp op → IsReadAlone (written op) op
 written_reads_alone op w = read_alone_is (written op) op (search rules)
 
 pub written_fields_read_back : (op : Operation) → IsWholeOp op → IsReadLike op (written_fields op) op
-written_fields_read_back op w =
-    ⊎_elim (λ g. subst (IsReadLike op (written_fields op)) (sym (g.1.alone op refl (search rules))) g.1)
-    (λ g. absurd (g.1.never op refl (search rules))) (read_like_or_refused op (written_fields op))
+written_fields_read_back op w = search (rules, IsReadLike op (written_fields op), read_like_or_refused op (written_fields op), IsReadLike, read_like_or_refused)

@@ -1,5 +1,5 @@
 -- Locations under and beside another.
-use Rattle.std.proofs.Common.{◌≡◌, ℕ, ◌<◌, ◌≤◌, List, [], ◌∷◌, ◌++◌, ◌⊎◌, inl, inr, ⊎_elim, refl, sym, ap, subst, arith, rules}
+use Rattle.std.proofs.Common.{◌≡◌, ℕ, ◌<◌, ◌≤◌, List, [], ◌∷◌, ◌++◌, ◌⊎◌, inl, inr, ⊎_elim, refl, ap, arith, rules}
 use Rattle.std.proofs.lemmas.Bool.{cases_lt}
 use Rattle.std.proofs.lemmas.List.{append_cancel_left}
 use Rattle.json_patch.specs.Document.{Step, key, place}
@@ -13,10 +13,7 @@ abbrev pub IsApart : List Step → List Step → Type 0
 IsApart L X = (R : List Step) → X ≡ L ++ R → ⊥
 
 pub under_cases : (L X : List Step) → IsUnder L X ⊎ IsApart L X
-under_cases (s ∷ L) (r ∷ X) =
-    ⊎_elim
-    (λ (e : r ≡ s). ⊎_elim (λ (u : IsUnder L X). inl (u.0, (let w : X ≡ L ++ u.0 = u.1 in cc))) (λ (out : IsApart L X). inr (λ R h. out R cc)) (under_cases L X))
-    (λ (out : r ≡ s → ⊥). inr (λ R h. out cc)) (step_cases r s)
+under_cases (s ∷ L) (r ∷ X) = search (rules, step_cases r s, under_cases L X, step_cases)
 under_cases L X = search rules
 
 -- X is under what the step s at L covers or moves
@@ -41,5 +38,4 @@ moved_cases_at : (L : List Step) (s : Step) (Y : List Step) → IsMoved L s (L +
 moved_cases_at L s Y = ⊎_elim (λ m. inl (search rules)) (λ b. inr (search (rules, append_cancel_left))) (split_cases s Y)
 
 pub moved_cases : (L : List Step) (s : Step) (X : List Step) → IsMoved L s X ⊎ IsBeside L s X
-moved_cases L s X =
-    ⊎_elim (λ (u : IsUnder L X). subst (λ Z. IsMoved L s Z ⊎ IsBeside L s Z) (sym u.1) (moved_cases_at L s u.0)) (λ (out : IsApart L X). inr (search rules)) (under_cases L X)
+moved_cases L s X = search (rules, moved_cases_at L s, under_cases L X, moved_cases_at, under_cases)

@@ -1,5 +1,5 @@
 -- The computed document is the one that replace leaves, and the only one.
-use Rattle.std.proofs.Common.{◌≡◌, ℕ, List, ⊎_elim, Some, None, refl, sym, ◌∙◌, rules}
+use Rattle.std.proofs.Common.{◌≡◌, ℕ, List, Some, None, refl, rules}
 use Rattle.serde_json.specs.Data.{Data}
 use Rattle.json_patch.specs.Document.{IsDocument, Step, look}
 use Rattle.json_patch.specs.Resolve.{Resolves}
@@ -28,8 +28,7 @@ replaced_there d P v L c hd hv h =
     (a.0, replaced_is d P v a.0 hd hv a.1)
 
 sets_same : (d e f v : Data) (L : List Step) → SetsAt d e v L → SetsAt d f v L → (X : List Step) → look e X ≡ look f X
-sets_same d e f v L h g X =
-    ⊎_elim (λ (u : IsUnder L X). rw u.1 (h.here u.0 ∙ sym (g.here u.0))) (λ (out : IsApart L X). h.elsewhere X out ∙ sym (g.elsewhere X out)) (under_cases L X)
+sets_same d e f v L h g X = search (rules, IsUnder L X, IsApart L X, under_cases L X, IsUnder, IsApart, under_cases)
 
 pub replaced_one : (d : Data) (P : List (List ℕ)) (v e f : Data) → IsReplaced d P v e → IsReplaced d P v f → e ≡ f
 replaced_one d P v e f h g = search (rules, resolves_same, alike, sets_same)

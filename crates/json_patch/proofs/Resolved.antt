@@ -1,6 +1,6 @@
 -- Steps, pointers and their locations.
 use Rattle.std.proofs.lemmas.Grind.{common_steps}
-use Rattle.std.proofs.Common.{◌≡◌, ℕ, List, [], ◌∷◌, ◌++◌, Option, Some, option_map, refl, ap, ◌∙◌, subst, rules, arith}
+use Rattle.std.proofs.Common.{◌≡◌, ℕ, List, [], ◌∷◌, ◌++◌, Option, Some, option_map, refl, ap, rules, arith}
 use Rattle.serde_json.specs.Data.{Data}
 use Rattle.json_patch.specs.Document.{IsDocument, Step, child}
 use Rattle.json_patch.specs.Resolve.{Names, Resolves}
@@ -17,14 +17,7 @@ pub names_same : (d : Data) (t : List ℕ) (s r : Step) → Names d t s → Name
 names_same d t s r h k = let a : step_of d t ≡ Some s = names_step d t s h in let b : step_of d t ≡ Some r = names_step d t r k in cc
 
 pub resolves_same : (d : Data) (P : List (List ℕ)) (L M : List Step) (p q : Data) → Resolves d P L p → Resolves d P M q → (L ≡ M) × (p ≡ q)
-resolves_same d (t ∷ P) (s ∷ L) (r ∷ M) p q h k =
-    let e : s ≡ r = names_same d t s r h.1 k.1 in
-    let a : child s d ≡ Some h.0 = h.2 in
-    let b : child s d ≡ Some k.0 = ap (λ x. child x d) e ∙ k.2 in
-    let c : k.0 ≡ h.0 = cc in
-    let i : (L ≡ M) × (p ≡ q) = resolves_same h.0 P L M p q h.3 (subst (λ x. Resolves x P M q) c k.3) in
-    let j : L ≡ M = i.0 in
-    (cc, i.1)
+resolves_same d (t ∷ P) (s ∷ L) (r ∷ M) p q h k = search (rules, names_same d t s r h.1 k.1, resolves_same h.0 P L M p q h.3, names_same)
 resolves_same d P L M p q h k = search rules
 
 pub resolves_document : (d : Data) (P : List (List ℕ)) (L : List Step) (p : Data) → IsDocument d → Resolves d P L p → IsDocument p
@@ -58,9 +51,7 @@ pub record Ends (d : Data) (t : List ℕ) (P : List (List ℕ)) (L : List Step) 
 
 pub ends : (d : Data) (t : List ℕ) (P : List (List ℕ)) (L : List Step) (s : Step) (c : Data) → Resolves d (t ∷ P) (L ++ s ∷ []) c → Ends d t P L s c
 ends d t [] (r ∷ L) s c h = absurd (no_end L s h.0 c h.3)
-ends d t (u ∷ P) (r ∷ L) s c h =
-    let i : Ends h.0 u P L s c = ends h.0 u P L s c h.3 in
-    record { p = i.p; front = (h.0, h.1, h.2, i.front); names = i.names; stands = i.stands }
+ends d t (u ∷ P) (r ∷ L) s c h = grind (arith, common_steps, ends h.0 u P L s c h.3)
 ends d t P L s c h = search rules
 
 pub ended : (d : Data) (t : List ℕ) (P : List (List ℕ)) (L : List Step) (s : Step) (c p : Data) → Resolves d (front_of t P) L p → Names p (last_of t P) s → child s p ≡ Some c

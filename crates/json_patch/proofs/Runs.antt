@@ -1,22 +1,20 @@
 -- A run ends exactly where it is computed to end; joined lists.
+use Rattle.std.proofs.lemmas.Grind.{common_steps}
 use Rattle.std.proofs.Common.{◌≡◌, ◌+◌, inl, inr, ℕ, suc, List, [], ◌∷◌, ◌++◌, length, Result, Ok, Err, refl, sym, ap, ◌∙◌, subst, arith, rules}
 use Rattle.serde_json.specs.Data.{Data}
 use Rattle.json_patch.specs.Document.{IsDocument}
 use Rattle.json_patch.specs.Operation.{Operation, test, IsWholeOp, AreWhole}
 use Rattle.json_patch.specs.declared.error.PatchErrorKind.{PatchErrorKind}
-use Rattle.json_patch.specs.Step.{Leaves}
 use Rattle.json_patch.specs.Run.{Accepts, RefusesAt, IsAccepted, IsRefused, Ends, AreTests}
 use Rattle.json_patch.specs.RunComputed.{Outcome, fault, counted, ran_on, stepped, ran}
 use Rattle.json_patch.proofs.Stepped.{leaves_stepped, refuses_stepped, stepped_leaves, stepped_refuses, leaves_document}
 
 pub accepts_ran : (d : Data) (ops : List Operation) (e : Data) → IsDocument d → AreWhole ops → Accepts d ops e → ran d ops ≡ Ok e
 accepts_ran d [] e hd hv h = ap Ok h
-accepts_ran d (op ∷ ops) e hd hv h =
-    rw (leaves_stepped d op h.0 hd hv.0 h.1, accepts_ran h.0 ops e (leaves_document d op h.0 hd hv.0 h.1) hv.1 h.2) refl
+accepts_ran d (op ∷ ops) e hd hv h = search (rules, leaves_stepped d op h.0 hd hv.0 h.1, leaves_document d op h.0 hd hv.0 h.1, accepts_ran h.0 ops e (leaves_document d op h.0 hd hv.0 h.1) hv.1 h.2, leaves_stepped, leaves_document)
 
 pub refuses_ran : (d : Data) (ops : List Operation) (k : ℕ) (kind : PatchErrorKind) → IsDocument d → AreWhole ops → RefusesAt d ops k kind → ran d ops ≡ Err (fault k kind)
-refuses_ran d (op ∷ ops) (suc k) kind hd hv h =
-    rw (leaves_stepped d op h.0 hd hv.0 h.1, refuses_ran h.0 ops k kind (leaves_document d op h.0 hd hv.0 h.1) hv.1 h.2) refl
+refuses_ran d (op ∷ ops) (suc k) kind hd hv h = search (rules, leaves_stepped d op h.0 hd hv.0 h.1, leaves_document d op h.0 hd hv.0 h.1, refuses_ran h.0 ops k kind (leaves_document d op h.0 hd hv.0 h.1) hv.1 h.2, leaves_stepped, leaves_document)
 refuses_ran d ops k kind hd hv h = search (rules, refuses_stepped)
 
 -- ---- where a run ends, found out
@@ -27,17 +25,12 @@ counted_err o k kind h = search rules
 module _ (d : Data) (op : Operation) (ops : List Operation) (hd : IsDocument d) (hv : IsWholeOp op) where
   accepts_on : (r : Result Data PatchErrorKind) (e : Data) → stepped d op ≡ r → ((m : Data) → IsDocument m → ran m ops ≡ Ok e → Accepts m ops e)
       → ran_on r (λ m. ran m ops) ≡ Ok e → Accepts d (op ∷ ops) e
-  accepts_on (Ok m) e is more h =
-      let l : Leaves d op m = stepped_leaves d op m hd hv is in
-      (m, l, more m (leaves_document d op m hd hv l) (search rules))
+  accepts_on (Ok m) e is more h = search (rules, stepped_leaves d op m hd hv is, leaves_document d op m hd hv, stepped_leaves, leaves_document)
   accepts_on (Err kind) e is more h = cc
 
   refuses_on : (r : Result Data PatchErrorKind) (k : ℕ) (kind : PatchErrorKind) → stepped d op ≡ r → ((m : Data) (j : ℕ) → IsDocument m → ran m ops ≡ Err (fault j kind) → RefusesAt m ops j kind)
       → ran_on r (λ m. ran m ops) ≡ Err (fault k kind) → RefusesAt d (op ∷ ops) k kind
-  refuses_on (Ok m) k kind is more h =
-      let l : Leaves d op m = stepped_leaves d op m hd hv is in
-      let c : (j : ℕ) × (k ≡ suc j) × (ran m ops ≡ Err (fault j kind)) = counted_err (ran m ops) k kind h in
-      subst (λ n. RefusesAt d (op ∷ ops) n kind) (sym c.1) (m, l, more m c.0 (leaves_document d op m hd hv l) c.2)
+  refuses_on (Ok m) k kind is more h = search (rules, stepped_leaves d op m hd hv is, counted_err (ran m ops) k kind h, leaves_document d op m hd hv, stepped_leaves, counted_err, leaves_document)
   refuses_on r k kind is more h = search (rules, stepped_refuses)
 
 pub ran_accepts : (d : Data) (ops : List Operation) (e : Data) → IsDocument d → AreWhole ops → ran d ops ≡ Ok e → Accepts d ops e
@@ -76,13 +69,10 @@ accepts_joined d (op ∷ xs) ys m e h g = (h.0, h.1, accepts_joined h.0 xs ys m 
 
 pub accepts_split : (d : Data) (xs ys : List Operation) (e : Data) → Accepts d (xs ++ ys) e → (m : Data) × Accepts d xs m × Accepts m ys e
 accepts_split d [] ys e h = (d, refl, h)
-accepts_split d (op ∷ xs) ys e h =
-    let i : (m : Data) × Accepts h.0 xs m × Accepts m ys e = accepts_split h.0 xs ys e h.2 in (i.0, (h.0, h.1, i.1), i.2)
+accepts_split d (op ∷ xs) ys e h = grind (arith, common_steps, accepts_split h.0 xs ys e h.2)
 
 pub refuses_second : (d : Data) (xs ys : List Operation) (m : Data) (j : ℕ) (kind : PatchErrorKind) → Accepts d xs m → RefusesAt m ys j kind → RefusesAt d (xs ++ ys) (length xs + j) kind
-refuses_second d (op ∷ xs) ys m j kind h g =
-    let e : suc (length xs + j) ≡ suc (length xs) + j = omega arith in
-    subst (λ n. RefusesAt d (op ∷ (xs ++ ys)) n kind) e (h.0, h.1, refuses_second h.0 xs ys m j kind h.2 g)
+refuses_second d (op ∷ xs) ys m j kind h g = grind (arith, common_steps, refuses_second h.0 xs ys m j kind h.2 g)
 refuses_second d xs ys m j kind h g = search rules
 
 pub refuses_first : (d : Data) (xs ys : List Operation) (k : ℕ) (kind : PatchErrorKind) → RefusesAt d xs k kind → RefusesAt d (xs ++ ys) k kind

@@ -1,5 +1,5 @@
 -- Objects whose members stand in order are the same where each name has the same in both.
-use Rattle.std.proofs.Common.{◌≡◌, ◌↔◌, ℕ, List, Ordering, Equal, nat_cmp, refl, subst, rules}
+use Rattle.std.proofs.Common.{◌≡◌, ◌↔◌, ℕ, List, Ordering, Equal, nat_cmp, refl, rules}
 use Rattle.std.specs.Cmp.Lexicographic.{slice_cmp}
 use Rattle.serde_json.specs.Data.{Data, object, Members, no_members, member}
 use Rattle.serde_json.specs.Find.{get_member}
@@ -31,18 +31,14 @@ right_alone k e ms ns h same = rw (found_first k e ns, below_absent k ms h) at s
 
 step : (o : Ordering) (k l : List ℕ) (d e : Data) (ms ns : Members) → slice_cmp nat_cmp k l ≡ o → IsBelowMembers k ms → IsBelowMembers l ns
     → AreSameByName (member k d ms) (member l e ns) → (AreSameByName ms ns → AreSameMembers ms ns) → AreSameMembers (member k d ms) (member l e ns)
-step Equal k l d e ms ns is below under same rest =
-    let P : List ℕ → Type 0 = λ x. IsBelowMembers x ns → AreSameByName (member k d ms) (member x e ns) → AreSameMembers (member k d ms) (member x e ns) in
-    let at_k : P k = λ u s. (refl, first_same k d e ms ns below u s, rest (λ q. rest_at k d e ms ns below u s q _ refl)) in
-    subst P (tied_same k l is) at_k under same
+step Equal k l d e ms ns is below under same rest = search (rules, first_same k d e ms ns below, rest_at k d e ms ns below, tied_same k l is, first_same, rest_at, tied_same)
 step o k l d e ms ns is below under same rest = search (rules, left_alone, below_more, less_back, right_alone)
 
 in_turn : (ms ns : Members) → AreInOrder ms → AreInOrder ns → AreSameByName ms ns → AreSameMembers ms ns
 in_turn no_members no_members h g same = tt
 in_turn no_members (member l e ns) h g same = absurd (right_alone l e no_members ns tt (same l))
 in_turn (member k d ms) no_members h g same = absurd (left_alone k d ms no_members tt (same k))
-in_turn (member k d ms) (member l e ns) h g same =
-    step (slice_cmp nat_cmp k l) k l d e ms ns refl h.0 g.0 same (λ s. in_turn ms ns h.1 g.1 s)
+in_turn (member k d ms) (member l e ns) h g same = search (rules, step (slice_cmp nat_cmp k l) k l d e ms ns refl h.0 g.0 same, in_turn ms ns h.1 g.1, step)
 
 pub same_by_name : (ms ns : Members) → AreInOrder ms → AreInOrder ns
     → AreSame (object ms) (object ns) ↔ ((k : List ℕ) → AreSameAt (get_member k ms) (get_member k ns))

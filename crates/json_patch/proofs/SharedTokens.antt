@@ -42,14 +42,10 @@ push_some [] t = (t, [], refl)
 push_some (u ∷ R) t = (u, R ++ t ∷ [], refl)
 
 front_proper : (T : Pointer) (t : List ℕ) (P : Pointer) → IsPrefix T (front_of t P) → IsProperPrefix T (t ∷ P)
-front_proper T t P h =
-    let y : (y : List ℕ) × (Y : Pointer) × (h.0 ++ last_of t P ∷ [] ≡ y ∷ Y) = push_some h.0 (last_of t P) in
-    (y.0, y.1, split_whole t P ∙ ap (λ X. X ++ last_of t P ∷ []) h.1 ∙ append_assoc T h.0 (last_of t P ∷ []) ∙ ap (λ X. T ++ X) y.2)
+front_proper T t P h = search (rules, push_some h.0 (last_of t P), split_whole t P, append_assoc T h.0 (last_of t P ∷ []), push_some, split_whole, append_assoc)
 
 proper_front : (T : Pointer) (t : List ℕ) (P : Pointer) → IsProperPrefix T (t ∷ P) → IsPrefix T (front_of t P)
-proper_front T t P h =
-    let e : t ∷ P ≡ (T ++ front_of h.0 h.1) ++ last_of h.0 h.1 ∷ [] = h.2 ∙ ap (λ X. T ++ X) (split_whole h.0 h.1) ∙ sym (append_assoc T (front_of h.0 h.1) (last_of h.0 h.1 ∷ [])) in
-    (front_of h.0 h.1, sym (split_is t P (T ++ front_of h.0 h.1) (last_of h.0 h.1) e).0)
+proper_front T t P h = search (rules, split_whole h.0 h.1, append_assoc T (front_of h.0 h.1) (last_of h.0 h.1 ∷ []), split_is t P (T ++ front_of h.0 h.1) (last_of h.0 h.1), split_whole, append_assoc, split_is)
 
 no_proper : (T : Pointer) → IsProperPrefix T [] → ⊥
 no_proper [] h = let e : [] ≡ h.0 ∷ h.1 = h.2 in cc
@@ -79,9 +75,7 @@ parents_none S ((t ∷ P) ∷ Ps) T is h = parents_none (common S (front_of t P)
 parents_none S Ps T is h = search (rules, no_proper)
 
 shared_longest : (Ps : List Pointer) (S : Pointer) → shared_of Ps ≡ Some S → AllBegun S Ps × ((T : Pointer) → AllBegun T Ps → IsPrefix T S)
-shared_longest ((t ∷ P) ∷ Ps) S is =
-    let i : Longest (front_of t P) Ps S = parents_longest (front_of t P) Ps S is in
-    ((front_proper S t P i.first, i.all), λ T h. i.longest T (proper_front T t P h.0) h.1)
+shared_longest ((t ∷ P) ∷ Ps) S is = search (rules, parents_longest (front_of t P) Ps S is, front_proper S t P, proper_front, parents_longest, front_proper)
 shared_longest Ps S is = search rules
 
 shared_none : (Ps : List Pointer) (T : Pointer) → (Ps ≡ [] → ⊥) → shared_of Ps ≡ None → AllBegun T Ps → ⊥
@@ -111,9 +105,7 @@ some_pointers ops h e = search rules
 
 pub shared_is : (ops : List Operation) (S : Pointer) → shared ops ≡ Some S → IsShared ops S
 shared_is [] S is = cc
-shared_is (op ∷ ops) S is =
-    let l = shared_longest (all_pointers (op ∷ ops)) S is in
-    record { some = tt; within = begun_within S (op ∷ ops) l.0; longest = λ T h. l.1 T (within_begun T (op ∷ ops) h) }
+shared_is (op ∷ ops) S is = search (rules, shared_longest (all_pointers (op ∷ ops)) S is, begun_within S (op ∷ ops), within_begun, shared_longest, begun_within)
 
 pub not_shared : (ops : List Operation) (S : Pointer) → shared ops ≡ None → IsShared ops S → ⊥
 not_shared ops S is h = shared_none (all_pointers ops) S (some_pointers ops h.some) is (within_begun S ops h.within)
@@ -140,9 +132,7 @@ shared_iff ops S = (λ h. shared_exactly ops S h, λ h. shared_is ops S h)
 -- ---- by what is looked up of each operation
 
 prefix_proper : (T A : Pointer) (a : List ℕ) → IsPrefix T A → IsProperPrefix T (A ++ a ∷ [])
-prefix_proper T A a h =
-    let y = push_some h.0 a in
-    (y.0, y.1, ap (λ X. X ++ a ∷ []) h.1 ∙ append_assoc T h.0 (a ∷ []) ∙ ap (λ X. T ++ X) y.2)
+prefix_proper T A a h = search (rules, push_some h.0 a, append_assoc T h.0 (a ∷ []), push_some, append_assoc)
 
 proper_prefix : (T A : Pointer) (a : List ℕ) → IsProperPrefix T (A ++ a ∷ []) → IsPrefix T A
 proper_prefix T A a h =

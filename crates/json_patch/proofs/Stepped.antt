@@ -1,5 +1,5 @@
 -- An operation leaves, or is refused for, exactly what is computed.
-use Rattle.std.proofs.Common.{◌≡◌, ◌&&◌, ℕ, List, [], ◌∷◌, ◌++◌, Bool, true, false, true≢false, bytes_eq, if◌then◌else◌, Option, Some, None, Ok, Err, refl, sym, ap, ◌∙◌, subst, rules}
+use Rattle.std.proofs.Common.{◌≡◌, ◌&&◌, ℕ, List, [], ◌∷◌, ◌++◌, Bool, true, false, bytes_eq, if◌then◌else◌, Option, Some, None, Ok, Err, refl, sym, ap, ◌∙◌, subst, rules}
 use Rattle.std.proofs.lemmas.Slice.Eq.{bytes_eq-Decides}
 use Rattle.serde_json.specs.Data.{Data}
 use Rattle.jsonptr.specs.Text.{Pointer, IsProperPrefix}
@@ -103,8 +103,7 @@ leaves_stepped d (move F P) e hd hv h =
     let v = h.1.0 in let m = h.1.1 in
     let hm : IsDocument m = removed_document d F m h.1.3 in
     rw (not_begins F P h.0, stands_found d F v h.1.2, removed_exact d F m hd h.1.3, added_exact m P v e hm (stands_document d F v hd h.1.2) h.1.4) refl
-leaves_stepped d (copy F P) e hd hv h =
-    rw (stands_found d F h.0 h.1, added_exact d P h.0 e hd (stands_document d F h.0 hd h.1) h.2) refl
+leaves_stepped d (copy F P) e hd hv h = search (rules, stands_found d F h.0 h.1, added_exact d P h.0 e hd (stands_document d F h.0 hd h.1) h.2, stands_document d F h.0 hd h.1, stands_found, added_exact, stands_document)
 leaves_stepped d (test P v) e hd hv h = rw (stands_found d P v h.0, same-refl v) (ap Ok (sym h.1))
 
 pub refuses_stepped : (d : Data) (op : Operation) (kind : PatchErrorKind) → IsDocument d → IsWholeOp op → Refuses d op kind → stepped d op ≡ Err kind
@@ -118,8 +117,7 @@ refuses_stepped d (move F P) InvalidPointer hd hv h =
     let hm : IsDocument m = removed_document d F m h.1.3 in
     rw (not_begins F P h.0, stands_found d F v h.1.2, removed_exact d F m hd h.1.3, never_added m P v hm (stands_document d F v hd h.1.2) h.1.4) refl
 refuses_stepped d (copy F P) InvalidFromPointer hd hv h = rw (never_found d F h) refl
-refuses_stepped d (copy F P) InvalidPointer hd hv h =
-    rw (stands_found d F h.0 h.1, never_added d P h.0 hd (stands_document d F h.0 hd h.1) h.2) refl
+refuses_stepped d (copy F P) InvalidPointer hd hv h = search (rules, stands_found d F h.0 h.1, never_added d P h.0 hd (stands_document d F h.0 hd h.1) h.2, stands_document d F h.0 hd h.1, stands_found, never_added, stands_document)
 refuses_stepped d (test P v) InvalidPointer hd hv h = rw (never_found d P h) refl
 refuses_stepped d (test P v) TestFailed hd hv h = rw (stands_found d P h.0 h.1, same_other h.0 v hv h.2) refl
 refuses_stepped d op kind hd hv h = absurd h
@@ -135,32 +133,24 @@ added_refused d P v kind is = search (rules, or_err, added_none)
 module _ (d : Data) (F P : Pointer) (hd : IsDocument d) where
   move_leaves : (b : Bool) (o p : Option Data) (e : Data) → begins F P ≡ b → found d F ≡ o → removed d F ≡ p → (if b then Err CannotMoveInsideItself else moved P o p) ≡ Ok e
       → Leaves d (move F P) e
-  move_leaves false (Some v) (Some m) e b f r is =
-      let s : StandsAt d F v = found_resolves d F v f in
-      let g : IsRemoved d F m = removed_is d F m hd r in
-      (not_prefix F P b, (v, m, s, g, added_leaves m P v e (removed_document d F m g) (stands_document d F v hd s) is))
+  move_leaves false (Some v) (Some m) e b f r is = search (rules, found_resolves d F v f, removed_is d F m hd r, not_prefix F P b, added_leaves m P v e, removed_document d F m, stands_document d F v hd, found_resolves, removed_is, not_prefix, added_leaves, removed_document, stands_document)
   move_leaves b o p e h f r is = search rules
 
   move_refused : (b : Bool) (o p : Option Data) (kind : PatchErrorKind) → begins F P ≡ b → found d F ≡ o → removed d F ≡ p → (if b then Err CannotMoveInsideItself else moved P o p) ≡ Err kind
       → Refuses d (move F P) kind
   move_refused true o p kind b f r is = let e : CannotMoveInsideItself ≡ kind = cc in subst (Refuses d (move F P)) e (begins_prefix F P b)
-  move_refused false None p kind b f r is =
-      let e : InvalidFromPointer ≡ kind = cc in subst (Refuses d (move F P)) e (not_prefix F P b, nothing_removed d F f)
+  move_refused false None p kind b f r is = search (rules, not_prefix F P b, nothing_removed d F f, not_prefix, nothing_removed)
   move_refused false (Some v) None kind b f r is =
       let e : InvalidFromPointer ≡ kind = cc in subst (Refuses d (move F P)) e (not_prefix F P b, λ m. removed_none d F m r)
   move_refused false (Some v) (Some m) kind b f r is = search (rules, found_resolves, removed_is, added_refused, not_prefix)
 
   copy_leaves : (o : Option Data) (e : Data) → found d F ≡ o → copied d P o ≡ Ok e → Leaves d (copy F P) e
   copy_leaves None e f is = cc
-  copy_leaves (Some v) e f is =
-      let s : StandsAt d F v = found_resolves d F v f in (v, s, added_leaves d P v e hd (stands_document d F v hd s) is)
+  copy_leaves (Some v) e f is = search (rules, found_resolves d F v f, added_leaves d P v e hd, stands_document d F v hd, found_resolves, added_leaves, stands_document)
 
   copy_refused : (o : Option Data) (kind : PatchErrorKind) → found d F ≡ o → copied d P o ≡ Err kind → Refuses d (copy F P) kind
   copy_refused None kind f is = let e : InvalidFromPointer ≡ kind = cc in subst (Refuses d (copy F P)) e (found_never d F f)
-  copy_refused (Some v) kind f is =
-      let s : StandsAt d F v = found_resolves d F v f in
-      let h = added_refused d P v kind is in
-      subst (Refuses d (copy F P)) h.0 (v, s, h.1)
+  copy_refused (Some v) kind f is = search (rules, found_resolves d F v f, added_refused d P v kind is, found_resolves, added_refused)
 
 module _ (d : Data) (P : Pointer) (v : Data) where
   test_leaves : (b : Bool) (w e : Data) → IsDocument v → found d P ≡ Some w → same w v ≡ b → (if b then Ok d else Err TestFailed) ≡ Ok e → Leaves d (test P v) e
@@ -171,9 +161,7 @@ module _ (d : Data) (P : Pointer) (v : Data) where
 
   test_refused : (b : Bool) (w : Data) (kind : PatchErrorKind) → IsDocument v → found d P ≡ Some w → same w v ≡ b → (if b then Ok d else Err TestFailed) ≡ Err kind → Refuses d (test P v) kind
   test_refused true w kind hv f s is = cc
-  test_refused false w kind hv f s is =
-      let e : TestFailed ≡ kind = cc in
-      subst (Refuses d (test P v)) e (w, found_resolves d P w f, λ h. true≢false (sym (same-refl v) ∙ ap (λ x. same x v) (sym h) ∙ s))
+  test_refused false w kind hv f s is = search (rules, found_resolves d P w f, same-refl v, found_resolves, same-refl)
 
   test_refused_at : (o : Option Data) (kind : PatchErrorKind) → IsDocument v → found d P ≡ o → tested d v o ≡ Err kind → Refuses d (test P v) kind
   test_refused_at None kind hv f is = let e : InvalidPointer ≡ kind = cc in subst (Refuses d (test P v)) e (found_never d P f)

@@ -93,9 +93,7 @@ set_one t v w ms = rw (get_member-put t v ms) refl
 
 put_over_back : (t : List ℕ) (v w : Data) (ms : Members) (q : Data) → IsDocument (object ms) → IsDocument v → get_member t ms ≡ Some w → put_in v t (object ms) ≡ Some q
     → altered (λ c. Some w) q (t ∷ []) ≡ Some (object ms)
-put_over_back t v w ms q h hv was is =
-    let e : object (put t v ms) ≡ q = cc in
-    subst (λ x. altered (λ c. Some w) x (t ∷ []) ≡ Some (object ms)) e (set_one t v w ms ∙ ap Some (set_back (key t) (object ms) w v h hv was))
+put_over_back t v w ms q h hv was is = search (rules, set_one t v w ms, set_back (key t) (object ms) w v h hv was, set_one, set_back)
 
 pub found_last : (d : Data) (t : List ℕ) (P : Pointer) (p : Data) → found d (front_of t P) ≡ Some p → found d (t ∷ P) ≡ found p (last_of t P ∷ [])
 found_last d t P p at = ap (found d) (split_whole t P) ∙ found_append d (front_of t P) (last_of t P ∷ []) ∙ ap (option_and_then (λ x. found x (last_of t P ∷ []))) at
@@ -116,9 +114,7 @@ module _ (d : Data) (t : List ℕ) (P : Pointer) (v e : Data) (hd : IsDocument d
       ))) is).1
 
   undo_member : (ms : Members) (o : Option Data) → found d (front_of t P) ≡ Some (object ms) → found d (t ∷ P) ≡ o → stepped e (undo_at (t ∷ P) o) ≡ Ok d
-  undo_member ms None at was =
-      let g : get_member (last_of t P) ms ≡ None = sym (found_member (last_of t P) ms) ∙ sym (found_last d t P (object ms) at) ∙ was in
-      ap (or_refused InvalidPointer) (back_at (object ms) (take_from (last_of t P)) at (λ q hp puts. put_member_back (last_of t P) v ms q hp hv g puts))
+  undo_member ms None at was = search (rules, found_member (last_of t P) ms, found_last d t P (object ms) at, back_at (object ms) (take_from (last_of t P)) at, put_member_back (last_of t P) v ms, found_member, found_last, back_at, put_member_back)
   undo_member ms (Some w) at was =
       let g : get_member (last_of t P) ms ≡ Some w = sym (found_member (last_of t P) ms) ∙ sym (found_last d t P (object ms) at) ∙ was in
       ap (or_refused InvalidPointer)
@@ -129,10 +125,7 @@ module _ (d : Data) (t : List ℕ) (P : Pointer) (v e : Data) (hd : IsDocument d
   undo_below p q at puts = search (rules, removed_at, back_at, put_item_back, undo_member)
 
   undo_beyond : stepped e (undo_add d (t ∷ P)) ≡ Ok d
-  undo_beyond =
-      let a : IsAltered (put_in v (last_of t P)) d (front_of t P) e = altered_is (put_in v (last_of t P)) d (front_of t P) e is in
-      let at : found d (front_of t P) ≡ Some a.p = resolves_found d (front_of t P) a.L a.p a.resolves in
-      subst (λ o. stepped e (undo_in d (front_of t P) (last_of t P) (t ∷ P) o) ≡ Ok d) (sym at) (undo_below a.p a.q at a.result)
+  undo_beyond = search (rules, IsAltered (put_in v (last_of t P)) d (front_of t P) e, altered_is (put_in v (last_of t P)) d (front_of t P) e is, resolves_found d (front_of t P), undo_below, IsAltered, altered_is, resolves_found)
 
 pub undo_added : (d : Data) (P : Pointer) (v e : Data) → IsDocument d → IsDocument v → added d P v ≡ Some e → stepped e (undo_add d P) ≡ Ok d
 undo_added d P v e hd hv is = search (rules, undo_beyond)
@@ -141,10 +134,7 @@ undo_added d P v e hd hv is = search (rules, undo_beyond)
 
 module _ (t : List ℕ) (p q w : Data) (hp : IsDocument p) (is : take_from t p ≡ Some q) (was : found p (t ∷ []) ≡ Some w) where
   put_back : IsDocument q × (put_in w t q ≡ Some p)
-  put_back =
-      let i : TakesIn t p q = take_from_takes t p q is in
-      let stands : child i.s p ≡ Some w = stands_one p t i.s w i.names was in
-      (subst IsDocument i.whole (drop_document i.s p hp), subst (λ x. put_in w t x ≡ Some p) i.whole (put_taken t p w i.s hp i.names stands))
+  put_back = search (rules, TakesIn t p q, take_from_takes t p q is, stands_one p t, drop_document, put_taken t p w, TakesIn, take_from_takes, stands_one, put_taken)
 
 pub undo_removed : (d : Data) (P : Pointer) (w m : Data) → IsDocument d → removed d P ≡ Some m → found d P ≡ Some w → IsDocument m × (added m P w ≡ Some d)
 undo_removed d [] w m hd is was = cc

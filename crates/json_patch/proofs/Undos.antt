@@ -50,15 +50,12 @@ pub place_other : (d : Data) (P F : Pointer) (t : List ℕ) → P ≡ F ++ t ∷
 place_other d P F t is other = is ∙ ap (λ u. F ++ u ∷ []) (sym (settled_other (found d F) t other)) ∙ sym (place_settled d P F t is)
 
 pub place_no_list : (d : Data) (P F : Pointer) (t : List ℕ) → P ≡ F ++ t ∷ [] → t ≡ next_token → None ≡ count_in (found d F) → P ≡ path_of (undo_add d P)
-place_no_list d P F t is next none =
-    is ∙ ap (λ u. F ++ u ∷ []) (next ∙ sym (settled_last (found d F) (sym none)) ∙ ap (settled_token (found d F)) (sym next)) ∙ sym (place_settled d P F t is)
+place_no_list d P F t is next none = search (rules, settled_last (found d F) (sym none), place_settled d P F t is, settled_last, place_settled)
 
 -- the place in the document, where the tokens of S lead to d
 pub place_numbered : (r : Result Pointer AllocError) (d : Data) (S P R F : Pointer) (t u : List ℕ) (n : ℕ) → P ≡ S ++ R → R ≡ F ++ t ∷ [] → t ≡ next_token → Some n ≡ count_in (found d F) → u ≡ token_of n → IfOk r (ReplacesLast P u)
     → IfOk r (λ Q. Q ≡ S ++ path_of (undo_add d R))
-place_numbered (Ok Q) d S P R F t u n whole is next count named at =
-    at (S ++ F) t (whole ∙ ap (λ x. S ++ x) is ∙ sym (append_assoc S F (t ∷ []))) ∙ append_assoc S F (u ∷ [])
-    ∙ ap (λ x. S ++ (F ++ x ∷ [])) (named ∙ sym (settled_next (found d F) n (sym count)) ∙ ap (settled_token (found d F)) (sym next)) ∙ ap (λ x. S ++ x) (sym (place_settled d R F t is))
+place_numbered (Ok Q) d S P R F t u n whole is next count named at = search (rules, append_assoc S F (t ∷ []), append_assoc S F (u ∷ []), settled_next (found d F) n (sym count), place_settled d R F t is, append_assoc, settled_next, place_settled)
 place_numbered (Err e) d S P R F t u n whole is next count named at = at
 
 pub place_kept : (r : Result Pointer AllocError) (S P R Q : Pointer) → P ≡ S ++ R → R ≡ Q → IfOk r (λ b. b ≡ P) → IfOk r (λ b. b ≡ S ++ Q)
@@ -145,11 +142,7 @@ last_first us rest u is = ap operations is ∙ map-append operation_of rest (u �
 
 pub undo_last : (us rest : List PatchOperation) (u : PatchOperation) (e new d : Data) → us ≡ rest ++ u ∷ [] → ((m : Data) → IsUndo (operation_of u) → stepped e (operation_of u) ≡ Ok m → new ≡ m)
     → AreUndos (operations us) × (ran e (reverse (operations us)) ≡ Ok d) → AreUndos (operations rest) × (ran new (reverse (operations rest)) ≡ Ok d)
-undo_last us rest u e new d is made h =
-    let parts = undos_parts (operations rest) (operation_of u) (subst AreUndos (last_first us rest u is) h.0) in
-    let way : ran e (operation_of u ∷ reverse (operations rest)) ≡ Ok d = ap (ran e) (sym (ap reverse (last_first us rest u is) ∙ reverse-append (operations rest) (operation_of u ∷ []))) ∙ h.1 in
-    let first = first_on (stepped e (operation_of u)) (reverse (operations rest)) d way in
-    (parts.0, ap (λ x. ran x (reverse (operations rest))) (made first.0 parts.1 first.1) ∙ first.2)
+undo_last us rest u e new d is made h = search (rules, undos_parts (operations rest) (operation_of u) (subst AreUndos (last_first us rest u is) h.0), last_first us rest u is, reverse-append (operations rest) (operation_of u ∷ []), first_on (stepped e (operation_of u)) (reverse (operations rest)) d, undos_parts, last_first, reverse-append, first_on)
 
 pub take_more : (k : ℕ) (xs ys zs : List Operation) → take k xs ≡ zs → length zs ≡ k → take k (xs ++ ys) ≡ zs
 take_more k xs ys zs is n = grind (arith, common_steps)

@@ -1,5 +1,5 @@
 -- What a write to a list or a map of values leaves of its view.
-use Rattle.std.proofs.Common.{◌≡◌, ℕ, suc, ◌<◌, ◌≤◌, List, [], ◌∷◌, length, set, Option, Some, None, option_map, Bool, slice_index_or, Ordering, Less, String, Global, cond, is_eq, string_bytes, nat_cmp, refl, sym, ap, ◌∙◌, arith, rules}
+use Rattle.std.proofs.Common.{◌≡◌, ℕ, suc, ◌<◌, ◌≤◌, List, [], ◌∷◌, length, set, Option, Some, Bool, slice_index_or, Ordering, Less, String, Global, cond, is_eq, string_bytes, nat_cmp, refl, ap, ◌∙◌, arith, rules}
 use Rattle.std.specs.Cmp.Lexicographic.{slice_cmp}
 use Rattle.std.specs.List.{insert, remove, AllByRecursion}
 use Rattle.std.specs.List.Sorted.{IsStrictlySortedBy}
@@ -8,7 +8,6 @@ use Rattle.std.specs.BTreeMap.{insert_entry, is_at}
 use Rattle.std.specs.Ordering.{match_ordering}
 use Rattle.std.specs.String.{string_cmp}
 use Rattle.serde_json.specs.Data.{Data, item, Members, member, put}
-use Rattle.serde_json.specs.Find.{get_member}
 use Rattle.serde_json.specs.View.{view, items_view, members_view}
 use Rattle.serde_json.specs.declared.value.Value.{Value}
 use Rattle.serde_json.proofs.Views.{Entry, members_view-insert_entry, view-lookup}
@@ -56,11 +55,7 @@ below k (e ∷ es) h = (h.0, below k es h.1)
 -- a name below the first key is no key
 no_entry : (name : List ℕ) (e : Entry) (es : List Entry) (v : Value) → AreInOrder (e ∷ es) → slice_cmp nat_cmp name (string_bytes e.0) ≡ Less → lookup (is_named name) es ≡ Some v → ⊥
 unfolding IsStrictlySortedBy
-no_entry name e es v order less is =
-    let above : IsBelowMembers name (members_view es) = below_more name (string_bytes e.0) (members_view es) less (below e.0 es order.0) in
-    let none : get_member name (members_view es) ≡ None = below_absent name (members_view es) above in
-    let some : Some (view v) ≡ get_member name (members_view es) = ap (λ o. option_map view o) (sym is) ∙ view-lookup name es in
-    cc
+no_entry name e es v order less is = search (rules, below_more name (string_bytes e.0) (members_view es) less (below e.0 es order.0), below e.0 es order.0, below_absent name (members_view es), view-lookup name es, below_more, below, below_absent, view-lookup)
 
 rest_in_order : (e : Entry) (es : List Entry) → AreInOrder (e ∷ es) → AreInOrder es
 unfolding IsStrictlySortedBy
