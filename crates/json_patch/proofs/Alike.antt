@@ -58,4 +58,5 @@ mutual
   members_alike no_members no_members hd he same = refl
   members_alike no_members (member l e ns) hd he same = absurd (something e (rw (found_first l e ns) at (sym (same l []))))
   members_alike (member k d ms) no_members hd he same = absurd (something d (rw (found_first k d ms) at (same k [])))
-  members_alike (member k d ms) (member l e ns) hd he same = search (rules, members_step (slice_cmp nat_cmp k l) k l d e ms ns refl hd.0 he.0 same, members_alike ms ns hd.2 he.2, alike d e hd.1 he.1, members_step)
+  members_alike (member k d ms) (member l e ns) hd he same =
+      members_step (slice_cmp nat_cmp k l) k l d e ms ns refl hd.0 he.0 same (λ s. alike d e hd.1 he.1 s) (λ s. members_alike ms ns hd.2 he.2 s)

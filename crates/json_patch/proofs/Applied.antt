@@ -44,14 +44,16 @@ refuses_at : (d m : Data) (kind : PatchErrorKind) (x o : PatchOperation) → IsD
 refuses_at d m kind x o hd hv same is h = stepped_refuses d (operation_of x) kind hd hv.0 (ap (λ c. stepped c (operation_of x)) same ∙ ap (λ y. stepped m (operation_of y)) (sym is) ∙ h)
 
 state_suc : (d m e : Data) (os : List PatchOperation) (k : ℕ) (o : PatchOperation) → IsDocument d → AreWhole (operations os) → k < length os → IsAt os k o → IsState d os k m → stepped m (operation_of o) ≡ Ok e → IsState d os (suc k) e
-state_suc d m e (x ∷ os) (suc k) o hd hv less is h s = search (rules, leaves_document d (operation_of x) h.0 hd hv.0 h.1, state_suc h.0 m e os k o (leaves_document d (operation_of x) h.0 hd hv.0 h.1) hv.1 (omega arith) is h.2 s, leaves_document)
+state_suc d m e (x ∷ os) (suc k) o hd hv less is h s =
+    (h.0, h.1, state_suc h.0 m e os k o (leaves_document d (operation_of x) h.0 hd hv.0 h.1) hv.1 (omega arith) is h.2 s)
 state_suc d m e os k o hd hv less is h s = search (rules, leaves_at)
 
 pub state_more : (d m e : Data) (os : List PatchOperation) (k : ℕ) (o : PatchOperation) → IsDocument d → AreWhole (operations os) → k < length os → IsAt os k o → IsState d os k m → stepped m (operation_of o) ≡ Ok e → IsState d os (k + 1) e
 state_more d m e os k o hd hv less is h s = subst (λ n. IsState d os n e) (sym (add-one k)) (state_suc d m e os k o hd hv less is h s)
 
 pub state_refused : (d m : Data) (kind : PatchErrorKind) (os : List PatchOperation) (k : ℕ) (o : PatchOperation) → IsDocument d → AreWhole (operations os) → k < length os → IsAt os k o → IsState d os k m → stepped m (operation_of o) ≡ Err kind → RefusesAt d (operations os) k kind
-state_refused d m kind (x ∷ os) (suc k) o hd hv less is h s = search (rules, leaves_document d (operation_of x) h.0 hd hv.0 h.1, state_refused h.0 m kind os k o (leaves_document d (operation_of x) h.0 hd hv.0 h.1) hv.1 (omega arith) is h.2 s, leaves_document)
+state_refused d m kind (x ∷ os) (suc k) o hd hv less is h s =
+    (h.0, h.1, state_refused h.0 m kind os k o (leaves_document d (operation_of x) h.0 hd hv.0 h.1) hv.1 (omega arith) is h.2 s)
 state_refused d m kind os k o hd hv less is h s = search (rules, refuses_at)
 
 pub whole_at : (os : List PatchOperation) (k : ℕ) (o : PatchOperation) → k < length os → IsAt os k o → AreWhole (operations os) → IsWholeOp (operation_of o)
@@ -149,5 +151,6 @@ in_place_at os k o less is h = search rules
 
 pub not_stopped : (fault : StepFault) (d m new e : Data) (os : List PatchOperation) (k : ℕ) (o : PatchOperation) → IsDocument d → AreWhole (operations os) → k < length os → IsAt os k o → IsState d os k m
     → Steps {T = Unit {0}} (Err fault) (stepped m (operation_of o)) new → (IsInPlace (operation_of o) → NeverShort {T = Unit {0}} (Err fault)) → AreInPlace (operations os) → Accepts d (operations os) e → ⊥
-not_stopped (step_refused kind) d m new e os k o hd hv less is h s light all end = search (rules, accepted d (operations os) hd hv e (accepts_ran d (operations os) e hd hv end), accepts_ran d (operations os) e hd hv end, state_refused d m kind os k o hd hv less is h s, accepted, accepts_ran, state_refused)
+not_stopped (step_refused kind) d m new e os k o hd hv less is h s light all end =
+    (accepted d (operations os) hd hv e (accepts_ran d (operations os) e hd hv end)).nowhere k kind (state_refused d m kind os k o hd hv less is h s)
 not_stopped (step_short error) d m new e os k o hd hv less is h s light all end = light (in_place_at os k o less is all)

@@ -96,10 +96,14 @@ unfolding over
 altered_under f d S P b at = search (rules, altered_append, altered_walks, option_and_then)
 
 pub added_under : (d : Data) (S : Pointer) (t : List ℕ) (P : Pointer) (v b : Data) → found d S ≡ Some b → added d (S ++ t ∷ P) v ≡ over d S (added b (t ∷ P) v)
-added_under d S t P v b at = search (rules, split_whole t P, append_assoc S (front_of t P) (last_of t P ∷ []), added_at d (S ++ front_of t P) (last_of t P) v, altered_under (put_in v (last_of t P)) d S (front_of t P) b at, split_whole, append_assoc, added_at, altered_under)
+added_under d S t P v b at =
+    ap (λ Q. added d Q v) (ap (λ Q. S ++ Q) (split_whole t P) ∙ sym (append_assoc S (front_of t P) (last_of t P ∷ []))) ∙ added_at d (S ++ front_of t P) (last_of t P) v
+    ∙ altered_under (put_in v (last_of t P)) d S (front_of t P) b at
 
 pub removed_under : (d : Data) (S : Pointer) (t : List ℕ) (P : Pointer) (b : Data) → found d S ≡ Some b → removed d (S ++ t ∷ P) ≡ over d S (removed b (t ∷ P))
-removed_under d S t P b at = search (rules, split_whole t P, append_assoc S (front_of t P) (last_of t P ∷ []), removed_at d (S ++ front_of t P) (last_of t P), altered_under (take_from (last_of t P)) d S (front_of t P) b at, split_whole, append_assoc, removed_at, altered_under)
+removed_under d S t P b at =
+    ap (removed d) (ap (λ Q. S ++ Q) (split_whole t P) ∙ sym (append_assoc S (front_of t P) (last_of t P ∷ []))) ∙ removed_at d (S ++ front_of t P) (last_of t P)
+    ∙ altered_under (take_from (last_of t P)) d S (front_of t P) b at
 
 pub found_under : (d : Data) (S P : Pointer) (b : Data) → found d S ≡ Some b → found d (S ++ P) ≡ found b P
 found_under d S P b at = found_append d S P ∙ ap (option_and_then (λ p. found p P)) at
@@ -163,7 +167,10 @@ module _ (d : Data) (S : Pointer) (b : Data) (hd : IsDocument d) (at : found d S
   on_test c X Y h = search rules
 
   move_under : (t : List ℕ) (F : Pointer) (u : List ℕ) (P : Pointer) → stepped d (move (S ++ t ∷ F) (S ++ u ∷ P)) ≡ lifted d S (stepped b (move (t ∷ F) (u ∷ P)))
-  move_under t F u P = search (rules, begins_under S (t ∷ F) (u ∷ P), found_under d S (t ∷ F) b at, removed_under d S t F b at, on_test (begins (t ∷ F) (u ∷ P)) (moved (S ++ u ∷ P) (found b (t ∷ F)) (over d S (removed b (t ∷ F)))) (moved (u ∷ P) (found b (t ∷ F)) (removed b (t ∷ F))), moved_under u P (found b (t ∷ F)) (removed b (t ∷ F)), found_document b (t ∷ F), there, removed_is b (t ∷ F), begins_under, found_under, removed_under, on_test, moved_under, found_document, removed_is)
+  move_under t F u P =
+      rw (begins_under S (t ∷ F) (u ∷ P), found_under d S (t ∷ F) b at, removed_under d S t F b at)
+      (on_test (begins (t ∷ F) (u ∷ P)) (moved (S ++ u ∷ P) (found b (t ∷ F)) (over d S (removed b (t ∷ F)))) (moved (u ∷ P) (found b (t ∷ F)) (removed b (t ∷ F)))
+      (moved_under u P (found b (t ∷ F)) (removed b (t ∷ F)) (λ v is. found_document b (t ∷ F) v there is) (λ m is. (removed_is b (t ∷ F) m there is).4)))
 
   pub stepped_under : (op : Operation) → IsWithin S op → stepped d op ≡ lifted d S (stepped b (stripped S op))
   stepped_under (add P v) h =

@@ -1,5 +1,5 @@
 -- The blocks and the inverse that are computed are those that the definitions name, and no others are.
-use Rattle.std.proofs.Common.{◌≡◌, inl, inr, ⊎_elim, ℕ, List, [], ◌∷◌, bytes_eq, Option, Some, None, refl, sym, ap, ◌∙◌, subst, rules}
+use Rattle.std.proofs.Common.{◌≡◌, inl, inr, ⊎_elim, ℕ, List, [], ◌∷◌, bytes_eq, Option, Some, None, refl, sym, ap, ◌∙◌, subst, rules, ◌++◌}
 use Rattle.serde_json.specs.Data.{Data, array, object, Items}
 use Rattle.jsonptr.specs.Text.{Pointer}
 use Rattle.jsonptr.specs.Places.{place_of, next_token}
@@ -74,14 +74,16 @@ block_is d (move F P) e hd hv h =
     let hm : IsDocument m = removed_document d F m h.1.3 in
     rw (stands_found d F v h.1.2, removed_exact d F m hd h.1.3)
     (v, m, undo_add m P, h.1.2, h.1.3, undoes_is m P v e (added_exact m P v e hm hw h.1.4), refl)
-block_is d (copy F P) e hd hv h = search (rules, undoes_is d P h.0 e (added_exact d P h.0 e hd (stands_document d F h.0 hd h.1) h.2), added_exact d P h.0 e hd (stands_document d F h.0 hd h.1) h.2, stands_document d F h.0 hd h.1, undoes_is, added_exact, stands_document)
+block_is d (copy F P) e hd hv h =
+    (undo_add d P, undoes_is d P h.0 e (added_exact d P h.0 e hd (stands_document d F h.0 hd h.1) h.2), refl)
 block_is d op e hd hv h = search (rules, undoes_is, added_exact, resolves_found, found_resolves)
 
 pub block_only : (d : Data) (op : Operation) (B : List Operation) → IsDocument d → IsBlock d op B → B ≡ block d op
 block_only d (add P v) B hd h = h.2 ∙ ap (λ u. u ∷ []) (undoes_only d P h.0 h.1)
 block_only d (remove P) B hd h = rw (stands_found d P h.0 h.1) h.2
 block_only d (replace P v) B hd h = rw (stands_found d P h.0 h.1) h.2
-block_only d (move F P) B hd h = search (rules, stands_found d F h.0 h.3, removed_exact d F h.1 hd h.4, undoes_only h.1 P h.2 h.5, stands_found, removed_exact, undoes_only)
+block_only d (move F P) B hd h =
+    rw (stands_found d F h.0 h.3, removed_exact d F h.1 hd h.4) (h.6 ∙ ap (λ u. u ∷ add F h.0 ∷ []) (undoes_only h.1 P h.2 h.5))
 block_only d (copy F P) B hd h = h.2 ∙ ap (λ u. u ∷ []) (undoes_only d P h.0 h.1)
 block_only d (test P v) B hd h = h
 
@@ -89,11 +91,14 @@ block_only d (test P v) B hd h = h
 
 pub inverse_is : (d : Data) (ops : List Operation) (e : Data) → IsDocument d → AreWhole ops → Accepts d ops e → IsInverse d ops (inverse d ops)
 inverse_is d [] e hd hv h = refl
-inverse_is d (op ∷ ops) e hd hv h = search (rules, leaves_document d op h.0 hd hv.0 h.1, block_is d op h.0 hd hv.0 h.1, inverse_step d op ops h.0 hd hv.0 h.1, inverse_is h.0 ops e (leaves_document d op h.0 hd hv.0 h.1) hv.1 h.2, leaves_document, block_is, inverse_step)
+inverse_is d (op ∷ ops) e hd hv h =
+    (h.0, inverse h.0 ops, block d op, h.1, inverse_is h.0 ops e (leaves_document d op h.0 hd hv.0 h.1) hv.1 h.2, block_is d op h.0 hd hv.0 h.1, inverse_step d op ops h.0 hd hv.0 h.1)
 
 pub inverse_only : (d : Data) (ops : List Operation) (I : List Operation) → IsDocument d → AreWhole ops → IsInverse d ops I → I ≡ inverse d ops
 inverse_only d [] I hd hv h = h
-inverse_only d (op ∷ ops) I hd hv h = search (rules, leaves_document d op h.0 hd hv.0 h.3, block_only d op h.2 hd h.5, inverse_step d op ops h.0 hd hv.0 h.3, inverse_only h.0 ops h.1 (leaves_document d op h.0 hd hv.0 h.3) hv.1 h.4, leaves_document, block_only, inverse_step)
+inverse_only d (op ∷ ops) I hd hv h =
+    h.6 ∙ ap (λ J. J ++ h.2) (inverse_only h.0 ops h.1 (leaves_document d op h.0 hd hv.0 h.3) hv.1 h.4)
+    ∙ ap (λ B. inverse h.0 ops ++ B) (block_only d op h.2 hd h.5) ∙ sym (inverse_step d op ops h.0 hd hv.0 h.3)
 
 pub inverse_accepted : (d : Data) (ops : List Operation) (I : List Operation) → IsInverse d ops I → (e : Data) × Accepts d ops e
 inverse_accepted d [] I h = (d, refl)

@@ -36,7 +36,9 @@ module _ (d : Data) (S : Pointer) (b : Data) (at : found d S ≡ Some b) where
   in_under F t P o = search (rules, append_assoc, found_under)
 
   undo_under : (t : List ℕ) (P : Pointer) → undo_add d (S ++ t ∷ P) ≡ extended S (undo_add b (t ∷ P))
-  undo_under t P = search (rules, undo_add_in d (S ++ t ∷ P) (S ++ front_of t P) (last_of t P), split_whole t P, append_assoc S (front_of t P) (last_of t P ∷ []), found_under d S (front_of t P) b at, in_under (front_of t P) (last_of t P) (t ∷ P) (found b (front_of t P)), undo_add_in, split_whole, append_assoc, found_under, in_under)
+  undo_under t P =
+      undo_add_in d (S ++ t ∷ P) (S ++ front_of t P) (last_of t P) (ap (λ Q. S ++ Q) (split_whole t P) ∙ sym (append_assoc S (front_of t P) (last_of t P ∷ [])))
+      ∙ ap (undo_in d (S ++ front_of t P) (last_of t P) (S ++ t ∷ P)) (found_under d S (front_of t P) b at) ∙ in_under (front_of t P) (last_of t P) (t ∷ P) (found b (front_of t P))
 
 -- ---- blocks
 

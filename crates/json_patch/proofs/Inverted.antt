@@ -1,5 +1,5 @@
 -- The inverse of an accepted list leads back, through every state.
-use Rattle.std.proofs.Common.{◌≡◌, ◌≤◌, ◌*◌, ℕ, List, [], ◌∷◌, ◌++◌, length, length-append, append_assoc, append-nil, Option, Some, Ok, refl, sym, ap, ◌∙◌, arith, rules}
+use Rattle.std.proofs.Common.{◌≡◌, ◌≤◌, ◌*◌, ℕ, List, [], ◌∷◌, ◌++◌, length, length-append, append_assoc, append-nil, Option, Some, Ok, refl, sym, ap, ◌∙◌, arith, rules, subst}
 use Rattle.serde_json.specs.Data.{Data}
 use Rattle.jsonptr.specs.Text.{Pointer}
 use Rattle.json_patch.specs.Document.{IsDocument}
@@ -39,7 +39,9 @@ block_ran d (move F P) e hd hv h =
     let left : removed d F ≡ Some m = removed_exact d F m hd h.1.3 in
     rw (was, left)
     (ran_two (undo_add m P) (add F v) e m d (undo_added m P v e hm hw (added_exact m P v e hm hw h.1.4)) (ap (or_refused InvalidPointer) (undo_removed d F v m hd left was).1))
-block_ran d (copy F P) e hd hv h = search (rules, stands_document d F h.0 hd h.1, ran_one (undo_add d P) e d, undo_added d P h.0 e hd, added_exact d P h.0 e hd, stands_document, ran_one, undo_added, added_exact)
+block_ran d (copy F P) e hd hv h =
+    let hw : IsDocument h.0 = stands_document d F h.0 hd h.1 in
+    ran_one (undo_add d P) e d (undo_added d P h.0 e hd hw (added_exact d P h.0 e hd hw h.2))
 block_ran d (test P v) e hd hv h = ap Ok h.1
 
 -- ---- the block's values are documents
@@ -48,7 +50,9 @@ undo_in_whole : (d : Data) (front : Pointer) (last : List ℕ) (P : Pointer) (o 
 undo_in_whole d front last P o hd = search (rules, found_document)
 
 pub block_whole : (d : Data) (op : Operation) (e : Data) → IsDocument d → IsWholeOp op → Leaves d op e → AreWhole (block d op)
-block_whole d (move F P) e hd hv h = search (rules, stands_found d F h.1.0 h.1.2, removed_exact d F h.1.1 hd h.1.3, undo_in_whole, stands_document d F h.1.0 hd h.1.2, stands_found, removed_exact, stands_document)
+block_whole d (move F P) e hd hv h =
+    rw (stands_found d F h.1.0 h.1.2, removed_exact d F h.1.1 hd h.1.3)
+    ((search (rules, undo_in_whole)), (stands_document d F h.1.0 hd h.1.2, tt))
 block_whole d op e hd hv h = search (rules, undo_in_whole, resolves_found, found_document)
 
 pub block_back : (d : Data) (op : Operation) (e : Data) → IsDocument d → IsWholeOp op → Leaves d op e → Accepts e (block d op) d
@@ -65,17 +69,23 @@ inverse_step d op ops m hd hv h = ap (λ r. with_left r (λ m. inverse m ops) ++
 
 pub inverse_whole : (d : Data) (ops : List Operation) (e : Data) → IsDocument d → AreWhole ops → Accepts d ops e → AreWhole (inverse d ops)
 inverse_whole d [] e hd hv h = tt
-inverse_whole d (op ∷ ops) e hd hv h = search (rules, inverse_step d op ops h.0 hd hv.0 h.1, whole_joined (inverse h.0 ops) (block d op) (inverse_whole h.0 ops e (leaves_document d op h.0 hd hv.0 h.1) hv.1 h.2) (block_whole d op h.0 hd hv.0 h.1), leaves_document d op h.0 hd hv.0 h.1, block_whole d op h.0 hd hv.0 h.1, inverse_whole h.0 ops e (leaves_document d op h.0 hd hv.0 h.1) hv.1 h.2, inverse_step, whole_joined, leaves_document, block_whole)
+inverse_whole d (op ∷ ops) e hd hv h =
+    subst AreWhole (sym (inverse_step d op ops h.0 hd hv.0 h.1))
+    (whole_joined (inverse h.0 ops) (block d op) (inverse_whole h.0 ops e (leaves_document d op h.0 hd hv.0 h.1) hv.1 h.2) (block_whole d op h.0 hd hv.0 h.1))
 
 -- the inverse is accepted on the end, and leads to the first document
 pub inverse_back : (d : Data) (ops : List Operation) (e : Data) → IsDocument d → AreWhole ops → Accepts d ops e → Accepts e (inverse d ops) d
 inverse_back d [] e hd hv h = sym h
-inverse_back d (op ∷ ops) e hd hv h = search (rules, inverse_step d op ops h.0 hd hv.0 h.1, accepts_joined e (inverse h.0 ops) (block d op) h.0 d (inverse_back h.0 ops e (leaves_document d op h.0 hd hv.0 h.1) hv.1 h.2) (block_back d op h.0 hd hv.0 h.1), leaves_document d op h.0 hd hv.0 h.1, block_back d op h.0 hd hv.0 h.1, inverse_back h.0 ops e (leaves_document d op h.0 hd hv.0 h.1) hv.1 h.2, inverse_step, accepts_joined, leaves_document, block_back)
+inverse_back d (op ∷ ops) e hd hv h =
+    subst (λ I. Accepts e I d) (sym (inverse_step d op ops h.0 hd hv.0 h.1))
+    (accepts_joined e (inverse h.0 ops) (block d op) h.0 d (inverse_back h.0 ops e (leaves_document d op h.0 hd hv.0 h.1) hv.1 h.2) (block_back d op h.0 hd hv.0 h.1))
 
 -- the inverse of a joined list: what leads back over the second part stands first
 pub inverse_joined : (d : Data) (xs ys : List Operation) (m : Data) → IsDocument d → AreWhole xs → Accepts d xs m → inverse d (xs ++ ys) ≡ inverse m ys ++ inverse d xs
 inverse_joined d [] ys m hd hv h = ap (λ x. inverse x ys) h ∙ sym (append-nil (inverse m ys))
-inverse_joined d (op ∷ xs) ys m hd hv h = search (rules, inverse_step d op (xs ++ ys) h.0 hd hv.0 h.1, leaves_document d op h.0 hd hv.0 h.1, inverse_step d op xs h.0 hd hv.0 h.1, append_assoc (inverse m ys) (inverse h.0 xs) (block d op), inverse_joined h.0 xs ys m (leaves_document d op h.0 hd hv.0 h.1) hv.1 h.2, inverse_step, leaves_document, append_assoc)
+inverse_joined d (op ∷ xs) ys m hd hv h =
+    inverse_step d op (xs ++ ys) h.0 hd hv.0 h.1 ∙ ap (λ I. I ++ block d op) (inverse_joined h.0 xs ys m (leaves_document d op h.0 hd hv.0 h.1) hv.1 h.2)
+    ∙ append_assoc (inverse m ys) (inverse h.0 xs) (block d op) ∙ ap (λ I. inverse m ys ++ I) (sym (inverse_step d op xs h.0 hd hv.0 h.1))
 
 -- the inverse of the inverse is accepted on the first document, and leads to the end
 pub inverse_twice : (d : Data) (ops : List Operation) (e : Data) → IsDocument d → AreWhole ops → Accepts d ops e → Accepts d (inverse e (inverse d ops)) e

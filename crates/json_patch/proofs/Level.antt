@@ -1,5 +1,5 @@
 -- Documents with equal children are equal, and what a change to a child leaves is taken back by another.
-use Rattle.std.proofs.Common.{◌≡◌, ℕ, zero, suc, ◌≤◌, List, [], ◌∷◌, inl, ⊎_elim, Some, None, option_and_then, refl, sym, ap, ◌∙◌, arith, rules}
+use Rattle.std.proofs.Common.{◌≡◌, ℕ, zero, suc, ◌≤◌, List, [], ◌∷◌, inl, ⊎_elim, Some, None, option_and_then, refl, sym, ap, ◌∙◌, arith, rules, option_map}
 use Rattle.serde_json.specs.Data.{Data, array, object, Items, item, Members, put}
 use Rattle.serde_json.specs.Find.{get_member, get_item}
 use Rattle.serde_json.specs.Events.{items_len}
@@ -76,5 +76,7 @@ pub stands_one : (p : Data) (t : List ℕ) (s : Step) (w : Data) → Names p t s
 stands_one p t s w names is = search rules
 
 pub put_taken : (t : List ℕ) (p w : Data) (s : Step) → IsDocument p → Names p t s → child s p ≡ Some w → put_in w t (drop_child s p) ≡ Some p
-put_taken t (array ds) w (place i) h names is = search (rules, slot_some t (remove_item i ds) i (inl (names, within_removed i w ds is)), within_removed i w ds is, insert_remove i w ds is, slot_some, within_removed, insert_remove)
+put_taken t (array ds) w (place i) h names is =
+    ap (option_map (λ j. array (insert_item j w (remove_item i ds)))) (slot_some t (remove_item i ds) i (inl (names, within_removed i w ds is)))
+    ∙ ap (λ x. Some (array x)) (insert_remove i w ds is)
 put_taken t p w s h names is = search (rules, put_without)

@@ -38,7 +38,11 @@ module _ (d : Data) (S : Pointer) (b : Data) (op : Operation) (hd : IsDocument d
 
   pub local_refuses : (kind : PatchErrorKind) → Refuses b (stripped S op) kind → Refuses d op kind
   unfolding lifted
-  local_refuses kind h = search (rules, stands_document d S b hd at, stepped_under d S b hd (stands_found d S b at) op within, stands_found d S b at, lifted d S, refuses_stepped b (stripped S op) kind, stepped_refuses d op kind hd hv, stands_document, stepped_under, stands_found, lifted, refuses_stepped, stepped_refuses)
+  local_refuses kind h =
+      let hb : IsDocument b = stands_document d S b hd at in
+      let hs : IsWholeOp (stripped S op) = (search rules) in
+      let step : stepped d op ≡ Err kind = stepped_under d S b hd (stands_found d S b at) op within ∙ ap (lifted d S) (refuses_stepped b (stripped S op) kind hb hs h) in
+      stepped_refuses d op kind hd hv step
 
 -- ---- runs
 

@@ -129,7 +129,9 @@ module _ (d m : Data) (os : List PatchOperation) (k : ℕ) (S : Pointer) (w : Da
 
     pub part_recorded : (keep : Bool) (undo more : List PatchOperation) → IsTrue keep → operations more ≡ operations undo ++ (if keep then reverse (block_at w S (operation_of o)) else [])
         → AreRecorded d (operations os) k (operations undo) → AreRecorded d (operations os) (k + 1) (operations more)
-    part_recorded keep undo more kept wrote so_far = search (rules, recorded_more d p.x made_whole.0 os k o undo more hd hv less is p.state made_whole.1, made_whole, if_true keep (reverse (block_at w S (operation_of o))) [] kept, block_part p.x S w (operation_of o) p.document p.there at, recorded_more, if_true, block_part)
+    part_recorded keep undo more kept wrote so_far =
+        recorded_more d p.x made_whole.0 os k o undo more hd hv less is p.state made_whole.1
+        (wrote ∙ ap (λ B. operations undo ++ B) (if_true keep (reverse (block_at w S (operation_of o))) [] kept ∙ ap reverse (sym (block_part p.x S w (operation_of o) p.document p.there at)))) so_far
 
 pub ended_at : (d new : Data) (os : List PatchOperation) (k end : ℕ) → k ≡ end → IsState d os k new → Accepts d (take end (operations os)) new
 ended_at d new os k end is h = subst (λ n. Accepts d (take n (operations os)) new) is h

@@ -29,7 +29,8 @@ changes_without t now new h is = search (rules, without_members, get_without_oth
 
 pub changes_written : (t : List ℕ) (es new : List Entry) (d w : Value) → AreInOrder es → Some d ≡ lookup (is_named t) es → new ≡ set_value (is_named t) es w → AreMembers (members_view es) → IsDocument (view w)
     → ChangesAt t (members_view es) (members_view new) (Some (view w))
-changes_written t es new d w order found is h hw = search (rules, changes_put t (view w) (members_view es) (members_view new) h hw (ap members_view is ∙ members_view-set_value t es w d order (sym found)), members_view-set_value t es w d order (sym found), changes_put, members_view-set_value)
+changes_written t es new d w order found is h hw =
+    changes_put t (view w) (members_view es) (members_view new) h hw (ap members_view is ∙ members_view-set_value t es w d order (sym found))
 
 pub changes_removed : (t : List ℕ) (es new : List Entry) → new ≡ remove_entry (is_named t) es → AreMembers (members_view es) → ChangesAt t (members_view es) (members_view new) None
 changes_removed t es new is h = changes_without t (members_view es) (members_view new) h (ap members_view is ∙ members_view-remove_entry t es)

@@ -1,6 +1,5 @@
 -- A value reads as one patch, or is refused with one number and kind; what is written reads back.
-use Rattle.std.proofs.lemmas.Grind.{common_steps}
-use Rattle.std.proofs.Common.{◌≡◌, ℕ, zero, suc, List, [], ◌∷◌, map, ◌⊎◌, Option, Some, None, refl, sym, ◌∙◌, inl, inr, ⊎_elim, codes, Bool, true, false, true≢false, rules, arith}
+use Rattle.std.proofs.Common.{◌≡◌, ℕ, zero, suc, List, [], ◌∷◌, map, ◌⊎◌, Option, Some, None, refl, sym, ◌∙◌, inl, inr, ⊎_elim, codes, Bool, true, false, true≢false, rules, ap, subst}
 use Rattle.std.specs.Str.{bytes_eq}
 use Rattle.std.proofs.lemmas.Slice.Eq.{bytes_eq-Decides}
 use Rattle.serde_json.specs.Data.{Data, null, string, array, Items, no_items, item}
@@ -139,7 +138,8 @@ fields_fault_one : (names : List (List ℕ)) (v : Data) (kind other : ReadKind) 
 fields_fault_one names v = first_one (IsFieldFault names v) (λ e f h g. no_pointer_one v (codes "from") e f h.1 g.1) (λ e f h g. no_pointer_one v (codes "path") e f h g)
 
 reads_no_like_fault : (v : Data) (op like : Operation) → name_of op ≡ name_of like → ReadsFields v op → (kind : ReadKind) → RefusesFields (field_names like) v kind → ⊥
-reads_no_like_fault v op like e h kind f = search (rules, reads_no_field_fault v op h kind, same_field_names like op (sym e), reads_no_field_fault, same_field_names)
+reads_no_like_fault v op like e h kind f =
+    reads_no_field_fault v op h kind (subst (λ names. IsFieldFault names v kind) (same_field_names like op (sym e)) f.here)
 
 -- a value reads as one operation like this one, or is refused for one kind
 pub read_like_or_refused : (like : Operation) (v : Data) → ((op : Operation) × IsReadLike like v op) ⊎ ((kind : ReadKind) × IsUnreadLike like v kind)
@@ -211,7 +211,8 @@ same_items_read ds ops others h g = search rules
 same_item_refused : (ds : Items) (k j : ℕ) (kind other : ReadKind) → RefusesItem ds k kind → RefusesItem ds j other → (j ≡ k) × (other ≡ kind)
 same_item_refused (item d ds) zero (suc j) kind other h g = absurd (reads_no_fault d g.0 g.1 kind h.here)
 same_item_refused (item d ds) (suc k) zero kind other h g = absurd (reads_no_fault d h.0 h.1 other g.here)
-same_item_refused (item d ds) (suc k) (suc j) kind other h g = grind (arith, common_steps, same_item_refused ds k j kind other h.2 g.2)
+same_item_refused (item d ds) (suc k) (suc j) kind other h g =
+    let rest = same_item_refused ds k j kind other h.2 g.2 in (ap suc rest.0, rest.1)
 same_item_refused ds k j kind other h g = search (rules, operation_fault_one)
 
 -- a list reads as one patch, or is refused at one item for one kind

@@ -54,7 +54,9 @@ plain_found d P c is F R ds whole stands = search (rules, next_nowhere d F R ds 
 
 -- nor does one from which a value was removed
 plain_removed : (d : Data) (P : Pointer) (m : Data) → removed d P ≡ Some m → NamesNoNext m P
-plain_removed d P m is F [] ds whole stands = search (rules, found_changed (take_from next_token) d F m (sym (removed_in d P F next_token whole) ∙ is), removed_in d P F next_token whole, next_untaken, stands_found m F (array ds) stands, found_changed, removed_in, stands_found)
+plain_removed d P m is F [] ds whole stands =
+    let i = found_changed (take_from next_token) d F m (sym (removed_in d P F next_token whole) ∙ is) in
+    next_untaken i.0 ds (i.2 ∙ sym i.3 ∙ stands_found m F (array ds) stands)
 plain_removed d P m is F (t ∷ R) ds whole stands =
     let G = F ++ next_token ∷ front_of t R in
     let parts : P ≡ G ++ last_of t R ∷ [] =
@@ -84,7 +86,10 @@ undo_one e d P h = (h.0, undo_add_plain e d P h.0 h.1, h.1, tt)
 -- the block of an accepted operation is plain on what that left
 block_plain : (d : Data) (op : Operation) (e : Data) → IsDocument d → IsWholeOp op → Leaves d op e → ArePlain e (block d op)
 block_plain d (add P v) e hd hv h = undo_one e d P (block_back d (add P v) e hd hv h)
-block_plain d (remove P) e hd hv h = search (rules, stands_found d P h.2 (h.0 ++ h.1 ∷ [], h.3), block_back d (remove P) e hd hv h, plain_removed d P e (removed_exact d P e hd h), removed_exact d P e hd h, stands_found, block_back, plain_removed, removed_exact)
+block_plain d (remove P) e hd hv h =
+    let same : block d (remove P) ≡ add P h.2 ∷ [] = rw (stands_found d P h.2 (h.0 ++ h.1 ∷ [], h.3)) refl in
+    let back : Accepts e (add P h.2 ∷ []) d = subst (λ B. Accepts e B d) same (block_back d (remove P) e hd hv h) in
+    subst (ArePlain e) (sym same) (back.0, plain_removed d P e (removed_exact d P e hd h), back.1, tt)
 block_plain d (replace P v) e hd hv h =
     let same : block d (replace P v) ≡ replace P h.1 ∷ [] = rw (stands_found d P h.1 (h.0, h.2)) refl in
     let back : Accepts e (replace P h.1 ∷ []) d = subst (λ B. Accepts e B d) same (block_back d (replace P v) e hd hv h) in

@@ -11,10 +11,12 @@ use Rattle.json_patch.proofs.Stepped.{leaves_stepped, refuses_stepped, stepped_l
 
 pub accepts_ran : (d : Data) (ops : List Operation) (e : Data) → IsDocument d → AreWhole ops → Accepts d ops e → ran d ops ≡ Ok e
 accepts_ran d [] e hd hv h = ap Ok h
-accepts_ran d (op ∷ ops) e hd hv h = search (rules, leaves_stepped d op h.0 hd hv.0 h.1, leaves_document d op h.0 hd hv.0 h.1, accepts_ran h.0 ops e (leaves_document d op h.0 hd hv.0 h.1) hv.1 h.2, leaves_stepped, leaves_document)
+accepts_ran d (op ∷ ops) e hd hv h =
+    rw (leaves_stepped d op h.0 hd hv.0 h.1, accepts_ran h.0 ops e (leaves_document d op h.0 hd hv.0 h.1) hv.1 h.2) refl
 
 pub refuses_ran : (d : Data) (ops : List Operation) (k : ℕ) (kind : PatchErrorKind) → IsDocument d → AreWhole ops → RefusesAt d ops k kind → ran d ops ≡ Err (fault k kind)
-refuses_ran d (op ∷ ops) (suc k) kind hd hv h = search (rules, leaves_stepped d op h.0 hd hv.0 h.1, leaves_document d op h.0 hd hv.0 h.1, refuses_ran h.0 ops k kind (leaves_document d op h.0 hd hv.0 h.1) hv.1 h.2, leaves_stepped, leaves_document)
+refuses_ran d (op ∷ ops) (suc k) kind hd hv h =
+    rw (leaves_stepped d op h.0 hd hv.0 h.1, refuses_ran h.0 ops k kind (leaves_document d op h.0 hd hv.0 h.1) hv.1 h.2) refl
 refuses_ran d ops k kind hd hv h = search (rules, refuses_stepped)
 
 -- ---- where a run ends, found out

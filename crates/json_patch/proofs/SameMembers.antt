@@ -38,7 +38,8 @@ in_turn : (ms ns : Members) → AreInOrder ms → AreInOrder ns → AreSameByNam
 in_turn no_members no_members h g same = tt
 in_turn no_members (member l e ns) h g same = absurd (right_alone l e no_members ns tt (same l))
 in_turn (member k d ms) no_members h g same = absurd (left_alone k d ms no_members tt (same k))
-in_turn (member k d ms) (member l e ns) h g same = search (rules, step (slice_cmp nat_cmp k l) k l d e ms ns refl h.0 g.0 same, in_turn ms ns h.1 g.1, step)
+in_turn (member k d ms) (member l e ns) h g same =
+    step (slice_cmp nat_cmp k l) k l d e ms ns refl h.0 g.0 same (λ s. in_turn ms ns h.1 g.1 s)
 
 pub same_by_name : (ms ns : Members) → AreInOrder ms → AreInOrder ns
     → AreSame (object ms) (object ns) ↔ ((k : List ℕ) → AreSameAt (get_member k ms) (get_member k ns))

@@ -103,7 +103,8 @@ leaves_stepped d (move F P) e hd hv h =
     let v = h.1.0 in let m = h.1.1 in
     let hm : IsDocument m = removed_document d F m h.1.3 in
     rw (not_begins F P h.0, stands_found d F v h.1.2, removed_exact d F m hd h.1.3, added_exact m P v e hm (stands_document d F v hd h.1.2) h.1.4) refl
-leaves_stepped d (copy F P) e hd hv h = search (rules, stands_found d F h.0 h.1, added_exact d P h.0 e hd (stands_document d F h.0 hd h.1) h.2, stands_document d F h.0 hd h.1, stands_found, added_exact, stands_document)
+leaves_stepped d (copy F P) e hd hv h =
+    rw (stands_found d F h.0 h.1, added_exact d P h.0 e hd (stands_document d F h.0 hd h.1) h.2) refl
 leaves_stepped d (test P v) e hd hv h = rw (stands_found d P v h.0, same-refl v) (ap Ok (sym h.1))
 
 pub refuses_stepped : (d : Data) (op : Operation) (kind : PatchErrorKind) → IsDocument d → IsWholeOp op → Refuses d op kind → stepped d op ≡ Err kind
@@ -117,7 +118,8 @@ refuses_stepped d (move F P) InvalidPointer hd hv h =
     let hm : IsDocument m = removed_document d F m h.1.3 in
     rw (not_begins F P h.0, stands_found d F v h.1.2, removed_exact d F m hd h.1.3, never_added m P v hm (stands_document d F v hd h.1.2) h.1.4) refl
 refuses_stepped d (copy F P) InvalidFromPointer hd hv h = rw (never_found d F h) refl
-refuses_stepped d (copy F P) InvalidPointer hd hv h = search (rules, stands_found d F h.0 h.1, never_added d P h.0 hd (stands_document d F h.0 hd h.1) h.2, stands_document d F h.0 hd h.1, stands_found, never_added, stands_document)
+refuses_stepped d (copy F P) InvalidPointer hd hv h =
+    rw (stands_found d F h.0 h.1, never_added d P h.0 hd (stands_document d F h.0 hd h.1) h.2) refl
 refuses_stepped d (test P v) InvalidPointer hd hv h = rw (never_found d P h) refl
 refuses_stepped d (test P v) TestFailed hd hv h = rw (stands_found d P h.0 h.1, same_other h.0 v hv h.2) refl
 refuses_stepped d op kind hd hv h = absurd h
@@ -133,7 +135,10 @@ added_refused d P v kind is = search (rules, or_err, added_none)
 module _ (d : Data) (F P : Pointer) (hd : IsDocument d) where
   move_leaves : (b : Bool) (o p : Option Data) (e : Data) → begins F P ≡ b → found d F ≡ o → removed d F ≡ p → (if b then Err CannotMoveInsideItself else moved P o p) ≡ Ok e
       → Leaves d (move F P) e
-  move_leaves false (Some v) (Some m) e b f r is = search (rules, found_resolves d F v f, removed_is d F m hd r, not_prefix F P b, added_leaves m P v e, removed_document d F m, stands_document d F v hd, found_resolves, removed_is, not_prefix, added_leaves, removed_document, stands_document)
+  move_leaves false (Some v) (Some m) e b f r is =
+      let s : StandsAt d F v = found_resolves d F v f in
+      let g : IsRemoved d F m = removed_is d F m hd r in
+      (not_prefix F P b, (v, m, s, g, added_leaves m P v e (removed_document d F m g) (stands_document d F v hd s) is))
   move_leaves b o p e h f r is = search rules
 
   move_refused : (b : Bool) (o p : Option Data) (kind : PatchErrorKind) → begins F P ≡ b → found d F ≡ o → removed d F ≡ p → (if b then Err CannotMoveInsideItself else moved P o p) ≡ Err kind
@@ -146,7 +151,8 @@ module _ (d : Data) (F P : Pointer) (hd : IsDocument d) where
 
   copy_leaves : (o : Option Data) (e : Data) → found d F ≡ o → copied d P o ≡ Ok e → Leaves d (copy F P) e
   copy_leaves None e f is = cc
-  copy_leaves (Some v) e f is = search (rules, found_resolves d F v f, added_leaves d P v e hd, stands_document d F v hd, found_resolves, added_leaves, stands_document)
+  copy_leaves (Some v) e f is =
+      let s : StandsAt d F v = found_resolves d F v f in (v, s, added_leaves d P v e hd (stands_document d F v hd s) is)
 
   copy_refused : (o : Option Data) (kind : PatchErrorKind) → found d F ≡ o → copied d P o ≡ Err kind → Refuses d (copy F P) kind
   copy_refused None kind f is = let e : InvalidFromPointer ≡ kind = cc in subst (Refuses d (copy F P)) e (found_never d F f)

@@ -1,4 +1,4 @@
-use Rattle.std.proofs.Common.{Ok}
+use Rattle.std.proofs.Common.{Ok, rules}
 use Rattle.serde_json.specs.View.{view}
 use Rattle.jsonptr.specs.Pointers.{tokens_of}
 use Rattle.json_patch.specs.Operation.{add}
@@ -13,7 +13,4 @@ returns-in_err-was-clause-leaves c =
     c.below.ensures c.below-path.ensures c.from_residual-in_err-was.ensures c.in_ok-moved.ensures.taken c.in_err-was.ensures.leaves
 
 pub returns-clause-leaves : goal.returns-clause-leaves
-returns-clause-leaves c =
-    let o = c.args.operation.now in
-    move_goes (Ok c.in_ok-was.was') (view c.args.doc.now) (view c.take_out.new.doc) (view c.add.new.doc) c.in_ok-moved.moved (tokens_of c.args.base) (tokens_of c.below.result) (tokens_of c.below-path.result) o.from o.path
-    c.below.ensures c.below-path.ensures c.in_ok-moved.ensures.taken c.in_ok-was.ensures.leaves
+returns-clause-leaves c = search (rules, move_goes (Ok c.in_ok-was.was') (view c.args.doc.now) (view c.take_out.new.doc) (view c.add.new.doc) c.in_ok-moved.moved (tokens_of c.args.base) (tokens_of c.below.result) (tokens_of c.below-path.result))

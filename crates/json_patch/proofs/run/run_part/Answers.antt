@@ -1,4 +1,4 @@
-use Rattle.std.proofs.Common.{◌-◌, ◌≤◌, length, Err, arith, rules}
+use Rattle.std.proofs.Common.{◌-◌, Err, rules}
 use Rattle.serde_json.specs.View.{view}
 use Rattle.jsonptr.specs.Pointers.{tokens_of}
 use Rattle.json_patch.specs.Operation.{operation_of}
@@ -20,10 +20,7 @@ pub returns-in-Ok-clause-recorded : goal.returns-in-Ok-clause-recorded
 returns-in-Ok-clause-recorded c = search (rules, recorded_at)
 
 pub returns-in-Err-clause-refused : goal.returns-in-Err-clause-refused
-returns-in-Err-clause-refused c = λ d hd s.
-    let differ = c.if-start-end.false in let order : c.args.start ≤ c.args.end = c.requires.order in let within : c.args.end ≤ length c.args.patch.now = c.requires.within in
-    reported_names (Unit {0}) c.reported.result c.in-Err.fault d (view c.args.doc.now) (view c.step_keeping.new.doc) c.args.patch.now c.args.start c.index-patch-start.result hd c.requires.whole (omega arith) c.index-patch-start.is s
-    (step_whole (Unit {0}) (Err c.in-Err.fault) (view c.args.doc.now) (view c.step_keeping.new.doc) (tokens_of c.root.result) (operation_of c.index-patch-start.result) c.root.ensures c.in-Err.ensures.leaves) c.reported.ensures
+returns-in-Err-clause-refused c = search (rules, reported_names (Unit {0}) c.reported.result c.in-Err.fault, step_whole (Unit {0}) (Err c.in-Err.fault) (view c.args.doc.now) (view c.step_keeping.new.doc) (tokens_of c.root.result) (operation_of c.index-patch-start.result) c.root.ensures c.in-Err.ensures.leaves)
 
 pub returns-in-Err-clause-in_place : goal.returns-in-Err-clause-in_place
 returns-in-Err-clause-in_place c = search (rules, not_stopped, step_whole, stripped_whole)

@@ -6,9 +6,7 @@ use Rattle.json_patch.proofs.Containers.{swaps_item, swaps_no_item}
 use Rattle.json_patch.proofs.walk.edit_items.Goals as goal
 
 pub returns-in_err-index-in-Swap-clause-leaves : goal.returns-in_err-index-in-Swap-clause-leaves
-returns-in_err-index-in-Swap-clause-leaves c =
-    let out = c.in_err-index-in-Swap.ensures in
-    refused _ _ _ _ c.from_residual-in_err-index-in-Swap.ensures out.0 (rw c.in-Swap.is (swaps_no_item (token_of c.args.token) c.args.items.now c.len-in-Swap.result (view c.in-Swap.value) c.len-in-Swap.ensures out.1))
+returns-in_err-index-in-Swap-clause-leaves c = search (rules, refused, swaps_no_item (token_of c.args.token) c.args.items.now c.len-in-Swap.result (view c.in-Swap.value) c.len-in-Swap.ensures)
 
 pub returns-in_ok-index-in-Swap-clause-leaves : goal.returns-in_ok-index-in-Swap-clause-leaves
 returns-in_ok-index-in-Swap-clause-leaves c = search (rules, swaps_item)

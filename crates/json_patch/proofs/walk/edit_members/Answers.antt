@@ -1,4 +1,4 @@
-use Rattle.std.proofs.Common.{refl, ◌∙◌, ap}
+use Rattle.std.proofs.Common.{refl, ◌∙◌, ap, rules}
 use Rattle.serde_json.specs.Data.{object}
 use Rattle.serde_json.specs.View.{view, members_view}
 use Rattle.jsonptr.specs.Pointers.{token_of}
@@ -6,12 +6,10 @@ use Rattle.json_patch.proofs.Containers.{found_key, found_member, found_no_key, 
 use Rattle.json_patch.proofs.walk.edit_members.Goals as goal
 
 pub returns-in-Some-clause-displaces : goal.returns-in-Some-clause-displaces
-returns-in-Some-clause-displaces c =
-    rw c.in-Insert.is (found_key (token_of c.args.token) c.in_ok-name-in-Insert.name _ _ c.in-Some.former c.in_ok-name-in-Insert.ensures c.in-Some.is c.in_ok-former-in-Insert.ensures.old)
+returns-in-Some-clause-displaces c = search (rules, found_key (token_of c.args.token) c.in_ok-name-in-Insert.name)
 
 pub returns-in-Insert-clause-displaces : goal.returns-in-Insert-clause-displaces
-returns-in-Insert-clause-displaces c =
-    rw c.in-Insert.is (found_no_key (token_of c.args.token) c.in_ok-name-in-Insert.name _ _ c.in_ok-name-in-Insert.ensures c.in-None.is c.in_ok-former-in-Insert.ensures.old)
+returns-in-Insert-clause-displaces c = search (rules, found_no_key (token_of c.args.token) c.in_ok-name-in-Insert.name)
 
 pub returns-in-Some-remove-clause-displaces : goal.returns-in-Some-remove-clause-displaces
 returns-in-Some-remove-clause-displaces c =
