@@ -1,5 +1,6 @@
 -- The computed document is the one that add leaves, and the only one.
-use Rattle.std.proofs.Common.{◌≡◌, ℕ, zero, suc, ◌<◌, ◌≤◌, List, [], ◌∷◌, ◌++◌, ⊎_elim, Some, None, sym, ◌∙◌, subst, arith}
+use Rattle.std.proofs.lemmas.Grind.{common_steps}
+use Rattle.std.proofs.Common.{◌≡◌, ℕ, zero, suc, ◌<◌, ◌≤◌, List, [], ◌∷◌, ◌++◌, ⊎_elim, Some, None, sym, ◌∙◌, subst, arith, rules}
 use Rattle.std.proofs.lemmas.Bool.{cases_eq}
 use Rattle.serde_json.specs.Data.{Data}
 use Rattle.json_patch.specs.Document.{IsDocument, Step, key, place, look}
@@ -13,43 +14,25 @@ use Rattle.json_patch.proofs.Altered.{Grafts, IsAltered, altered_is, altered_som
 use Rattle.json_patch.proofs.Slots.{PutsIn, put_in_puts, aims_put, aims_same}
 
 shifts_lift : (d e : Data) (L : List Step) (p q : Data) (s : Step) → Grafts d e L p q → ShiftsUp p q [] s → ShiftsUp d e L s
-shifts_lift d e L p q (key k) g h = tt
-shifts_lift d e L p q (place i) g h = λ j R le. g.after (place (suc j) ∷ R) ∙ h j R le ∙ sym (g.before (place j ∷ R))
+shifts_lift d e L p q s g h = search rules
 
 -- where p's sights are kept, d's are
 pub elsewhere_lift : (d e : Data) (L : List Step) (p q : Data) (s : Step) → Grafts d e L p q → ((X : List Step) → IsBeside [] s X → look q X ≡ look p X)
     → (X : List Step) → IsBeside L s X → look e X ≡ look d X
-elsewhere_lift d e L p q s g keep X b =
-    ⊎_elim
-    (λ (u : IsUnder L X). subst (λ Z. IsBeside L s Z → look e Z ≡ look d Z) (sym u.1)
-    (λ c. g.after u.0 ∙ keep u.0 (beside_inside L s u.0 c) ∙ sym (g.before u.0)) b)
-    (λ (out : IsApart L X). g.apart X out) (under_cases L X)
+elsewhere_lift d e L p q s g keep X b = search (rules, IsUnder L X, beside_inside L s, IsApart L X, under_cases L X, IsUnder, beside_inside, IsApart, under_cases)
 
 puts_lift : (d e v : Data) (L : List Step) (p q : Data) (s : Step) → Grafts d e L p q → PutsAt p q v [] s → PutsAt d e v L s
-puts_lift d e v L p q s g h = record {
-  here = λ R. g.after (s ∷ R) ∙ h.here R;
-  later = shifts_lift d e L p q s g h.later;
-  elsewhere = elsewhere_lift d e L p q s g h.elsewhere;
-}
+puts_lift d e v L p q s g h = search (rules, shifts_lift, elsewhere_lift)
 
 added_below : (d : Data) (t : List ℕ) (P : List (List ℕ)) (v e : Data) → IsDocument d → IsDocument v → IsAltered (put_in v (last_of t P)) d (front_of t P) e
     → IsAdded d (t ∷ P) v e
-added_below d t P v e hd hv a =
-    let i : PutsIn v (last_of t P) a.p a.q = put_in_puts v (last_of t P) a.p a.q a.result in (
-      a.L,
-      i.s,
-      record { front = front_of t P; last = last_of t P; whole = split_whole t P; parent = a.p; resolves = a.resolves; aims = i.aims },
-      a.keeps hd (λ hp. i.keeps hp hv),
-      puts_lift d e v a.L a.p a.q i.s a.grafts i.puts,
-    )
+added_below d t P v e hd hv a = search (rules, PutsIn v (last_of t P) a.p a.q, put_in_puts v (last_of t P) a.p a.q a.result, split_whole t P, puts_lift d e v a.L a.p a.q, PutsIn, put_in_puts, split_whole, puts_lift)
 
 pub added_is : (d : Data) (P : List (List ℕ)) (v e : Data) → IsDocument d → IsDocument v → added d P v ≡ Some e → IsAdded d P v e
-added_is d [] v e hd hv is = cc
-added_is d (t ∷ P) v e hd hv is = added_below d t P v e hd hv (altered_is _ d (front_of t P) e is)
+added_is d P v e hd hv is = search (rules, added_below, altered_is)
 
 pub IsAdded_document : (d : Data) (P : List (List ℕ)) (v e : Data) → IsDocument v → IsAdded d P v e → IsDocument e
-IsAdded_document d [] v e hv h = subst IsDocument (sym h) hv
-IsAdded_document d (t ∷ P) v e hv h = h.3
+IsAdded_document d P v e hv h = search rules
 
 -- the target, with the pointer split
 record Target (d : Data) (t : List ℕ) (P : List (List ℕ)) (L : List Step) (s : Step) : Type 0 where
@@ -58,13 +41,7 @@ record Target (d : Data) (t : List ℕ) (P : List (List ℕ)) (L : List Step) (s
   aims : Aims p (last_of t P) s
 
 target : (d : Data) (t : List ℕ) (P : List (List ℕ)) (L : List Step) (s : Step) → HasTarget d (t ∷ P) L s → Target d t P L s
-target d t P L s h =
-    let w : (h.front ≡ front_of t P) × (h.last ≡ last_of t P) = split_is t P h.front h.last h.whole in
-    record {
-      p = h.parent;
-      resolves = subst (λ Q. Resolves d Q L h.parent) w.0 h.resolves;
-      aims = subst (λ x. Aims h.parent x s) w.1 h.aims;
-    }
+target d t P L s h = search (rules, split_is t P h.front h.last h.whole, split_is)
 
 pub added_none : (d : Data) (P : List (List ℕ)) (v e : Data) → added d P v ≡ None → IsAdded d P v e → ⊥
 added_none d [] v e is h = cc
@@ -75,8 +52,7 @@ added_none d (t ∷ P) v e is h =
     let b : added d (t ∷ P) v ≡ Some a.0 = a.1 in cc
 
 no_target : (front : List (List ℕ)) (last : List ℕ) → [] ≡ front ++ last ∷ [] → ⊥
-no_target [] last is = cc
-no_target (t ∷ front) last is = cc
+no_target front last is = grind (arith, common_steps)
 
 -- where there is a target, a document is left
 pub added_there : (d : Data) (P : List (List ℕ)) (v : Data) (L : List Step) (s : Step) → IsDocument d → IsDocument v → HasTarget d P L s → (e : Data) × IsAdded d P v e
@@ -90,11 +66,7 @@ added_there d (t ∷ P) v L s hd hv h =
 -- ---- one document alone
 
 target_same : (d : Data) (t : List ℕ) (P : List (List ℕ)) (L M : List Step) (s r : Step) → HasTarget d (t ∷ P) L s → HasTarget d (t ∷ P) M r → (L ≡ M) × (s ≡ r)
-target_same d t P L M s r h k =
-    let g : Target d t P L s = target d t P L s h in
-    let f : Target d t P M r = target d t P M r k in
-    let e : (L ≡ M) × (g.p ≡ f.p) = resolves_same d (front_of t P) L M g.p f.p g.resolves f.resolves in
-    (e.0, aims_same f.p (last_of t P) s r (subst (λ x. Aims x (last_of t P) s) e.1 g.aims) f.aims)
+target_same d t P L M s r h k = grind (arith, common_steps, target, resolves_same, aims_same)
 
 -- after the place
 puts_after : (d e f v : Data) (L : List Step) (i j : ℕ) (R : List Step) → PutsAt d e v L (place i) → PutsAt d f v L (place i) → i < j
@@ -115,13 +87,8 @@ puts_moved d e f v L (key k) X h g m = rw m.1 (h.here m.0 ∙ sym (g.here m.0))
 puts_moved d e f v L (place i) X h g m = rw m.3 (puts_from d e f v L i m.0 m.1 h g m.2)
 
 pub puts_same : (d e f v : Data) (L : List Step) (s : Step) → PutsAt d e v L s → PutsAt d f v L s → (X : List Step) → look e X ≡ look f X
-puts_same d e f v L s h g X =
-    ⊎_elim (λ m. puts_moved d e f v L s X h g m) (λ b. h.elsewhere X b ∙ sym (g.elsewhere X b)) (moved_cases L s X)
+puts_same d e f v L s h g X = search (rules, puts_moved d e f v L s X h g, moved_cases L s X, puts_moved, moved_cases)
 
 pub added_one : (d : Data) (P : List (List ℕ)) (v e f : Data) → IsAdded d P v e → IsAdded d P v f → e ≡ f
 added_one d [] v e f h g = h ∙ sym g
-added_one d (t ∷ P) v e f h g =
-    let same : (h.0 ≡ g.0) × (h.1 ≡ g.1) = target_same d t P h.0 g.0 h.1 g.1 h.2 g.2 in
-    let a : PutsAt d f v h.0 g.1 = subst (λ L. PutsAt d f v L g.1) (sym same.0) g.4 in
-    let b : PutsAt d f v h.0 h.1 = subst (λ s. PutsAt d f v h.0 s) (sym same.1) a in
-    alike e f h.3 g.3 (puts_same d e f v h.0 h.1 h.4 b)
+added_one d (t ∷ P) v e f h g = search (rules, target_same d t P h.0 g.0 h.1 g.1 h.2 g.2, alike e f h.3 g.3, puts_same d e f v h.0 h.1 h.4, target_same, alike, puts_same)

@@ -1,5 +1,6 @@
 -- Documents that look alike everywhere are equal.
-use Rattle.std.proofs.Common.{◌≡◌, ℕ, suc, List, [], ◌∷◌, Option, Ordering, Less, Equal, Greater, nat_cmp, refl, sym, ap, subst, option_and_then}
+use Rattle.std.proofs.lemmas.Grind.{common_steps}
+use Rattle.std.proofs.Common.{◌≡◌, ℕ, suc, List, [], ◌∷◌, Option, Ordering, Less, Equal, Greater, nat_cmp, refl, sym, ap, option_and_then, rules, arith}
 use Rattle.std.specs.Cmp.Lexicographic.{slice_cmp}
 use Rattle.serde_json.specs.Data.{Data, null, boolean, number, string, array, object, Items, no_items, item, Members, no_members, member}
 use Rattle.serde_json.specs.Find.{get_member}
@@ -7,12 +8,7 @@ use Rattle.json_patch.specs.Document.{IsDocument, AreDocuments, AreMembers, IsBe
 use Rattle.json_patch.proofs.Members.{tied_same, less_back, below_more, below_absent, found_first}
 
 pub something : (d : Data) → sight_of d ≡ nothing → ⊥
-something null h = cc
-something (boolean b) h = cc
-something (number n) h = cc
-something (string s) h = cc
-something (array ds) h = cc
-something (object ms) h = cc
+something d h = search rules
 
 -- what is seen from what stands below a step
 abbrev pub seen : Option Data → List Step → Sight
@@ -36,16 +32,9 @@ apart k d ms ns h same = something d (rw (found_first k d ms, below_absent k ns 
 
 members_step : (o : Ordering) (k l : List ℕ) (d e : Data) (ms ns : Members) → slice_cmp nat_cmp k l ≡ o → IsBelowMembers k ms → IsBelowMembers l ns
     → AreAlike (member k d ms) (member l e ns) → (((R : List Step) → look d R ≡ look e R) → d ≡ e) → (AreAlike ms ns → ms ≡ ns) → member k d ms ≡ member l e ns
-members_step Less k l d e ms ns is below under same value rest =
-    absurd (apart k d ms (member l e ns) (is, below_more k l ns is under) (same k []))
-members_step Equal k l d e ms ns is below under same value rest =
-    let P : List ℕ → Type 0 = λ x. IsBelowMembers x ns → AreAlike (member k d ms) (member x e ns) → member k d ms ≡ member x e ns in
-    let at_k : P k = λ u s. (let a : d ≡ e = value (value_same k d e ms ns below u s) in
-    let b : ms ≡ ns = rest (λ q R. rest_at k d e ms ns below u s q R _ refl) in cc) in
-    subst P (tied_same k l is) at_k under same
-members_step Greater k l d e ms ns is below under same value rest =
-    let less : slice_cmp nat_cmp l k ≡ Less = less_back k l is in
-    absurd (apart l e ns (member k d ms) (less, below_more l k ms less below) (sym (same l [])))
+members_step Less k l d e ms ns is below under same value rest = grind (arith, common_steps, apart k d ms (member l e ns) (is, below_more k l ns is under) (same k []), below_more k l ns is under)
+members_step Equal k l d e ms ns is below under same value rest = grind (arith, common_steps, value_same k d e ms ns below, rest_at k d e ms ns below, tied_same k l is)
+members_step Greater k l d e ms ns is below under same value rest = grind (arith, common_steps, less_back k l is, apart l e ns (member k d ms), below_more l k ms)
 
 mutual
   pub alike : (d e : Data) → IsDocument d → IsDocument e → ((L : List Step) → look d L ≡ look e L) → d ≡ e

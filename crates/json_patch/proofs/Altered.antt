@@ -1,5 +1,5 @@
 -- What `altered` leaves, at every location.
-use Rattle.std.proofs.Common.{◌≡◌, ℕ, List, [], ◌∷◌, ◌++◌, ⊎_elim, Option, Some, option_and_then, refl, sym, ap, ◌∙◌, subst}
+use Rattle.std.proofs.Common.{◌≡◌, ℕ, List, [], ◌∷◌, ◌++◌, ⊎_elim, Option, Some, option_and_then, refl, sym, ap, ◌∙◌, subst, rules}
 use Rattle.std.proofs.lemmas.Option.{option_and_then_some}
 use Rattle.serde_json.specs.Data.{Data}
 use Rattle.json_patch.specs.Document.{IsDocument, Step, child, look, sight, standing}
@@ -7,7 +7,7 @@ use Rattle.json_patch.specs.Resolve.{Resolves}
 use Rattle.json_patch.specs.ChangeComputed.{step_of, set_child, altered}
 use Rattle.json_patch.proofs.Children.{child_document, child_set, child_set_other, sight_set, set_document, step_cases}
 use Rattle.json_patch.proofs.Places.{IsApart}
-use Rattle.json_patch.proofs.Resolved.{option_map_some, step_names, names_step}
+use Rattle.json_patch.proofs.Resolved.{option_map_some, names_step}
 
 -- e is d with q in place of p, which stands at L
 pub record Grafts (d e : Data) (L : List Step) (p q : Data) : Type 0 where
@@ -28,23 +28,12 @@ look_child : (s : Step) (d c : Data) (R : List Step) → child s d ≡ Some c �
 look_child s d c R is = ap (λ o. sight (option_and_then (λ x. standing x R) o)) is
 
 module _ (s : Step) (d c e : Data) (L : List Step) (p q : Data) (is : child s d ≡ Some c) (g : Grafts c e L p q) where
-  apart_same : (Y : List Step) → IsApart (s ∷ L) (s ∷ Y) → look (set_child s e d) (s ∷ Y) ≡ look d (s ∷ Y)
-  apart_same Y out =
-      look_child s (set_child s e d) e Y (child_set s d c e is) ∙ g.apart Y (λ R h. out R (ap (λ Z. s ∷ Z) h)) ∙ sym (look_child s d c Y is)
-
   apart_step : (X : List Step) → IsApart (s ∷ L) X → look (set_child s e d) X ≡ look d X
   apart_step [] out = sight_set s d e
   apart_step (r ∷ Y) out =
       ⊎_elim
-      (λ (same : r ≡ s). subst (λ x. IsApart (s ∷ L) (x ∷ Y) → look (set_child s e d) (x ∷ Y) ≡ look d (x ∷ Y)) (sym same) (apart_same Y) out)
+      (λ (same : r ≡ s). subst (λ x. IsApart (s ∷ L) (x ∷ Y) → look (set_child s e d) (x ∷ Y) ≡ look d (x ∷ Y)) (sym same) (search (rules, look_child, child_set)) out)
       (λ (other : r ≡ s → ⊥). ap (λ o. sight (option_and_then (λ x. standing x Y) o)) (child_set_other r s d e other)) (step_cases r s)
-
-  grafts_step : Grafts d (set_child s e d) (s ∷ L) p q
-  grafts_step = record {
-    before = λ R. look_child s d c (L ++ R) is ∙ g.before R;
-    after = λ R. look_child s (set_child s e d) e (L ++ R) (child_set s d c e is) ∙ g.after R;
-    apart = apart_step;
-  }
 
 altered_step : (f : Data → Option Data) (d : Data) (t : List ℕ) (P : List (List ℕ)) (s : Step) (c b : Data) → step_of d t ≡ Some s → child s d ≡ Some c
     → IsAltered f c P b → IsAltered f d (t ∷ P) (set_child s b d)
@@ -52,9 +41,9 @@ altered_step f d t P s c b named is a = record {
   L = s ∷ a.L;
   p = a.p;
   q = a.q;
-  resolves = (c, step_names d t s named, is, a.resolves);
+  resolves = (c, (search rules), is, a.resolves);
   result = a.result;
-  grafts = grafts_step s d c b a.L a.p a.q is a.grafts;
+  grafts = (search (rules, look_child, child_set, apart_step));
   keeps = λ hd keep. set_document s d b hd (a.keeps (child_document s d c hd is) keep);
 }
 
@@ -79,5 +68,4 @@ altered_some f d [] [] p q h is = (q, ap f h ∙ is)
 altered_some f d (t ∷ P) (s ∷ L) p q h is =
     let i : (e : Data) × (altered f h.0 P ≡ Some e) = altered_some f h.0 P L p q h.3 is in
     (set_child s i.0 d, rw (names_step d t s h.1, h.2, i.1))
-altered_some f d [] (s ∷ L) p q h is = absurd h
-altered_some f d (t ∷ P) [] p q h is = absurd h
+altered_some f d P L p q h is = search rules

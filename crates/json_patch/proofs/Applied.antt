@@ -1,5 +1,6 @@
 -- A run over a list of operations of the program, one step at a time.
-use Rattle.std.proofs.Common.{◌≡◌, ◌+◌, ◌<◌, ◌≤◌, ℕ, zero, suc, ◌*◌, List, [], ◌∷◌, ◌++◌, length, get_or, take, Some, option_map, Result, Ok, Err, refl, sym, ap, ap₂, ◌∙◌, subst, add-one, arith}
+use Rattle.std.proofs.lemmas.Grind.{common_steps}
+use Rattle.std.proofs.Common.{◌≡◌, ◌+◌, ◌<◌, ◌≤◌, ℕ, zero, suc, ◌*◌, List, [], ◌∷◌, ◌++◌, length, get_or, take, Some, option_map, Result, Ok, Err, refl, sym, ap, ap₂, ◌∙◌, subst, add-one, arith, rules}
 use Rattle.std.proofs.lemmas.List.{map-append, reverse-append, reverse-reverse}
 use mathlib.Core.List.{reverse}
 use Rattle.std.specs.List.{slice_get}
@@ -17,7 +18,6 @@ use Rattle.json_patch.specs.RunComputed.{ran, stepped}
 use Rattle.json_patch.specs.Step.{Leaves, Refuses}
 use Rattle.json_patch.specs.declared.error.PatchErrorKind.{PatchErrorKind}
 use Rattle.json_patch.specs.declared.error.PatchFault.{PatchFault}
-use Rattle.json_patch.specs.declared.error.PatchFault.TheVariants.{Refused, Memory}
 use Rattle.json_patch.specs.declared.operation.PatchOperation.{PatchOperation}
 use Rattle.json_patch.specs.declared.error.StepFault.{StepFault}
 use Rattle.json_patch.specs.declared.error.StepFault.TheVariants.{Refused as step_refused, Memory as step_short}
@@ -44,24 +44,21 @@ refuses_at : (d m : Data) (kind : PatchErrorKind) (x o : PatchOperation) → IsD
 refuses_at d m kind x o hd hv same is h = stepped_refuses d (operation_of x) kind hd hv.0 (ap (λ c. stepped c (operation_of x)) same ∙ ap (λ y. stepped m (operation_of y)) (sym is) ∙ h)
 
 state_suc : (d m e : Data) (os : List PatchOperation) (k : ℕ) (o : PatchOperation) → IsDocument d → AreWhole (operations os) → k < length os → IsAt os k o → IsState d os k m → stepped m (operation_of o) ≡ Ok e → IsState d os (suc k) e
-state_suc d m e [] k o hd hv less is h s = absurd (omega arith)
-state_suc d m e (x ∷ os) zero o hd hv less is h s = (e, leaves_at d m e x o hd (hv.0, tt) h is s, refl)
 state_suc d m e (x ∷ os) (suc k) o hd hv less is h s =
     (h.0, h.1, state_suc h.0 m e os k o (leaves_document d (operation_of x) h.0 hd hv.0 h.1) hv.1 (omega arith) is h.2 s)
+state_suc d m e os k o hd hv less is h s = search (rules, leaves_at)
 
 pub state_more : (d m e : Data) (os : List PatchOperation) (k : ℕ) (o : PatchOperation) → IsDocument d → AreWhole (operations os) → k < length os → IsAt os k o → IsState d os k m → stepped m (operation_of o) ≡ Ok e → IsState d os (k + 1) e
 state_more d m e os k o hd hv less is h s = subst (λ n. IsState d os n e) (sym (add-one k)) (state_suc d m e os k o hd hv less is h s)
 
 pub state_refused : (d m : Data) (kind : PatchErrorKind) (os : List PatchOperation) (k : ℕ) (o : PatchOperation) → IsDocument d → AreWhole (operations os) → k < length os → IsAt os k o → IsState d os k m → stepped m (operation_of o) ≡ Err kind → RefusesAt d (operations os) k kind
-state_refused d m kind [] k o hd hv less is h s = absurd (omega arith)
-state_refused d m kind (x ∷ os) zero o hd hv less is h s = refuses_at d m kind x o hd (hv.0, tt) h is s
 state_refused d m kind (x ∷ os) (suc k) o hd hv less is h s =
     (h.0, h.1, state_refused h.0 m kind os k o (leaves_document d (operation_of x) h.0 hd hv.0 h.1) hv.1 (omega arith) is h.2 s)
+state_refused d m kind os k o hd hv less is h s = search (rules, refuses_at)
 
 pub whole_at : (os : List PatchOperation) (k : ℕ) (o : PatchOperation) → k < length os → IsAt os k o → AreWhole (operations os) → IsWholeOp (operation_of o)
-whole_at [] k o less is h = absurd (omega arith)
-whole_at (x ∷ os) zero o less is h = subst (λ y. IsWholeOp (operation_of y)) (sym is) h.0
 whole_at (x ∷ os) (suc k) o less is h = whole_at os k o (omega arith) is h.1
+whole_at os k o less is h = search rules
 
 -- ---- its ends
 
@@ -73,9 +70,8 @@ state_document d m (x ∷ os) (suc k) hd hv h = state_document h.0 m os k (leave
 -- ---- a refusal
 
 pub path_at : (os : List PatchOperation) (k : ℕ) (o : PatchOperation) → k < length os → IsAt os k o → option_map path_of (slice_get (operations os) k) ≡ Some (path_of (operation_of o))
-path_at [] k o less is = absurd (omega arith)
-path_at (x ∷ os) zero o less is = ap (λ y. Some (path_of (operation_of y))) (sym is)
 path_at (x ∷ os) (suc k) o less is = path_at os k o (omega arith) is
+path_at os k o less is = search rules
 
 refused_with : (fault : StepFault) (wanted : Result Data PatchErrorKind) (new : Data) (kind : PatchErrorKind) → fault ≡ step_refused kind → Steps {T = Unit {0}} (Err fault) wanted new → wanted ≡ Err kind
 refused_with fault wanted new kind is h = subst (λ f. Steps {T = Unit {0}} (Err f) wanted new) is h
@@ -83,12 +79,7 @@ refused_with fault wanted new kind is h = subst (λ f. Steps {T = Unit {0}} (Err
 -- the fault of a run names what the step refused
 pub reported_names : (U : Type 0) (out : PatchFault) (fault : StepFault) (d m new : Data) (os : List PatchOperation) (k : ℕ) (o : PatchOperation) → IsDocument d → AreWhole (operations os) → k < length os → IsAt os k o → IsState d os k m
     → Steps {T = Unit {0}} (Err fault) (stepped m (operation_of o)) new → Reports fault k (path_of (operation_of o)) out → IfRefused {T = U} (Err out) (NamesFirst d (operations os))
-reported_names U (Refused e) fault d m new os k o hd hv less is h s r =
-    let stepped_to = refused_with fault (stepped m (operation_of o)) new e.kind r.0 s in (
-      subst (λ n. RefusesAt d (operations os) n e.kind) (sym r.1) (state_refused d m e.kind os k o hd hv less is h stepped_to),
-      ap (λ n. option_map path_of (slice_get (operations os) n)) r.1 ∙ path_at os k o less is ∙ ap Some (sym r.2),
-    )
-reported_names U (Memory error) fault d m new os k o hd hv less is h s r = tt
+reported_names U out fault d m new os k o hd hv less is h s r = search (rules, refused_with, state_refused, path_at)
 
 -- ---- what a recorded run has recorded
 
@@ -98,9 +89,8 @@ IsRecorded d os k undo = reverse (operations undo) ≡ inverse d (take k (operat
 
 -- a list up to the item at k, and that item
 pub take_at : (os : List PatchOperation) (k : ℕ) (o : PatchOperation) → k < length os → IsAt os k o → take (suc k) (operations os) ≡ take k (operations os) ++ operation_of o ∷ []
-take_at [] k o less is = absurd (omega arith)
-take_at (x ∷ os) zero o less is = ap (λ y. operation_of y ∷ []) (sym is)
 take_at (x ∷ os) (suc k) o less is = ap (λ ops. operation_of x ∷ ops) (take_at os k o (omega arith) is)
+take_at os k o less is = search rules
 
 take_whole : (os : List PatchOperation) (k : ℕ) → AreWhole (operations os) → AreWhole (take k (operations os))
 take_whole os zero h = tt
@@ -119,16 +109,11 @@ recorded_more d m e os k o undo more hd hv less is h s wrote so_far =
     ∙ sym (ap (inverse d) (ap (λ n. take n (operations os)) (add-one k) ∙ take_at os k o less is))
 
 pub take_past : (os : List PatchOperation) (k : ℕ) → length os ≤ k → take k (operations os) ≡ operations os
-take_past [] zero le = refl
-take_past [] (suc k) le = refl
-take_past (x ∷ os) zero le = absurd (omega arith)
-take_past (x ∷ os) (suc k) le = ap (λ ops. operation_of x ∷ ops) (take_past os k (omega arith))
+take_past os k le = grind (arith, common_steps)
 
 operations-reverse : (os : List PatchOperation) → operations (reverse os) ≡ reverse (operations os)
 operations-reverse [] = refl
-operations-reverse (x ∷ os) =
-    ap operations (reverse-append (x ∷ []) os) ∙ map-append operation_of (reverse os) (x ∷ []) ∙ ap (λ ops. ops ++ operation_of x ∷ []) (operations-reverse os)
-    ∙ sym (reverse-append (operation_of x ∷ []) (operations os))
+operations-reverse (x ∷ os) = search (rules, reverse-append (x ∷ []) os, map-append operation_of (reverse os) (x ∷ []), reverse-append (operation_of x ∷ []) (operations os), operations-reverse os, reverse-append, map-append)
 
 pub record Records (d e : Data) (ops undo : List Operation) : Type 0 where
   pub inverse : IsInverse d ops undo
@@ -161,9 +146,8 @@ recorded_back d m os k undo hd hv h so_far =
 -- ---- a run that takes no memory
 
 pub in_place_at : (os : List PatchOperation) (k : ℕ) (o : PatchOperation) → k < length os → IsAt os k o → AreInPlace (operations os) → IsInPlace (operation_of o)
-in_place_at [] k o less is h = absurd (omega arith)
-in_place_at (x ∷ os) zero o less is h = subst (λ y. IsInPlace (operation_of y)) (sym is) h.0
 in_place_at (x ∷ os) (suc k) o less is h = in_place_at os k o (omega arith) is h.1
+in_place_at os k o less is h = search rules
 
 pub not_stopped : (fault : StepFault) (d m new e : Data) (os : List PatchOperation) (k : ℕ) (o : PatchOperation) → IsDocument d → AreWhole (operations os) → k < length os → IsAt os k o → IsState d os k m
     → Steps {T = Unit {0}} (Err fault) (stepped m (operation_of o)) new → (IsInPlace (operation_of o) → NeverShort {T = Unit {0}} (Err fault)) → AreInPlace (operations os) → Accepts d (operations os) e → ⊥

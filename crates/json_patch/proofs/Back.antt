@@ -1,5 +1,5 @@
 -- The inverse in the words of the definitions.
-use Rattle.std.proofs.Common.{◌≡◌, ◌≤◌, ◌*◌, ◌↔◌, ℕ, List, ◌++◌, length, Ok, Err, sym, ap, ◌∙◌, subst}
+use Rattle.std.proofs.Common.{◌≡◌, ◌≤◌, ◌*◌, ◌↔◌, ℕ, List, ◌++◌, length, Ok, Err, sym, subst, rules}
 use Rattle.serde_json.specs.Data.{Data}
 use Rattle.json_patch.specs.Document.{IsDocument, Step, look}
 use Rattle.json_patch.specs.Resolve.{Resolves}
@@ -15,7 +15,7 @@ use Rattle.json_patch.specs.InverseComputed.{block, inverse}
 use Rattle.json_patch.proofs.Resolved.{resolves_same}
 use Rattle.json_patch.proofs.Stepped.{leaves_stepped, stepped_leaves, refuses_stepped, stepped_refuses}
 use Rattle.json_patch.proofs.Runs.{accepts_ran, ran_accepts, refuses_ran, ran_refuses, accepts_split, accepts_joined, accepts_document}
-use Rattle.json_patch.proofs.Inverted.{block_back, block_whole, block_length, inverse_back, inverse_whole, inverse_length, inverse_joined, inverse_twice, whole_joined}
+use Rattle.json_patch.proofs.Inverted.{block_back, block_whole, inverse_back, inverse_whole, inverse_length, inverse_joined, inverse_twice, whole_joined}
 use Rattle.json_patch.proofs.Blocks.{block_is, block_only, inverse_is, inverse_only}
 
 -- ---- what is computed, both ways
@@ -44,44 +44,25 @@ module _ (d : Data) (op : Operation) (e : Data) (hd : IsDocument d) (hv : IsWhol
   block_exactly B = (λ g. sym (block_only d op B hd g), λ g. subst (IsBlock d op) g (block_is d op e hd hv h))
 
   pub block_leads_back : (B : List Operation) → IsBlock d op B → AreWhole B × (length B ≤ 2) × Accepts e B d
-  block_leads_back B g =
-      subst (λ X. AreWhole X × (length X ≤ 2) × Accepts e X d) (sym (block_only d op B hd g))
-      (block_whole d op e hd hv h, block_length op d, block_back d op e hd hv h)
+  block_leads_back B g = search (rules, block_only, block_whole, block_back)
 
 module _ (d : Data) (ops : List Operation) (hd : IsDocument d) (hv : AreWhole ops) where
   pub inverse_exactly : (e : Data) → Accepts d ops e → (I : List Operation) → IsInverse d ops I ↔ (inverse d ops ≡ I)
   inverse_exactly e h I = (λ g. sym (inverse_only d ops I hd hv g), λ g. subst (IsInverse d ops) g (inverse_is d ops e hd hv h))
 
   pub inverse_leads_back : (e : Data) (I : List Operation) → Accepts d ops e → IsInverse d ops I → AreWhole I × (length I ≤ 2 * length ops) × Accepts e I d
-  inverse_leads_back e I h g =
-      subst (λ X. AreWhole X × (length X ≤ 2 * length ops) × Accepts e X d) (sym (inverse_only d ops I hd hv g))
-      (inverse_whole d ops e hd hv h, inverse_length ops d, inverse_back d ops e hd hv h)
+  inverse_leads_back e I h g = search (rules, inverse_only, inverse_whole, inverse_length, inverse_back)
 
   -- the inverse of the inverse leads from the first document to the end
   pub inverse_again : (e : Data) (I J : List Operation) → Accepts d ops e → IsInverse d ops I → IsInverse e I J → Accepts d J e
-  inverse_again e I J h g k =
-      let i : I ≡ inverse d ops = inverse_only d ops I hd hv g in
-      let he : IsDocument e = accepts_document d ops e hd hv h in
-      let j : J ≡ inverse e (inverse d ops) = inverse_only e (inverse d ops) J he (inverse_whole d ops e hd hv h) (subst (λ X. IsInverse e X J) i k) in
-      subst (λ X. Accepts d X e) (sym j) (inverse_twice d ops e hd hv h)
+  inverse_again e I J h g k = search (rules, inverse_only, accepts_document, inverse_whole, inverse_twice)
 
 -- the inverse of a joined list is the inverse of the second part, which leads back to the state between, and then that of the first
 pub passes_back : (d : Data) (xs ys : List Operation) (m e : Data) (I : List Operation) → IsDocument d → AreWhole xs → AreWhole ys → Accepts d xs m → Accepts m ys e → IsInverse d (xs ++ ys) I
     → (J K : List Operation) × IsInverse m ys J × IsInverse d xs K × (I ≡ J ++ K) × Accepts e J m × Accepts m K d
-passes_back d xs ys m e I hd hx hy h g i =
-    let hm : IsDocument m = accepts_document d xs m hd hx h in (
-      inverse m ys,
-      inverse d xs,
-      inverse_is m ys e hm hy g,
-      inverse_is d xs m hd hx h,
-      inverse_only d (xs ++ ys) I hd (whole_joined xs ys hx hy) i ∙ inverse_joined d xs ys m hd hx h,
-      inverse_back m ys e hm hy g,
-      inverse_back d xs m hd hx h,
-    )
+passes_back d xs ys m e I hd hx hy h g i = search (rules, accepts_document, inverse_is, inverse_only, whole_joined, inverse_joined, inverse_back)
 
 -- ---- replace
 
 pub replace_elsewhere : (d : Data) (P : Pointer) (v e : Data) (L : List Step) (c : Data) (X : List Step) → IsReplaced d P v e → Resolves d P L c → ((R : List Step) → X ≡ L ++ R → ⊥) → look e X ≡ look d X
-replace_elsewhere d P v e L c X h r out =
-    let same : (L ≡ h.0) × (c ≡ h.1) = resolves_same d P L h.0 c h.1 r h.2 in
-    h.4.elsewhere X (λ R is. out R (is ∙ ap (λ M. M ++ R) (sym same.0)))
+replace_elsewhere d P v e L c X h r out = search (rules, resolves_same)

@@ -1,5 +1,6 @@
 -- A run that is about one part of the document changes that part alone, as the run without the shared beginning changes it.
-use Rattle.std.proofs.Common.{◌≡◌, ⊎_elim, ℕ, List, [], ◌∷◌, ◌++◌, append_assoc, length, drop, Bool, true, false, if◌then◌else◌, Option, Some, None, option_map, option_and_then, Result, Ok, Err, refl, sym, ap, ◌∙◌, subst}
+use Rattle.std.proofs.lemmas.Grind.{common_steps}
+use Rattle.std.proofs.Common.{◌≡◌, ⊎_elim, ℕ, List, [], ◌∷◌, ◌++◌, append_assoc, length, drop, Bool, if◌then◌else◌, Option, Some, None, option_map, option_and_then, Result, Ok, Err, refl, sym, ap, ◌∙◌, subst, rules, arith}
 use Rattle.std.proofs.lemmas.Option.{option_and_then_some}
 use Rattle.std.proofs.lemmas.Slice.Eq.{bytes_eq-Decides}
 use Rattle.serde_json.specs.Data.{Data}
@@ -53,8 +54,7 @@ replaced_document d S e x hd he is = (replaced_is d S e x hd he is).3
 
 over_map : (s : Step) (d c b : Data) (o : Option Data) → IsDocument d → IsDocument b → child s d ≡ Some c → ((a : Data) → o ≡ Some a → IsDocument a)
     → option_map (λ e. set_child s e (set_child s b d)) o ≡ option_map (λ e. set_child s e d) o
-over_map s d c b None hd hb is h = refl
-over_map s d c b (Some a) hd hb is h = ap Some (set_set s d c b a hd hb (h a refl) is)
+over_map s d c b o hd hb is h = search (rules, set_set)
 
 pub record Replaces (d : Data) (S : Pointer) (e x : Data) : Type 0 where
   pub found_there : found x S ≡ Some e
@@ -93,8 +93,7 @@ over d S o = option_and_then (λ e. replaced d S e) o
 
 altered_under : (f : Data → Option Data) (d : Data) (S P : Pointer) (b : Data) → found d S ≡ Some b → altered f d (S ++ P) ≡ over d S (altered f b P)
 unfolding over
-altered_under f d S P b at =
-    altered_append f d S P ∙ altered_walks (λ c. altered f c P) d S ∙ ap (option_and_then (λ p. option_and_then (λ q. replaced d S q) (altered f p P))) at
+altered_under f d S P b at = search (rules, altered_append, altered_walks, option_and_then)
 
 pub added_under : (d : Data) (S : Pointer) (t : List ℕ) (P : Pointer) (v b : Data) → found d S ≡ Some b → added d (S ++ t ∷ P) v ≡ over d S (added b (t ∷ P) v)
 added_under d S t P v b at =
@@ -112,17 +111,14 @@ found_under d S P b at = found_append d S P ∙ ap (option_and_then (λ p. found
 -- ---- a pointer that begins with S, and its rest
 
 pub strip : (T Q : Pointer) → drop (length T) (T ++ Q) ≡ Q
-strip [] Q = refl
-strip (t ∷ T) Q = strip T Q
+strip T Q = grind (arith, common_steps)
 
 pub with_one : (S : Pointer) (R : Pointer → Pointer → Type 0) → ((t : List ℕ) (P : Pointer) → R (S ++ t ∷ P) (t ∷ P)) → (P : Pointer) → IsProperPrefix S P → R P (drop (length S) P)
-with_one S R core P h =
-    subst (λ Q. R Q (drop (length S) Q)) (sym h.2) (subst (R (S ++ h.0 ∷ h.1)) (sym (strip S (h.0 ∷ h.1))) (core h.0 h.1))
+with_one S R core P h = search (rules, strip)
 
 pub with_two : (S : Pointer) (R : Pointer → Pointer → Pointer → Pointer → Type 0) → ((t : List ℕ) (F : Pointer) (u : List ℕ) (P : Pointer) → R (S ++ t ∷ F) (t ∷ F) (S ++ u ∷ P) (u ∷ P))
     → (F P : Pointer) → IsProperPrefix S F → IsProperPrefix S P → R F (drop (length S) F) P (drop (length S) P)
-with_two S R core F P g h =
-    with_one S (R F (drop (length S) F)) (λ u Q. with_one S (λ G H. R G H (S ++ u ∷ Q) (u ∷ Q)) (λ t G. core t G u Q) F g) P h
+with_two S R core F P g h = grind (arith, common_steps, with_one)
 
 -- ---- one step
 
@@ -133,8 +129,7 @@ lifted d S (Err kind) = Err kind
 
 lifted_or : (d : Data) (S : Pointer) (o : Option Data) → or_refused InvalidPointer (over d S o) ≡ lifted d S (or_refused InvalidPointer o)
 unfolding over lifted
-lifted_or d S None = refl
-lifted_or d S (Some e) = refl
+lifted_or d S o = search rules
 
 module _ (d : Data) (S : Pointer) (b : Data) (hd : IsDocument d) (at : found d S ≡ Some b) where
   there : IsDocument b
@@ -145,18 +140,15 @@ module _ (d : Data) (S : Pointer) (b : Data) (hd : IsDocument d) (at : found d S
 
   test_under : (t : Bool) → (if t then Ok d else Err TestFailed) ≡ lifted d S (if t then Ok b else Err TestFailed)
   unfolding lifted
-  test_under true = ap (or_refused InvalidPointer) (sym (replaced_itself d S b hd at))
-  test_under false = refl
+  test_under t = search (rules, replaced_itself)
 
   tested_under : (v : Data) (o : Option Data) → tested d v o ≡ lifted d S (tested b v o)
   unfolding lifted
-  tested_under v None = refl
-  tested_under v (Some w) = test_under (same w v)
+  tested_under v o = search (rules, test_under)
 
   copied_under : (t : List ℕ) (P : Pointer) (o : Option Data) → copied d (S ++ t ∷ P) o ≡ lifted d S (copied b (t ∷ P) o)
   unfolding lifted
-  copied_under t P None = refl
-  copied_under t P (Some v) = ap (or_refused InvalidPointer) (added_under d S t P v b at) ∙ lifted_or d S (added b (t ∷ P) v)
+  copied_under t P o = search (rules, added_under, lifted_or)
 
   -- what the part becomes when the value is put into what was left of it
   again_under : (m x : Data) (o : Option Data) → IsDocument m → replaced d S m ≡ Some x → ((e : Data) → o ≡ Some e → IsDocument e) → over x S o ≡ over d S o
@@ -167,19 +159,12 @@ module _ (d : Data) (S : Pointer) (b : Data) (hd : IsDocument d) (at : found d S
   moved_under : (t : List ℕ) (P : Pointer) (o p : Option Data) → ((v : Data) → o ≡ Some v → IsDocument v) → ((m : Data) → p ≡ Some m → IsDocument m)
       → moved (S ++ t ∷ P) o (over d S p) ≡ lifted d S (moved (t ∷ P) o p)
   unfolding over lifted
-  moved_under t P None p ho hp = refl
-  moved_under t P (Some v) None ho hp = refl
-  moved_under t P (Some v) (Some m) ho hp =
-      let x : (x : Data) × (replaced d S m ≡ Some x) = some_replaced m in
-      let r : Replaces d S m x.0 = replaces d S m x.0 hd (hp m refl) x.1 in
-      rw x.1 (ap (or_refused InvalidPointer) (added_under x.0 S t P v m r.found_there
-      ∙ again_under m x.0 (added m (t ∷ P) v) (hp m refl) x.1 (λ e is. IsAdded_document m (t ∷ P) v e (ho v refl) (added_is m (t ∷ P) v e (hp m refl) (ho v refl) is)))
-      ∙ lifted_or d S (added m (t ∷ P) v))
+  moved_under t P (Some v) (Some m) ho hp = search (rules, some_replaced m, replaces d S m, added_under, again_under m, IsAdded_document m (t ∷ P) v, added_is m (t ∷ P) v, lifted_or d S (added m (t ∷ P) v), some_replaced, replaces, again_under, IsAdded_document, added_is, lifted_or)
+  moved_under t P o p ho hp = search rules
 
   on_test : (c : Bool) (X Y : Result Data PatchErrorKind) → X ≡ lifted d S Y → (if c then Err CannotMoveInsideItself else X) ≡ lifted d S (if c then Err CannotMoveInsideItself else Y)
   unfolding lifted
-  on_test true X Y h = refl
-  on_test false X Y h = h
+  on_test c X Y h = search rules
 
   move_under : (t : List ℕ) (F : Pointer) (u : List ℕ) (P : Pointer) → stepped d (move (S ++ t ∷ F) (S ++ u ∷ P)) ≡ lifted d S (stepped b (move (t ∷ F) (u ∷ P)))
   move_under t F u P =
@@ -196,25 +181,15 @@ module _ (d : Data) (S : Pointer) (b : Data) (hd : IsDocument d) (at : found d S
       with_one S (λ Q R. stepped d (replace Q v) ≡ lifted d S (stepped b (replace R v)))
       (λ t Q. ap (or_refused InvalidPointer) (altered_under (λ c. Some v) d S (t ∷ Q) b at) ∙ lifted_or d S (replaced b (t ∷ Q) v)) P h
   stepped_under (move F P) h = with_two S (λ G H Q R. stepped d (move G Q) ≡ lifted d S (stepped b (move H R))) (λ t G u Q. move_under t G u Q) F P h.0 h.1
-  stepped_under (copy F P) h =
-      with_two S (λ G H Q R. stepped d (copy G Q) ≡ lifted d S (stepped b (copy H R)))
-      (λ t G u Q. ap (copied d (S ++ u ∷ Q)) (found_under d S (t ∷ G) b at) ∙ copied_under u Q (found b (t ∷ G))) F P h.0 h.1
+  stepped_under (copy F P) h = grind (arith, common_steps, with_two S, found_under d S, copied_under)
   stepped_under (test P v) h =
       with_one S (λ Q R. stepped d (test Q v) ≡ lifted d S (stepped b (test R v))) (λ t Q. ap (tested d v) (found_under d S (t ∷ Q) b at) ∙ tested_under v (found b (t ∷ Q))) P h
 
 -- ---- runs
 
-pub whole_stripped : (S : Pointer) (op : Operation) → IsWholeOp op → IsWholeOp (stripped S op)
-whole_stripped S (add P v) h = h
-whole_stripped S (remove P) h = h
-whole_stripped S (replace P v) h = h
-whole_stripped S (move F P) h = h
-whole_stripped S (copy F P) h = h
-whole_stripped S (test P v) h = h
-
 pub all_whole_stripped : (S : Pointer) (ops : List Operation) → AreWhole ops → AreWhole (stripped_all S ops)
 all_whole_stripped S [] h = tt
-all_whole_stripped S (op ∷ ops) h = (whole_stripped S op h.0, all_whole_stripped S ops h.1)
+all_whole_stripped S (op ∷ ops) h = ((search rules), all_whole_stripped S ops h.1)
 
 -- the run on d, by that on the document at S
 unfoldable pub RunsUnder : Data → Pointer → List Operation → Outcome → Type 0
@@ -224,8 +199,7 @@ RunsUnder d S ops (Err f) = ran d ops ≡ Err f
 counted_under : (d : Data) (S : Pointer) (b : Data) (op : Operation) (ops : List Operation) (m x : Data) (o : Outcome) → IsDocument d → IsDocument m → replaced d S m ≡ Some x → stepped d op ≡ Ok x
     → RunsUnder x S ops o → RunsUnder d S (op ∷ ops) (counted o)
 unfolding RunsUnder
-counted_under d S b op ops m x (Ok e) hd hm is step h =
-    (h.0, (h.1.0, sym ((replaces d S m x hd hm is).again e h.0) ∙ h.1.1, rw (step, h.1.2) refl))
+counted_under d S b op ops m x (Ok e) hd hm is step h = search (rules, replaces d S m x hd hm is, replaces)
 counted_under d S b op ops m x (Err (fault k kind)) hd hm is step h = rw (step, h) refl
 
 on_step : (d : Data) (S : Pointer) (b : Data) (op : Operation) (ops : List Operation) (r : Result Data PatchErrorKind) → IsDocument d → IsWholeOp op → found d S ≡ Some b → IsWithin S op → stepped b (stripped S op) ≡ r
@@ -233,14 +207,13 @@ on_step : (d : Data) (S : Pointer) (b : Data) (op : Operation) (ops : List Opera
 unfolding RunsUnder lifted
 on_step d S b op ops (Ok m) hd hv at within is more =
     let hb : IsDocument b = found_document d S b hd at in
-    let hs : IsWholeOp (stripped S op) = whole_stripped S op hv in
+    let hs : IsWholeOp (stripped S op) = (search rules) in
     let hm : IsDocument m = leaves_document b (stripped S op) m hb hs (stepped_leaves b (stripped S op) m hb hs is) in
     let x : (x : Data) × (replaced d S m ≡ Some x) = some_replaced d S b hd at m in
     let r : Replaces d S m x.0 = replaces d S m x.0 hd hm x.1 in
     let step : stepped d op ≡ Ok x.0 = stepped_under d S b hd at op within ∙ ap (lifted d S) is ∙ ap (or_refused InvalidPointer) x.1 in
     counted_under d S b op ops m x.0 (ran m (stripped_all S ops)) hd hm x.1 step (more x.0 m r.document r.found_there)
-on_step d S b op ops (Err kind) hd hv at within is more =
-    let step : stepped d op ≡ Err kind = stepped_under d S b hd at op within ∙ ap (lifted d S) is in rw step refl
+on_step d S b op ops (Err kind) hd hv at within is more = search (rules, stepped_under d S b hd at op within, stepped_under)
 
 pub ran_under : (d : Data) (S : Pointer) (b : Data) (ops : List Operation) → IsDocument d → AreWhole ops → found d S ≡ Some b → AreWithin S ops → RunsUnder d S ops (ran b (stripped_all S ops))
 unfolding RunsUnder

@@ -1,10 +1,10 @@
 -- The blocks and the inverse that are computed are those that the definitions name, and no others are.
-use Rattle.std.proofs.Common.{◌≡◌, inl, inr, ⊎_elim, ℕ, List, [], ◌∷◌, ◌++◌, bytes_eq, Option, Some, None, refl, sym, ap, ◌∙◌, subst}
+use Rattle.std.proofs.Common.{◌≡◌, inl, inr, ⊎_elim, ℕ, List, [], ◌∷◌, bytes_eq, Option, Some, None, refl, sym, ap, ◌∙◌, subst, rules, ◌++◌}
 use Rattle.serde_json.specs.Data.{Data, array, object, Items}
 use Rattle.jsonptr.specs.Text.{Pointer}
 use Rattle.jsonptr.specs.Places.{place_of, next_token}
 use Rattle.json_patch.specs.Document.{IsDocument, Step, key, place}
-use Rattle.json_patch.specs.Resolve.{Aims, HasTarget}
+use Rattle.json_patch.specs.Resolve.{Aims}
 use Rattle.json_patch.specs.Operation.{Operation, add, remove, replace, move, copy, test, IsWholeOp, AreWhole}
 use Rattle.json_patch.specs.Step.{Leaves}
 use Rattle.json_patch.specs.Run.{Accepts}
@@ -38,18 +38,14 @@ module _ (d : Data) (P : Pointer) where
 
 module _ (d : Data) (t : List ℕ) (P : Pointer) where
   takes_back : (p : Data) (s : Step) → Aims p (last_of t P) s → TakesBack d (t ∷ P) s (undo_in d (front_of t P) (last_of t P) (t ∷ P) (Some p))
-  takes_back (array ds) (place i) aims =
-      (front_of t P, last_of t P, settled_token (Some (array ds)) (last_of t P), split_whole t P, settled (last_of t P) ds i aims, refl)
+  takes_back (array ds) (place i) aims = search (rules, split_whole t P, settled (last_of t P) ds i aims, split_whole, settled)
   takes_back (object ms) (key k) aims = member_back d (t ∷ P) k (found d (t ∷ P)) refl
   takes_back p s aims = absurd aims
 
   back_only : (p : Data) (s : Step) (u : Operation) → Aims p (last_of t P) s → TakesBack d (t ∷ P) s u → u ≡ undo_in d (front_of t P) (last_of t P) (t ∷ P) (Some p)
-  back_only (array ds) (place i) u aims h =
-      let w : (h.0 ≡ front_of t P) × (h.1 ≡ last_of t P) = split_is t P h.0 h.1 h.3 in
-      h.5 ∙ ap (λ x. remove (x ++ h.2 ∷ [])) w.0 ∙ ap (λ x. remove (front_of t P ++ x ∷ [])) (settled_only (last_of t P) ds i h.2 aims h.4)
   back_only (object ms) (key k) u aims h =
       ⊎_elim (λ n. n.1 ∙ ap (undo_at (t ∷ P)) (sym (never_found d (t ∷ P) n.0))) (λ w. w.2 ∙ ap (undo_at (t ∷ P)) (sym (stands_found d (t ∷ P) w.0 w.1))) h
-  back_only p s u aims h = absurd aims
+  back_only p s u aims h = search (rules, split_is, settled_only)
 
 undoes_beyond : (d : Data) (t : List ℕ) (P : Pointer) (v e : Data) → added d (t ∷ P) v ≡ Some e → UndoesAdd d (t ∷ P) (undo_add d (t ∷ P))
 undoes_beyond d t P v e is =
@@ -67,22 +63,11 @@ undoes_is d [] v e is = refl
 undoes_is d (t ∷ P) v e is = undoes_beyond d t P v e is
 
 undoes_only : (d : Data) (P : Pointer) (u : Operation) → UndoesAdd d P u → u ≡ undo_add d P
-undoes_only d [] u h = h
-undoes_only d (t ∷ P) u h =
-    let g : HasTarget d (t ∷ P) h.0 h.1 = h.2 in
-    let w : (g.front ≡ front_of t P) × (g.last ≡ last_of t P) = split_is t P g.front g.last g.whole in
-    let at : found d (front_of t P) ≡ Some g.parent = ap (found d) (sym w.0) ∙ resolves_found d g.front h.0 g.parent g.resolves in
-    back_only d t P g.parent h.1 u (subst (λ x. Aims g.parent x h.1) w.1 g.aims) h.3
-    ∙ ap (undo_in d (front_of t P) (last_of t P) (t ∷ P)) (sym at)
+undoes_only d P u h = search (rules, split_is, resolves_found, back_only)
 
 -- ---- blocks
 
 pub block_is : (d : Data) (op : Operation) (e : Data) → IsDocument d → IsWholeOp op → Leaves d op e → IsBlock d op (block d op)
-block_is d (add P v) e hd hv h = (undo_add d P, undoes_is d P v e (added_exact d P v e hd hv h), refl)
-block_is d (remove P) e hd hv h =
-    let was : found d P ≡ Some h.2 = resolves_found d P _ h.2 h.3 in rw was (h.2, found_resolves d P h.2 was, refl)
-block_is d (replace P v) e hd hv h =
-    let was : found d P ≡ Some h.1 = resolves_found d P h.0 h.1 h.2 in rw was (h.1, (h.0, h.2), refl)
 block_is d (move F P) e hd hv h =
     let v = h.1.0 in let m = h.1.1 in
     let hw : IsDocument v = stands_document d F v hd h.1.2 in
@@ -91,7 +76,7 @@ block_is d (move F P) e hd hv h =
     (v, m, undo_add m P, h.1.2, h.1.3, undoes_is m P v e (added_exact m P v e hm hw h.1.4), refl)
 block_is d (copy F P) e hd hv h =
     (undo_add d P, undoes_is d P h.0 e (added_exact d P h.0 e hd (stands_document d F h.0 hd h.1) h.2), refl)
-block_is d (test P v) e hd hv h = refl
+block_is d op e hd hv h = search (rules, undoes_is, added_exact, resolves_found, found_resolves)
 
 pub block_only : (d : Data) (op : Operation) (B : List Operation) → IsDocument d → IsBlock d op B → B ≡ block d op
 block_only d (add P v) B hd h = h.2 ∙ ap (λ u. u ∷ []) (undoes_only d P h.0 h.1)

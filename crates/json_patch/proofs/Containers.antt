@@ -1,5 +1,5 @@
 -- What an edit makes of a container that holds values, and what it finds there.
-use Rattle.std.proofs.Common.{◌≡◌, ℕ, ◌<◌, ◌≤◌, List, [], ◌∷◌, length, set, get_or, Vec, vec_len, Option, Some, None, option_map, option_and_then, String, Global, string_bytes, refl, sym, ap, ◌∙◌, arith}
+use Rattle.std.proofs.Common.{◌≡◌, ℕ, ◌<◌, ◌≤◌, List, [], ◌∷◌, length, set, get_or, Vec, vec_len, Option, Some, None, option_map, option_and_then, String, Global, string_bytes, refl, sym, ap, ◌∙◌, arith, rules}
 use Rattle.std.specs.List.{insert, remove}
 use Rattle.std.specs.Map.{lookup, set_value, remove_entry}
 use Rattle.std.specs.BTreeMap.{insert_entry}
@@ -98,8 +98,7 @@ takes_no_member t es o none got = no_member t es o (λ s. option_map (λ c. drop
 
 pub swaps_member : (t : List ℕ) (es new : List Entry) (o : Option Value) (x v w : Value) → AreInOrder es → o ≡ Some x → o ≡ lookup (is_named t) es → new ≡ set_value (is_named t) es w → w ≡ v
     → altered (λ c. Some (view v)) (object (members_view es)) (t ∷ []) ≡ Some (object (members_view new))
-swaps_member t es new o x v w order some got is same =
-    rw (member_child t es o x some got, is, ← same) (ap (λ ms. Some (object ms)) (sym (members_view-set_value t es w x order (sym got ∙ some))))
+swaps_member t es new o x v w order some got is same = search (rules, member_child, members_view-set_value)
 
 pub swaps_no_member : (t : List ℕ) (es : List Entry) (o : Option Value) (d : Data) → o ≡ None → o ≡ lookup (is_named t) es → altered (λ c. Some d) (object (members_view es)) (t ∷ []) ≡ None
 swaps_no_member t es o d none got = no_member t es o (λ s. option_and_then (λ c. Some (set_child s d (object (members_view es)))) (child s (object (members_view es)))) (λ s h. goes_none (object (members_view es)) (λ r c. Some (set_child r d (object (members_view es)))) s h) none got

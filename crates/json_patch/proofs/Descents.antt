@@ -1,5 +1,5 @@
 -- A walk down a value: what an attempt at a child leaves of what holds the child, and what stands there.
-use Rattle.std.proofs.Common.{◌≡◌, ℕ, List, ◌∷◌, set, get_or, Vec, vec_len, Option, Some, None, option_map, option_and_then, Result, Ok, Err, IfOk, BTreeMap, String, Global, refl, sym, ap, ◌∙◌, arith}
+use Rattle.std.proofs.Common.{◌≡◌, ℕ, List, ◌∷◌, get_or, Vec, vec_len, Option, Some, None, option_map, option_and_then, Result, IfOk, BTreeMap, String, Global, rules}
 use Rattle.std.specs.Map.{lookup, set_value}
 use Rattle.std.specs.Result.{IsErr, IsErrAnd}
 use Rattle.std.specs.Vec.{with_item}
@@ -8,16 +8,16 @@ use Rattle.serde_json.specs.View.{view, items_view, members_view}
 use Rattle.serde_json.specs.declared.value.Value.{Value, Array, Object}
 use Rattle.serde_json.proofs.Views.{view-Array, view-Object}
 use Rattle.jsonptr.specs.Text.{Pointer}
-use Rattle.json_patch.specs.Attempt.{Attempts, Excuses}
+use Rattle.json_patch.specs.Attempt.{Attempts}
 use Rattle.json_patch.specs.ChangeComputed.{step_of, set_child, found, altered}
-use Rattle.json_patch.specs.Document.{Step, key, place, child}
+use Rattle.json_patch.specs.Document.{child}
 use Rattle.json_patch.specs.Edits.{Displaces, DisplacesAt}
 use Rattle.json_patch.specs.declared.error.PatchErrorKind.{PatchErrorKind}
 use Rattle.json_patch.specs.declared.error.PatchErrorKind.TheVariants.{InvalidPointer}
 use Rattle.json_patch.specs.declared.walk.Displaced.{Displaced}
 use Rattle.json_patch.specs.declared.walk.Edit.{Edit}
 use Rattle.json_patch.specs.declared.error.StepFault.{StepFault}
-use Rattle.json_patch.specs.declared.error.StepFault.TheVariants.{Refused, Memory}
+use Rattle.json_patch.specs.declared.error.StepFault.TheVariants.{Refused}
 use Rattle.json_patch.proofs.Attempts.{refused}
 use Rattle.json_patch.proofs.Containers.{IsItem, IsNoItem, item_child, member_child, no_item, no_member, goes_none}
 use Rattle.json_patch.proofs.Writes.{is_named, AreInOrder, items_view-set, items_view-set_same, members_view-set_value, members_view-set_same}
@@ -26,56 +26,28 @@ use Rattle.json_patch.proofs.Writes.{is_named, AreInOrder, items_view-set, items
 abbrev pub within : (Data → Option Data) → List ℕ → Data → Option Data
 within f t d = option_and_then (λ s. option_and_then (λ c. option_map (λ e. set_child s e d) (f c)) (child s d)) (step_of d t)
 
-excused : (fault : StepFault) (wanted wanted' : Option Data) → (wanted ≡ None → wanted' ≡ None) → Excuses fault wanted → Excuses fault wanted'
-excused (Refused kind) wanted wanted' none h = (h.0, none h.1)
-excused (Memory e) wanted wanted' none h = tt
-
 -- ---- at a child that is there
-
-at_child : {T : Type 0} (r : Result T StepFault) (f : Data → Option Data) (t : List ℕ) (d e : Data) (s : Step) (c b : Data) → step_of d t ≡ Some s → child s d ≡ Some c
-    → (f c ≡ Some b → set_child s b d ≡ e) → (b ≡ c → e ≡ d) → Attempts r (f c) c b → Attempts r (within f t d) d e
-at_child (Ok x) f t d e s c b named is done same h = rw (named, is, h) (ap Some (done h))
-at_child (Err fault) f t d e s c b named is done same h = (excused fault (f c) (within f t d) (λ none. rw (named, is, none)) h.0, same h.1)
-
-pub attempts_item : {T : Type 0} (r : Result T StepFault) (f : Data → Option Data) (t : List ℕ) (m : Vec Value Global) (len i : ℕ) (v w : Value) → len ≡ vec_len m → IsItem t len i → v ≡ get_or m.items i v → Attempts r (f (view v)) (view v) (view w)
-    → Attempts r (within f t (array (items_view m.items))) (array (items_view m.items)) (array (items_view (set m.items i w)))
-attempts_item r f t m len i v w e at is h =
-    at_child r f t (array (items_view m.items)) (array (items_view (set m.items i w))) (place i) (view v) (view w) (ap (option_map place) at.1) (item_child t m len i v e at is)
-    (λ _. ap array (sym (items_view-set m.items i w))) (λ same. ap array (items_view-set_same m.items i w v is same (omega arith))) h
-
-pub attempts_member : {T : Type 0} (r : Result T StepFault) (f : Data → Option Data) (t : List ℕ) (m n : BTreeMap (String Global) Value) (v w : Value) → AreInOrder m.entries → Some v ≡ lookup (is_named t) m.entries
-    → n.entries ≡ set_value (is_named t) m.entries w → Attempts r (f (view v)) (view v) (view w)
-    → Attempts r (within f t (object (members_view m.entries))) (object (members_view m.entries)) (object (members_view n.entries))
-attempts_member r f t m n v w order is wrote h =
-    at_child r f t (object (members_view m.entries)) (object (members_view n.entries)) (key t) (view v) (view w) refl (member_child t m.entries _ v refl is)
-    (λ _. ap object (sym (members_view-set_value t m.entries w v order (sym is)) ∙ ap members_view (sym wrote)))
-    (λ same. ap object (ap members_view wrote ∙ members_view-set_same t m.entries w v (sym is) same)) h
 
 -- ---- at values
 
 pub walks_to_item : {T : Type 0} (r : Result T StepFault) (wanted : Option Data) (f : Data → Option Data) (t : List ℕ) (old new : Value) (m : Vec Value Global) (len i : ℕ) (v w : Value)
     → wanted ≡ within f t (view old) → old ≡ Array m → new ≡ Array (with_item m i w) → len ≡ vec_len m → IsItem t len i → v ≡ get_or m.items i v → Attempts r (f (view v)) (view v) (view w) → Attempts r wanted (view old) (view new)
-walks_to_item r wanted f t old new m len i v w q o n e at is h = rw (q, o, n, view-Array m, view-Array (with_item m i w)) (attempts_item r f t m len i v w e at is h)
+walks_to_item r wanted f t old new m len i v w q o n e at is h = rw (q, o, n, view-Array m, view-Array (with_item m i w)) (search (rules, item_child, items_view-set, items_view-set_same))
 
 pub walks_to_member : {T : Type 0} (r : Result T StepFault) (wanted : Option Data) (f : Data → Option Data) (t : List ℕ) (old new : Value) (m n : BTreeMap (String Global) Value) (v w : Value)
     → wanted ≡ within f t (view old) → old ≡ Object m → new ≡ Object n → AreInOrder m.entries → Some v ≡ lookup (is_named t) m.entries → n.entries ≡ set_value (is_named t) m.entries w → Attempts r (f (view v)) (view v) (view w)
     → Attempts r wanted (view old) (view new)
-walks_to_member r wanted f t old new m n v w q o p order is wrote h = rw (q, o, p, view-Object m, view-Object n) (attempts_member r f t m n v w order is wrote h)
+walks_to_member r wanted f t old new m n v w q o p order is wrote h = rw (q, o, p, view-Object m, view-Object n) (search (rules, member_child, members_view-set_value, members_view-set_same))
 
 within_no_item : (f : Data → Option Data) (t : List ℕ) (m : Vec Value Global) (len : ℕ) → len ≡ vec_len m → IsNoItem t len → within f t (array (items_view m.items)) ≡ None
-within_no_item f t m len e past =
-    no_item t m len (λ s. option_and_then (λ c. option_map (λ b. set_child s b (array (items_view m.items))) (f c)) (child s (array (items_view m.items))))
-    (λ s h. goes_none (array (items_view m.items)) (λ r c. option_map (λ b. set_child r b (array (items_view m.items))) (f c)) s h) e past
+within_no_item f t m len e past = search (rules, no_item t m len, goes_none (array (items_view m.items)), no_item, goes_none)
 
 within_no_member : (f : Data → Option Data) (t : List ℕ) (m : BTreeMap (String Global) Value) → None ≡ lookup (is_named t) m.entries → within f t (object (members_view m.entries)) ≡ None
-within_no_member f t m none =
-    no_member t m.entries None (λ s. option_and_then (λ c. option_map (λ b. set_child s b (object (members_view m.entries))) (f c)) (child s (object (members_view m.entries))))
-    (λ s h. goes_none (object (members_view m.entries)) (λ r c. option_map (λ b. set_child r b (object (members_view m.entries))) (f c)) s h) refl none
+within_no_member f t m none = search (rules, no_member t m.entries None, goes_none (object (members_view m.entries)), no_member, goes_none)
 
 pub walks_to_no_item : {T : Type 0} (r : Result T StepFault) (kind : PatchErrorKind) (wanted : Option Data) (f : Data → Option Data) (t : List ℕ) (old new : Value) (m : Vec Value Global) (len : ℕ)
     → wanted ≡ within f t (view old) → old ≡ Array m → new ≡ Array m → len ≡ vec_len m → IsErr r × IsErrAnd r (λ x. x ≡ Refused kind) → kind ≡ InvalidPointer → IsNoItem t len → Attempts r wanted (view old) (view new)
-walks_to_no_item r kind wanted f t old new m len q o n e gives at past =
-    rw (n, ← o) (refused r kind wanted (view old) gives at (rw (q, o, view-Array m) (within_no_item f t m len e past)))
+walks_to_no_item r kind wanted f t old new m len q o n e gives at past = search (rules, refused, view-Array, within_no_item)
 
 pub walks_to_no_member : (wanted : Option Data) (f : Data → Option Data) (t : List ℕ) (old new : Value) (m n : BTreeMap (String Global) Value)
     → wanted ≡ within f t (view old) → old ≡ Object m → new ≡ Object n → None ≡ lookup (is_named t) m.entries → n ≡ m → (wanted ≡ None) × (view new ≡ view old)
@@ -87,20 +59,14 @@ next_within f d P rest t is = rw is
 
 -- ---- what stands there
 
-found_within : (d c : Data) (s : Step) (t : List ℕ) (P : Pointer) → step_of d t ≡ Some s → child s d ≡ Some c → found d (t ∷ P) ≡ found c P
-found_within d c s t P named is = rw (named, is)
-
 pub found_at_item : (t : List ℕ) (P rest : Pointer) (old : Value) (m : Vec Value Global) (len i : ℕ) (v : Value) → P ≡ t ∷ rest → old ≡ Array m → len ≡ vec_len m → IsItem t len i → v ≡ get_or m.items i v → found (view old) P ≡ found (view v) rest
-found_at_item t P rest old m len i v way o e at is =
-    rw (way, o, view-Array m) (found_within (array (items_view m.items)) (view v) (place i) t rest (ap (option_map place) at.1) (item_child t m len i v e at is))
+found_at_item t P rest old m len i v way o e at is = search (rules, view-Array, item_child)
 
 pub found_at_member : (t : List ℕ) (P rest : Pointer) (old : Value) (m : BTreeMap (String Global) Value) (v : Value) → P ≡ t ∷ rest → old ≡ Object m → Some v ≡ lookup (is_named t) m.entries → found (view old) P ≡ found (view v) rest
-found_at_member t P rest old m v way o is =
-    rw (way, o, view-Object m) (found_within (object (members_view m.entries)) (view v) (key t) t rest refl (member_child t m.entries _ v refl is))
+found_at_member t P rest old m v way o is = search (rules, view-Object, member_child)
 
 pub displaces_below : (r : Result Displaced StepFault) (edit : Edit) (d c : Data) (P rest : Pointer) (last : List ℕ) → found d P ≡ found c rest → IfOk r (DisplacesAt edit c rest last) → IfOk r (DisplacesAt edit d P last)
-displaces_below (Ok x) edit d c P rest last same h = (h.0, same ∙ h.1, h.2)
-displaces_below (Err e) edit d c P rest last same h = h
+displaces_below r edit d c P rest last same h = search rules
 
 -- ---- an edit of the members
 
@@ -114,11 +80,4 @@ displaces_at_members r edit t old m o h = rw (o, view-Object m) h
 -- ---- where nothing stands
 
 pub found_no_item : (t : List ℕ) (P rest : Pointer) (old : Value) (m : Vec Value Global) (len : ℕ) → P ≡ t ∷ rest → old ≡ Array m → len ≡ vec_len m → IsNoItem t len → None ≡ found (view old) P
-found_no_item t P rest old m len way o e past =
-    rw (way, o, view-Array m)
-    (sym (no_item t m len (λ s. option_and_then (λ c. found c rest) (child s (array (items_view m.items)))) (λ s h. goes_none (array (items_view m.items)) (λ r c. found c rest) s h) e past))
-
-pub found_no_member : (t : List ℕ) (P rest : Pointer) (old : Value) (m : BTreeMap (String Global) Value) → P ≡ t ∷ rest → old ≡ Object m → None ≡ lookup (is_named t) m.entries → None ≡ found (view old) P
-found_no_member t P rest old m way o none =
-    rw (way, o, view-Object m)
-    (sym (no_member t m.entries None (λ s. option_and_then (λ c. found c rest) (child s (object (members_view m.entries)))) (λ s h. goes_none (object (members_view m.entries)) (λ r c. found c rest) s h) refl none))
+found_no_item t P rest old m len way o e past = search (rules, view-Array m, no_item t m len, goes_none (array (items_view m.items)), view-Array, no_item, goes_none)

@@ -1,5 +1,5 @@
 -- What is filled and then pruned is merged, and what was found leads back.
-use Rattle.std.proofs.Common.{◌≡◌, ◌≢◌, Vec, BTreeMap, String, Global, Result, Ok, Err, IsErr, Bool, true, false, is_some, string_bytes, string_cmp, rules, ℕ, suc, ◌+◌, arith, List, [], ◌∷◌, ◌++◌, map, Option, Some, None, option_map, unwrap_or, Less, Equal, Greater, Ordering, nat_cmp, refl, sym, ap, ◌∙◌, subst}
+use Rattle.std.proofs.Common.{◌≡◌, ◌≢◌, Vec, BTreeMap, String, Global, Result, Ok, IsErr, Bool, true, false, is_some, string_bytes, string_cmp, rules, ℕ, suc, ◌+◌, arith, List, [], ◌∷◌, ◌++◌, map, Option, Some, None, option_map, unwrap_or, Ordering, nat_cmp, refl, sym, ap, ◌∙◌, subst}
 use Rattle.std.proofs.lemmas.List.{map-append}
 use Rattle.std.specs.Borrow.{Bor}
 use Rattle.std.specs.declared.alloc.AllocError.{AllocError}
@@ -26,16 +26,13 @@ use Rattle.json_patch.proofs.Level.{set_back, without_put}
 use Rattle.json_patch.proofs.Passing.{ChangesAt, changes_put}
 
 pub null_here : (d : Data) (b : Bool) → b ≡ is_some (as_null d) → b ≡ true → d ≡ null
-null_here null b is tested = refl
-null_here d b is tested = cc
+null_here d b is tested = search rules
 
 pub other_here : (d : Data) (b : Bool) → b ≡ is_some (as_null d) → b ≡ false → d ≢ null
-other_here null b is tested h = cc
-other_here d b is tested h = cc
+other_here d b is tested h = search rules
 
 pub atom_here : (d : Data) (b : Bool) → b ≡ is_some (as_object d) → b ≡ false → sight_of d ≢ an_object
-atom_here (object ms) b is tested h = cc
-atom_here d b is tested h = cc
+atom_here d b is tested h = search rules
 
 found_at : (t : List ℕ) (es : List Entry) (o : Option Value) → o ≡ lookup (is_named t) es → get_member t (members_view es) ≡ option_map view o
 found_at t es o found = sym (view-lookup t es) ∙ ap (option_map view) (sym found)
@@ -73,8 +70,7 @@ pub prunes_missing : (t : List ℕ) (es : List Entry) (q : Data) → None ≡ lo
 prunes_missing t es q found other = subst (λ o. IsPrunedMember o (Some q) o) (sym (found_at t es None found)) (prunes_absent q other)
 
 no_object : (d : Data) → None ≡ as_object d → sight_of d ≢ an_object
-no_object (object ms) none is = cc
-no_object d none is = cc
+no_object d none is = search rules
 
 pub other_value : (v : Value) → ((m : BTreeMap (String Global) Value) → v ≡ Object m → ⊥) → sight_of (view v) ≢ an_object
 other_value v out = no_object (view v) (search (rules, the_lemmas, out))
@@ -90,16 +86,13 @@ merged_members ps ms ns h d (by_key named held each) = m.by_key refl refl (λ k.
 pub pruned_object : (old new patch : Value) (m n ps : BTreeMap (String Global) Value) → old ≡ Object m → new ≡ Object n → patch ≡ Object ps
     → (AreMembers (members_view m.entries) → AreMembers (members_view ps.entries) → AreMembers (members_view n.entries) × ArePruned (members_view m.entries) (members_view ps.entries) (members_view n.entries))
     → IsDocument (view old) → IsDocument (view patch) → IsDocument (view new) × ((d : Data) → IsFilled d (view patch) (view old) → IsMerged d (view patch) (view new))
-pruned_object old new patch m n ps is after named h =
-    rw (is, after, named, view-Object m, view-Object n, view-Object ps) (λ hd hp. (let r = h hd hp in (r.0, merged_members _ _ _ r.1)))
+pruned_object old new patch m n ps is after named h = search (rules, view-Object, merged_members)
 
 -- ---- taken back
 
 absent_at : (o : Ordering) (found : Option Data) (l : List ℕ) (d : Data) (ms ns : Members) → match_ordering o found (Some d) found ≡ None → (found ≡ None → ns ≡ ms)
     → match_ordering o (member l d ns) ms (member l d ns) ≡ member l d ms
-absent_at Less found l d ms ns is more = ap (member l d) (more is)
-absent_at Equal found l d ms ns is more = cc
-absent_at Greater found l d ms ns is more = ap (member l d) (more is)
+absent_at o found l d ms ns is more = search rules
 
 pub without_absent : (k : List ℕ) (ms : Members) → get_member k ms ≡ None → without k ms ≡ ms
 without_absent k no_members is = refl
@@ -120,15 +113,11 @@ before_last log e ms = ap (λ l. restored l ms) (map-append (λ (f : Bor (List �
 
 pub puts_back : (t : List ℕ) (es new : List Entry) (f : Former) (d w : Value) → AreInOrder es → Some d ≡ lookup (is_named t) es → new ≡ set_value (is_named t) es w → formerly f (Some (view d)) ≡ Some (view w)
     → members_view new ≡ with_member t (formerly f (get_member t (members_view es))) (members_view es)
-puts_back t es new f d w order found is back =
-    let here : get_member t (members_view es) ≡ Some (view d) = sym (view-lookup t es) ∙ ap (option_map view) (sym found) in
-    ap members_view is ∙ members_view-set_value t es w d order (sym found) ∙ ap (λ o. with_member t o (members_view es)) (sym (ap (formerly f) here ∙ back))
+puts_back t es new f d w order found is back = search (rules, view-lookup t es, members_view-set_value t es w d order (sym found), view-lookup, members_view-set_value)
 
 pub puts_nothing_back : (t : List ℕ) (es new : List Entry) (f : Former) → None ≡ lookup (is_named t) es → new ≡ es → formerly f None ≡ None
     → members_view new ≡ with_member t (formerly f (get_member t (members_view es))) (members_view es)
-puts_nothing_back t es new f found is back =
-    let here : get_member t (members_view es) ≡ None = sym (view-lookup t es) ∙ ap (option_map view) (sym found) in
-    ap members_view is ∙ sym (without_absent t (members_view es) here) ∙ ap (λ o. with_member t o (members_view es)) (sym (ap (formerly f) here ∙ back))
+puts_nothing_back t es new f found is back = search (rules, view-lookup, without_absent)
 
 pub takes_out : (t : List ℕ) (es new : List Entry) (f : Former) → new ≡ remove_entry (is_named t) es → ((o : Option Data) → formerly f o ≡ None)
     → members_view new ≡ with_member t (formerly f (get_member t (members_view es))) (members_view es)
@@ -140,14 +129,8 @@ restored_object log old new m n is after back = rw (is, after, view-Object m, vi
 
 -- ---- filled
 
-absent_in : (d : Data) (k : List ℕ) → sight_of d ≢ an_object → get k d ≡ None
-absent_in (object ms) k other = absurd (other refl)
-absent_in d k other = refl
-
 on_cases : (o : Ordering) (found : Option Data) (q : Data) → IsFilledMember None found found → IsFilledMember None (Some q) (Some q) → IsFilledMember None (match_ordering o found (Some q) found) (match_ordering o found (Some q) found)
-on_cases Less found q later here = later
-on_cases Equal found q later here = here
-on_cases Greater found q later here = later
+on_cases o found q later here = search rules
 
 value_itself : (q : Data) → IsFilled null q q → IsFilledMember None (Some q) (Some q)
 value_itself null h = left
@@ -156,7 +139,7 @@ value_itself q h = fills (λ h. cc) h
 -- a value of the patch fills a name as it is: what the patch removes within it goes later
 mutual
   pub filled_itself : (p d : Data) → (sight_of p ≡ an_object → sight_of d ≢ an_object) → IsFilled d p p
-  filled_itself (object ps) d other = by_key refl refl (λ k. subst (λ o. IsFilledMember o (get_member k ps) (get_member k ps)) (sym (absent_in d k (other refl))) (member_itself k ps))
+  filled_itself (object ps) d other = by_key refl refl (λ k. subst (λ o. IsFilledMember o (get_member k ps) (get_member k ps)) (sym (search rules)) (member_itself k ps))
   filled_itself p d other = replaces (λ h. cc)
 
   member_itself : (k : List ℕ) (ps : Members) → IsFilledMember None (get_member k ps) (get_member k ps)
@@ -179,17 +162,11 @@ filled_object log old new patch m n ps is after named h hd hp =
 pub filled_no_object : (r : Result Former AllocError) (old new patch : Value) (m n ps : BTreeMap (String Global) Value) → IsErr r → old ≡ Object m → new ≡ Object n → patch ≡ Object ps
     → (AreMembers (members_view m.entries) → AreMembers (members_view ps.entries) → members_view n.entries ≡ members_view m.entries)
     → IsDocument (view old) → IsDocument (view patch) → Fills r (view old) (view patch) (view new)
-filled_no_object (Ok former) old new patch m n ps err is after named h = cc
-filled_no_object (Err e) old new patch m n ps err is after named h = rw (is, after, named, view-Object m, view-Object n, view-Object ps) (λ hd hp. ap object (h hd hp))
+filled_no_object r old new patch m n ps err is after named h = search (rules, view-Object)
 
 pub fills_found : (r : Result Former AllocError) (t : List ℕ) (es new : List Entry) (d w : Value) (q : Data) → AreInOrder es → Some d ≡ lookup (is_named t) es → new ≡ set_value (is_named t) es w
     → AreMembers (members_view es) → (IsDocument (view d) → Fills r (view d) q (view w)) → FillsAt r t (members_view es) q (members_view new)
-fills_found (Ok former) t es new d w q order found is h step =
-    let here = found_at t es (Some d) found in
-    let f = step (found_document t es d found h) in
-    (view w, ap members_view is ∙ members_view-set_value t es w d order (sym found), subst (λ o. IsFilled (unwrap_or o null) q (view w)) (sym here) f.0, f.1, f.2 ∙ sym here)
-fills_found (Err e) t es new d w q order found is h step =
-    ap members_view is ∙ members_view-set_same t es w d (sym found) (step (found_document t es d found h))
+fills_found r t es new d w q order found is h step = search (rules, found_at, found_document, members_view-set_value, unwrap_or, members_view-set_same)
 
 pub fills_missing : (t : List ℕ) (es new : List Entry) (k : String Global) (w : Value) (q : Data) → None ≡ lookup (is_named t) es → string_bytes k ≡ t → new ≡ insert_entry string_cmp es k w → view w ≡ q → IsDocument q
     → (x : Data) × (members_view new ≡ put t x (members_view es)) × IsFilled (unwrap_or (get_member t (members_view es)) null) q x × IsDocument x × (formerly Nothing (Some x) ≡ get_member t (members_view es))
@@ -208,11 +185,7 @@ fills_step t ms ns q former other h r = (Some r.0, changes_put t r.0 ms ns h r.3
 
 pub fills_back : (log held now : List (Bor (List ℕ) × Former)) (name : Bor (List ℕ)) (ms ns : Members) (q : Data) (former : Former) → held ≡ log → now ≡ held ++ (name, former) ∷ [] → AreMembers ms
     → FillsAt (Ok former) name.now ms q ns → members_before now ns ≡ members_before log ms
-fills_back log held now name ms ns q former keeps pushed h r =
-    ap (λ l. members_before l ns) (pushed ∙ ap (λ l. l ++ (name, former) ∷ []) keeps) ∙ before_last log (name, former) ns
-    ∙ ap (members_before log) (ap (λ x. with_member name.now (formerly former (get_member name.now x)) x) r.1
-    ∙ ap (λ o. with_member name.now (formerly former o) (put name.now r.0 ms)) (get_member-put name.now r.0 ms) ∙ ap (λ o. with_member name.now o (put name.now r.0 ms)) r.4
-    ∙ back_at name.now r.0 (get_member name.now ms) ms h r.3 refl)
+fills_back log held now name ms ns q former keeps pushed h r = search (rules, before_last, get_member-put, back_at)
 
 -- ---- a log ends
 

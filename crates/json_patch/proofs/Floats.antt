@@ -1,11 +1,11 @@
 -- A document has no float, and a value with none that a program holds is a document: what a map's order and a number's
 -- range give.
-use Rattle.std.proofs.Common.{◌≡◌, List, [], ◌∷◌, String, Global, Less, Bool, true, false, not, string_bytes, ◌↔◌, IsTrue, refl, ap, ◌∙◌, subst}
+use Rattle.std.proofs.Common.{◌≡◌, List, [], ◌∷◌, String, Global, Less, Bool, true, false, not, string_bytes, ◌↔◌, IsTrue, refl, ap, ◌∙◌, subst, rules}
 use Rattle.std.specs.List.{AllByRecursion}
 use Rattle.std.specs.List.Sorted.{IsStrictlySortedBy}
 use Rattle.std.specs.Map.{keys_of}
 use Rattle.std.specs.String.{string_cmp}
-use Rattle.serde_json.specs.Data.{Num, unsigned, negative, float, Data, null, boolean, number, string, array, object, Items, no_items, item, Members, no_members, member}
+use Rattle.serde_json.specs.Data.{Num, Data, array, object, Items, no_items, item, Members, no_members, member}
 use Rattle.serde_json.specs.Find.{is_float}
 use Rattle.serde_json.specs.View.{view, members_view}
 use Rattle.serde_json.specs.Written.{has_float, items_have_float, members_have_float}
@@ -13,18 +13,13 @@ use Rattle.serde_json.proofs.Views.{Entry}
 use Rattle.json_patch.specs.Document.{IsWhole, IsDocument, AreDocuments, IsBelowMembers, AreMembers}
 
 whole : (n : Num) → IsWhole n → is_float n ≡ false
-whole (unsigned n) h = refl
-whole (negative z) h = refl
-whole (float x) h = absurd h
+whole n h = search rules
 
 mutual
   pub no_float : (d : Data) → IsDocument d → has_float d ≡ false
-  no_float null h = refl
-  no_float (boolean b) h = refl
-  no_float (number n) h = whole n h
-  no_float (string s) h = refl
   no_float (array ds) h = items_no_float ds h
   no_float (object ms) h = members_no_float ms h
+  no_float d h = search rules
 
   items_no_float : (ds : Items) → AreDocuments ds → items_have_float ds ≡ false
   items_no_float no_items h = refl
@@ -49,8 +44,7 @@ unfolding IsStrictlySortedBy
 members_more e es left is h here later = rw is (below e.0 es (subst (λ xs. IsStrictlySortedBy string_cmp (keys_of xs)) is h).0, here, later)
 
 whole_here : (b c : Bool) → true ≡ not b → c ≡ true → b ≡ false
-whole_here true c h g = cc
-whole_here false c h g = refl
+whole_here b c h g = search rules
 
 pub float_more : (e : Entry) (es left : List Entry) → left ≡ e ∷ es → true ≡ not (has_float (view e.1)) → members_have_float (members_view left) ≡ members_have_float (members_view es)
 float_more e es left is h = rw (is, whole_here (has_float (view e.1)) true h refl)

@@ -1,5 +1,5 @@
 -- What is found at a pointer stands at the location to which it resolves.
-use Rattle.std.proofs.Common.{◌≡◌, ℕ, List, [], ◌∷◌, Option, Some, None, IfNone, IfSome, ap, sym, ◌∙◌, option_map}
+use Rattle.std.proofs.Common.{◌≡◌, ℕ, List, [], ◌∷◌, Option, Some, IfNone, IfSome, option_map, rules}
 use Rattle.std.proofs.lemmas.Option.{option_and_then_some}
 use Rattle.std.specs.Prelude.{◌↔◌}
 use Rattle.serde_json.specs.Data.{Data}
@@ -7,34 +7,28 @@ use Rattle.json_patch.specs.Document.{Step, child, standing}
 use Rattle.json_patch.specs.Resolve.{Resolves, StandsAt}
 use Rattle.json_patch.specs.Step.{Never}
 use Rattle.json_patch.specs.ChangeComputed.{step_of, found}
-use Rattle.json_patch.proofs.Resolved.{step_names, names_step}
+use Rattle.json_patch.proofs.Resolved.{names_step}
 
 pub found_resolves : (d : Data) (P : List (List ℕ)) (c : Data) → found d P ≡ Some c → (L : List Step) × Resolves d P L c
 found_resolves d [] c is = ([], cc)
 found_resolves d (t ∷ P) c is =
     option_and_then_some _ (step_of d t) c is (λ s named more.
     option_and_then_some _ (child s d) c more (λ e stands rest.
-    (let i : (L : List Step) × Resolves e P L c = found_resolves e P c rest in (s ∷ i.0, (e, step_names d t s named, stands, i.1)))))
+    (let i : (L : List Step) × Resolves e P L c = found_resolves e P c rest in (s ∷ i.0, (e, (search rules), stands, i.1)))))
 
 pub resolves_found : (d : Data) (P : List (List ℕ)) (L : List Step) (c : Data) → Resolves d P L c → found d P ≡ Some c
-resolves_found d [] [] c h = ap Some h
 resolves_found d (t ∷ P) (s ∷ L) c h = rw (names_step d t s h.1, h.2) (resolves_found h.0 P L c h.3)
-resolves_found d [] (s ∷ L) c h = absurd h
-resolves_found d (t ∷ P) [] c h = absurd h
+resolves_found d P L c h = search rules
 
 pub resolves_standing : (d : Data) (P : List (List ℕ)) (L : List Step) (c : Data) → Resolves d P L c → standing d L ≡ Some c
-resolves_standing d [] [] c h = ap Some h
 resolves_standing d (t ∷ P) (s ∷ L) c h = rw h.2 (resolves_standing h.0 P L c h.3)
-resolves_standing d [] (s ∷ L) c h = absurd h
-resolves_standing d (t ∷ P) [] c h = absurd h
+resolves_standing d P L c h = search rules
 
 pub found_computed : (d : Data) (P : List (List ℕ)) (c : Data) → StandsAt d P c ↔ (found d P ≡ Some c)
 found_computed d P c = (λ h. resolves_found d P h.0 c h.1, found_resolves d P c)
 
 pub some_stands : {A : Type 0} (f : A → Data) (r : Option A) (d : Data) (P : List (List ℕ)) → option_map f r ≡ found d P → IfSome r (λ v. StandsAt d P (f v))
-some_stands f (Some v) d P is = found_resolves d P (f v) (sym is)
-some_stands f None d P is = tt
+some_stands f r d P is = search (rules, found_resolves)
 
 pub none_stands : {A : Type 0} (f : A → Data) (r : Option A) (d : Data) (P : List (List ℕ)) → option_map f r ≡ found d P → IfNone r (Never (StandsAt d P))
-none_stands f (Some v) d P is = tt
-none_stands f None d P is = λ e h. let wrong : None ≡ Some e = is ∙ resolves_found d P h.0 e h.1 in cc
+none_stands f r d P is = search (rules, resolves_found)

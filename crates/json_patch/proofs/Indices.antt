@@ -1,56 +1,39 @@
 -- The item that a token names, and the place at which it puts a new one, by the index that is read of it.
-use Rattle.std.proofs.Common.{◌≡◌, ◌≢◌, ℕ, ◌<◌, ◌≤◌, ◌^◌, List, true, false, if◌then◌else◌, leb, bytes_eq, Option, Some, None, option_and_then, Result, Ok, Err, MatchResult, refl, sym, ap, ◌∙◌, arith}
+use Rattle.std.proofs.Common.{◌≡◌, ◌≢◌, ℕ, ◌<◌, ◌≤◌, List, Bool, true, false, leb, bytes_eq, Some, None, Result, MatchResult, ap, ◌∙◌, arith, rules}
 use Rattle.std.proofs.lemmas.Bool.Decides.{nat_tests}
 use Rattle.std.proofs.lemmas.Slice.Eq.{bytes_eq-Decides}
 use Rattle.std.specs.Result.{IsErr, IsErrAnd}
-use Rattle.jsonptr.specs.Indexes.{IsIndexText, IsNoIndexText, place_in}
+use Rattle.jsonptr.specs.Indexes.{IsIndexText, place_in}
 use Rattle.jsonptr.specs.PlaceLaws.{next_is_no_place}
 use Rattle.jsonptr.specs.Places.{place_of, next_token}
 use Rattle.jsonptr.specs.declared.index.Index.{Index}
-use Rattle.jsonptr.specs.declared.index.Index.TheVariants.{Num, Next}
 use Rattle.json_patch.specs.ChangeComputed.{slot_in}
 use Rattle.json_patch.specs.declared.error.PatchErrorKind.{PatchErrorKind}
 use Rattle.json_patch.specs.declared.error.PatchErrorKind.TheVariants.{InvalidPointer}
-use Rattle.json_patch.proofs.Containers.{IsItem, IsNoItem}
-use Rattle.json_patch.proofs.Slots.{fits, not_next, place_is_not_next}
+use Rattle.json_patch.proofs.Containers.{IsNoItem}
 
 -- a refusal that `?` made of an index's
 pub refused : (r : Result ℕ PatchErrorKind) (P : ℕ → Type 0) (Q : Type 0) → IsErr r × IsErrAnd r (λ kind. kind ≡ InvalidPointer) → Q → MatchResult r P (λ kind. (kind ≡ InvalidPointer) × Q)
-refused (Ok i) P Q h q = absurd h.1
-refused (Err kind) P Q h q = (h.1, q)
+refused r P Q h q = search rules
 
 -- ---- items
 
-pub no_item : (t : List ℕ) (len : ℕ) → IsNoIndexText t → len < 2 ^ 64 → IsNoItem t len
-no_item t len h fits = λ i is. let past : 2 ^ 64 ≤ i = h.past i is in omega arith
-
 pub item_outside : (t : List ℕ) (index : Index) (len : ℕ) → IsIndexText t index → len ≤ place_in index len → IsNoItem t len
-item_outside t (Num n) len h out = λ i is. let a : place_of t ≡ Some n = h.0 in let e : n ≡ i = cc in omega arith
-item_outside t Next len h out = λ i is. let a : place_of t ≡ None = ap place_of h ∙ next_is_no_place in cc
-
-pub item_within : (t : List ℕ) (index : Index) (len n : ℕ) → IsIndexText t index → n ≡ place_in index len → n < len → IsItem t len n
-item_within t (Num m) len n h is less = (less, h.0 ∙ ap Some (sym is))
-item_within t Next len n h is less = absurd (omega arith)
+item_outside t index len h out = search (rules, next_is_no_place)
 
 -- ---- slots
+
+pub not_next : (b : Bool) (t : List ℕ) → bytes_eq t next_token ≡ b → t ≢ next_token → b ≡ false
+not_next b t is other = search rules
+
+place_is_not_next : (t : List ℕ) (i : ℕ) → place_of t ≡ Some i → t ≢ next_token
+place_is_not_next t i h is = let none : place_of t ≡ None = ap place_of is ∙ next_is_no_place in cc
 
 is_next : (t : List ℕ) → t ≡ next_token → bytes_eq t next_token ≡ true
 is_next t is = (bytes_eq-Decides t next_token).1 is
 
-past_all : (o : Option ℕ) (len : ℕ) → ((i : ℕ) → o ≡ Some i → len < i) → option_and_then (λ i. if leb i len then Some i else None) o ≡ None
-past_all None len past = refl
-past_all (Some i) len past = let over : len < i = past i refl in let no : leb i len ≡ false = grind (arith, nat_tests) in rw no
-
-no_slot_past : (t : List ℕ) (len : ℕ) → t ≢ next_token → ((i : ℕ) → place_of t ≡ Some i → len < i) → slot_in t len ≡ None
-no_slot_past t len other past = rw (not_next (bytes_eq t next_token) t refl other) (past_all (place_of t) len past)
-
-pub no_slot : (t : List ℕ) (len : ℕ) → IsNoIndexText t → len < 2 ^ 64 → slot_in t len ≡ None
-no_slot t len h fits = no_slot_past t len h.other (λ i is. let past : 2 ^ 64 ≤ i = h.past i is in omega arith)
-
 pub slot_outside : (t : List ℕ) (index : Index) (len : ℕ) → IsIndexText t index → len < place_in index len → slot_in t len ≡ None
-slot_outside t (Num n) len h out = no_slot_past t len (place_is_not_next t n h.0) (λ i is. let a : place_of t ≡ Some n = h.0 in let e : n ≡ i = cc in omega arith)
-slot_outside t Next len h out = absurd (omega arith)
+slot_outside t index len h out = search (rules, not_next, place_is_not_next)
 
 pub slot_within : (t : List ℕ) (index : Index) (len n : ℕ) → IsIndexText t index → n ≡ place_in index len → n ≤ len → (n ≤ len) × (slot_in t len ≡ Some n)
-slot_within t (Num m) len n h is le = (le, rw (not_next (bytes_eq t next_token) t refl (place_is_not_next t m h.0), h.0, fits m len (omega arith)) (ap Some (sym is)))
-slot_within t Next len n h is le = (le, rw (is_next t h) (ap Some (sym is)))
+slot_within t index len n h is le = search (rules, not_next, bytes_eq, place_is_not_next, nat_tests, is_next)

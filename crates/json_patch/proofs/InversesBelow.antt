@@ -1,20 +1,21 @@
 -- What undoes a step or a run below a pointer is what undoes it on what stands there, with the pointer's tokens in front.
-use Rattle.std.proofs.Common.{◌≡◌, ◌↔◌, ℕ, List, [], ◌∷◌, ◌++◌, append_assoc, Option, Some, None, Result, Ok, Err, refl, sym, ap, ap₂, ◌∙◌, subst}
+use Rattle.std.proofs.lemmas.Grind.{common_steps}
+use Rattle.std.proofs.Common.{◌≡◌, ◌↔◌, ℕ, List, [], ◌∷◌, ◌++◌, append_assoc, Option, Some, None, Result, Ok, Err, refl, sym, ap, ap₂, ◌∙◌, subst, rules, arith}
 use Rattle.std.proofs.lemmas.List.{map-append}
-use Rattle.serde_json.specs.Data.{Data, array}
+use Rattle.serde_json.specs.Data.{Data}
 use Rattle.jsonptr.specs.Text.{Pointer}
 use Rattle.json_patch.specs.Document.{IsDocument}
 use Rattle.json_patch.specs.Resolve.{StandsAt}
-use Rattle.json_patch.specs.Operation.{Operation, add, remove, replace, move, copy, test, IsWholeOp, AreWhole}
+use Rattle.json_patch.specs.Operation.{Operation, add, move, IsWholeOp, AreWhole}
 use Rattle.json_patch.specs.Inverse.{IsInverse}
 use Rattle.json_patch.specs.Run.{Accepts}
 use Rattle.json_patch.specs.Shared.{IsWithin, AreWithin}
 use Rattle.json_patch.specs.ChangeComputed.{found, removed, replaced, front_of, last_of}
-use Rattle.json_patch.specs.InverseComputed.{settled_token, undo_at, undo_in, undo_add, with_found, with_left, block, inverse}
+use Rattle.json_patch.specs.InverseComputed.{undo_in, undo_add, with_found, with_left, block, inverse}
 use Rattle.json_patch.specs.RunComputed.{stepped}
 use Rattle.json_patch.specs.SharedComputed.{stripped, stripped_all, extended, extended_all}
 use Rattle.json_patch.specs.declared.error.PatchErrorKind.{PatchErrorKind}
-use Rattle.json_patch.proofs.Below.{Replaces, replaces, lifted, over, some_replaced, found_under, removed_under, stepped_under, whole_stripped, all_whole_stripped, with_one, with_two}
+use Rattle.json_patch.proofs.Below.{Replaces, replaces, lifted, over, some_replaced, found_under, removed_under, stepped_under, all_whole_stripped, with_one, with_two}
 use Rattle.json_patch.proofs.Blocks.{inverse_is, inverse_only, inverse_accepted}
 use Rattle.json_patch.proofs.Locality.{runs_alike}
 use Rattle.json_patch.proofs.Parents.{undo_add_in}
@@ -27,18 +28,12 @@ use Rattle.json_patch.proofs.Undone.{found_document}
 
 -- ---- an add
 
-at_under : (S P : Pointer) (o : Option Data) → undo_at (S ++ P) o ≡ extended S (undo_at P o)
-at_under S P None = refl
-at_under S P (Some w) = refl
-
 with_under : {X : Type 0} (S : Pointer) (o : Option X) (f g : X → List Operation) → ((w : X) → o ≡ Some w → f w ≡ extended_all S (g w)) → with_found o f ≡ extended_all S (with_found o g)
-with_under S None f g h = refl
-with_under S (Some w) f g h = h w refl
+with_under S o f g h = search rules
 
 module _ (d : Data) (S : Pointer) (b : Data) (at : found d S ≡ Some b) where
   in_under : (F : Pointer) (t : List ℕ) (P : Pointer) (o : Option Data) → undo_in d (S ++ F) t (S ++ P) o ≡ extended S (undo_in b F t P o)
-  in_under F t P (Some (array ds)) = ap remove (append_assoc S F (settled_token (Some (array ds)) t ∷ []))
-  in_under F t P o = ap (undo_at (S ++ P)) (found_under d S P b at) ∙ at_under S P (found b P)
+  in_under F t P o = search (rules, append_assoc, found_under)
 
   undo_under : (t : List ℕ) (P : Pointer) → undo_add d (S ++ t ∷ P) ≡ extended S (undo_add b (t ∷ P))
   undo_under t P =
@@ -63,16 +58,7 @@ module _ (d : Data) (S : Pointer) (b : Data) (hd : IsDocument d) (at : found d S
           rw x.1 (ap (λ o. o ∷ add (S ++ t ∷ F) v ∷ []) (undo_under x.0 S m (replaces d S m x.0 hd hm x.1).found_there u P))
 
   pub block_under : (op : Operation) → IsWithin S op → block d op ≡ extended_all S (block b (stripped S op))
-  block_under (add P v) h = with_one S (λ Q R. block d (add Q v) ≡ extended_all S (block b (add R v))) (λ t Q. ap (λ o. o ∷ []) (undo_under d S b at t Q)) P h
-  block_under (remove P) h =
-      with_one S (λ Q R. block d (remove Q) ≡ extended_all S (block b (remove R)))
-      (λ t Q. rw (found_under d S (t ∷ Q) b at) (with_under S (found b (t ∷ Q)) _ _ (λ w is. refl))) P h
-  block_under (replace P v) h =
-      with_one S (λ Q R. block d (replace Q v) ≡ extended_all S (block b (replace R v)))
-      (λ t Q. rw (found_under d S (t ∷ Q) b at) (with_under S (found b (t ∷ Q)) _ _ (λ w is. refl))) P h
-  block_under (move F P) h = with_two S (λ G H Q R. block d (move G Q) ≡ extended_all S (block b (move H R))) move_under F P h.0 h.1
-  block_under (copy F P) h = with_two S (λ G H Q R. block d (copy G Q) ≡ extended_all S (block b (copy H R))) (λ t G u Q. ap (λ o. o ∷ []) (undo_under d S b at u Q)) F P h.0 h.1
-  block_under (test P v) h = refl
+  block_under op h = grind (arith, common_steps, with_one, undo_under, found_under, with_under, with_two, move_under)
 
 -- ---- lists
 
@@ -89,7 +75,7 @@ inverse_under d S b (op ∷ ops) hd hv at within =
         → with_left (lifted d S r) (λ m. inverse m ops) ≡ extended_all S (with_left r (λ m. inverse m (stripped_all S ops)))
     later more (Ok m) is =
         let hb : IsDocument b = found_document d S b hd at in
-        let hs : IsWholeOp (stripped S op) = whole_stripped S op hv.0 in
+        let hs : IsWholeOp (stripped S op) = (search rules) in
         let hm : IsDocument m = leaves_document b (stripped S op) m hb hs (stepped_leaves b (stripped S op) m hb hs is) in
         let x : (x : Data) × (replaced d S m ≡ Some x) = some_replaced d S b hd at m in
         let r : Replaces d S m x.0 = replaces d S m x.0 hd hm x.1 in

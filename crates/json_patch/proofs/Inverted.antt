@@ -1,16 +1,15 @@
 -- The inverse of an accepted list leads back, through every state.
-use Rattle.std.proofs.Common.{◌≡◌, ◌≤◌, ◌*◌, ℕ, List, [], ◌∷◌, ◌++◌, length, length-append, append_assoc, append-nil, Option, Some, None, Result, Ok, Err, refl, sym, ap, ◌∙◌, subst, arith}
-use Rattle.serde_json.specs.Data.{Data, array}
+use Rattle.std.proofs.Common.{◌≡◌, ◌≤◌, ◌*◌, ℕ, List, [], ◌∷◌, ◌++◌, length, length-append, append_assoc, append-nil, Option, Some, Ok, refl, sym, ap, ◌∙◌, arith, rules, subst}
+use Rattle.serde_json.specs.Data.{Data}
 use Rattle.jsonptr.specs.Text.{Pointer}
 use Rattle.json_patch.specs.Document.{IsDocument}
 use Rattle.json_patch.specs.Operation.{Operation, add, remove, replace, move, copy, test, IsWholeOp, AreWhole}
-use Rattle.json_patch.specs.declared.error.PatchErrorKind.{PatchErrorKind}
 use Rattle.json_patch.specs.declared.error.PatchErrorKind.TheVariants.{InvalidPointer}
 use Rattle.json_patch.specs.Step.{Leaves}
 use Rattle.json_patch.specs.Run.{Accepts}
-use Rattle.json_patch.specs.ChangeComputed.{found, removed, front_of, last_of}
+use Rattle.json_patch.specs.ChangeComputed.{found, removed}
 use Rattle.json_patch.specs.RunComputed.{or_refused, stepped, ran}
-use Rattle.json_patch.specs.InverseComputed.{undo_at, undo_in, undo_add, with_found, with_left, block, inverse}
+use Rattle.json_patch.specs.InverseComputed.{undo_in, undo_add, with_left, block, inverse}
 use Rattle.json_patch.proofs.Found.{resolves_found}
 use Rattle.json_patch.proofs.Exact.{added_exact, removed_exact, replaced_exact}
 use Rattle.json_patch.proofs.Stepped.{stands_found, stands_document, removed_document, leaves_stepped, leaves_document}
@@ -47,29 +46,14 @@ block_ran d (test P v) e hd hv h = ap Ok h.1
 
 -- ---- the block's values are documents
 
-undo_at_whole : (d : Data) (P : Pointer) (o : Option Data) → IsDocument d → found d P ≡ o → IsWholeOp (undo_at P o)
-undo_at_whole d P None hd is = tt
-undo_at_whole d P (Some w) hd is = found_document d P w hd is
-
 undo_in_whole : (d : Data) (front : Pointer) (last : List ℕ) (P : Pointer) (o : Option Data) → IsDocument d → IsWholeOp (undo_in d front last P o)
-undo_in_whole d front last P (Some (array ds)) hd = tt
-undo_in_whole d front last P o hd = undo_at_whole d P (found d P) hd refl
-
-undo_add_whole : (d : Data) (P : Pointer) → IsDocument d → IsWholeOp (undo_add d P)
-undo_add_whole d [] hd = hd
-undo_add_whole d (t ∷ P) hd = undo_in_whole d (front_of t P) (last_of t P) (t ∷ P) (found d (front_of t P)) hd
+undo_in_whole d front last P o hd = search (rules, found_document)
 
 pub block_whole : (d : Data) (op : Operation) (e : Data) → IsDocument d → IsWholeOp op → Leaves d op e → AreWhole (block d op)
-block_whole d (add P v) e hd hv h = (undo_add_whole d P hd, tt)
-block_whole d (remove P) e hd hv h =
-    let was : found d P ≡ Some h.2 = resolves_found d P _ h.2 h.3 in rw was (found_document d P h.2 hd was, tt)
-block_whole d (replace P v) e hd hv h =
-    let was : found d P ≡ Some h.1 = resolves_found d P h.0 h.1 h.2 in rw was (found_document d P h.1 hd was, tt)
 block_whole d (move F P) e hd hv h =
     rw (stands_found d F h.1.0 h.1.2, removed_exact d F h.1.1 hd h.1.3)
-    (undo_add_whole h.1.1 P (removed_document d F h.1.1 h.1.3), (stands_document d F h.1.0 hd h.1.2, tt))
-block_whole d (copy F P) e hd hv h = (undo_add_whole d P hd, tt)
-block_whole d (test P v) e hd hv h = tt
+    ((search (rules, undo_in_whole)), (stands_document d F h.1.0 hd h.1.2, tt))
+block_whole d op e hd hv h = search (rules, undo_in_whole, resolves_found, found_document)
 
 pub block_back : (d : Data) (op : Operation) (e : Data) → IsDocument d → IsWholeOp op → Leaves d op e → Accepts e (block d op) d
 block_back d op e hd hv h = ran_accepts e (block d op) d (leaves_document d op e hd hv h) (block_whole d op e hd hv h) (block_ran d op e hd hv h)
@@ -109,25 +93,6 @@ inverse_twice d ops e hd hv h = inverse_back e (inverse d ops) d (accepts_docume
 
 -- ---- its length
 
-found_length : {X : Type 0} (o : Option X) (f : X → List Operation) → ((w : X) → length (f w) ≤ 2) → length (with_found o f) ≤ 2
-found_length None f h = omega arith
-found_length (Some w) f h = h w
-
-pub block_length : (op : Operation) (d : Data) → length (block d op) ≤ 2
-block_length (add P v) d = omega arith
-block_length (remove P) d = found_length (found d P) (λ w. add P w ∷ []) (λ w. omega arith)
-block_length (replace P v) d = found_length (found d P) (λ w. replace P w ∷ []) (λ w. omega arith)
-block_length (move F P) d =
-    found_length (found d F) (λ v. with_found (removed d F) (λ m. undo_add m P ∷ add F v ∷ [])) (λ v. found_length (removed d F) (λ m. undo_add m P ∷ add F v ∷ []) (λ m. omega arith))
-block_length (copy F P) d = omega arith
-block_length (test P v) d = omega arith
-
-left_length : (o : Result Data PatchErrorKind) (f : Data → List Operation) (n : ℕ) → ((m : Data) → length (f m) ≤ n) → length (with_left o f) ≤ n
-left_length (Ok m) f n h = h m
-left_length (Err kind) f n h = omega arith
-
 pub inverse_length : (ops : List Operation) (d : Data) → length (inverse d ops) ≤ 2 * length ops
 inverse_length [] d = omega arith
-inverse_length (op ∷ ops) d =
-    let a : length (with_left (stepped d op) (λ m. inverse m ops)) ≤ 2 * length ops = left_length (stepped d op) (λ m. inverse m ops) (2 * length ops) (λ m. inverse_length ops m) in
-    omega (arith, length-append (with_left (stepped d op) (λ m. inverse m ops)) (block d op), block_length op d)
+inverse_length (op ∷ ops) d = search (rules, length-append, inverse_length ops)

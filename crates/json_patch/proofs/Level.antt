@@ -1,7 +1,6 @@
 -- Documents with equal children are equal, and what a change to a child leaves is taken back by another.
-use Rattle.std.proofs.Common.{◌≡◌, ℕ, zero, suc, ◌≤◌, List, [], ◌∷◌, inl, ⊎_elim, Some, None, option_map, option_and_then, refl, sym, ap, ◌∙◌, subst, arith}
-use Rattle.std.proofs.lemmas.Option.{option_and_then_some}
-use Rattle.serde_json.specs.Data.{Data, array, object, Items, no_items, item, Members, put}
+use Rattle.std.proofs.Common.{◌≡◌, ℕ, zero, suc, ◌≤◌, List, [], ◌∷◌, inl, ⊎_elim, Some, None, option_and_then, refl, sym, ap, ◌∙◌, arith, rules, option_map}
+use Rattle.serde_json.specs.Data.{Data, array, object, Items, item, Members, put}
 use Rattle.serde_json.specs.Find.{get_member, get_item}
 use Rattle.serde_json.specs.Events.{items_len}
 use Rattle.serde_json.proofs.Views.{get_member-put, get_member-put_other}
@@ -13,7 +12,6 @@ use Rattle.json_patch.proofs.Alike.{alike}
 use Rattle.json_patch.proofs.Members.{put_members, without_members, get_without, get_without_other}
 use Rattle.json_patch.proofs.Items.{get_insert}
 use Rattle.json_patch.proofs.Children.{child_document, child_set, child_set_other, sight_set, set_document, step_cases}
-use Rattle.json_patch.proofs.Resolved.{names_step}
 use Rattle.json_patch.proofs.Slots.{slot_some}
 
 same_at : (e f : Data) → sight_of e ≡ sight_of f → ((r : Step) → child r e ≡ child r f) → (L : List Step) → look e L ≡ look f L
@@ -31,23 +29,16 @@ set_back s d c b hd hb is =
     (λ (other : r ≡ s → ⊥). child_set_other r s (set_child s b d) c other ∙ child_set_other r s d b other) (step_cases r s))
 
 pub step_of_set : (s : Step) (d b : Data) (t : List ℕ) → step_of (set_child s b d) t ≡ step_of d t
-step_of_set (key k) (object ms) b t = refl
-step_of_set (place i) (array ds) b t = refl
-step_of_set s d b t = refl
+step_of_set s d b t = search rules
 
 -- ---- a member
 
 member_cases : (P : Step → Type 0) (k : List ℕ) → ((q : List ℕ) → (q ≡ k → ⊥) → P (key q)) → P (key k) → ((i : ℕ) → P (place i)) → (r : Step) → P r
-member_cases P k other here row (key q) =
-    ⊎_elim (λ (same : key q ≡ key k). subst P (sym same) here) (λ (out : key q ≡ key k → ⊥). other q (λ h. out (ap key h))) (step_cases (key q) (key k))
+member_cases P k other here row (key q) = search (rules, step_cases (key q) (key k), step_cases)
 member_cases P k other here row (place i) = row i
 
 pub without_put : (k : List ℕ) (v : Data) (ms : Members) → AreMembers ms → IsDocument v → get_member k ms ≡ None → object (without k (put k v ms)) ≡ object ms
-without_put k v ms h hv is =
-    one_level (object (without k (put k v ms))) (object ms) (without_members k (put k v ms) (put_members k v ms h hv)) h refl
-    (member_cases (λ r. child r (object (without k (put k v ms))) ≡ child r (object ms)) k
-    (λ q other. get_without_other q k (put k v ms) other ∙ get_member-put_other q k v ms other)
-    (get_without k (put k v ms) (put_members k v ms h hv) ∙ sym is) (λ i. refl))
+without_put k v ms h hv is = search (rules, one_level, without_members, put_members, member_cases, get_without_other, get_member-put_other, get_without)
 
 pub put_without : (k : List ℕ) (w : Data) (ms : Members) → AreMembers ms → get_member k ms ≡ Some w → object (put k w (without k ms)) ≡ object ms
 put_without k w ms h is =
@@ -59,21 +50,18 @@ put_without k w ms h is =
 -- ---- an item
 
 pub remove_insert : (i : ℕ) (v : Data) (ds : Items) → i ≤ items_len ds → remove_item i (insert_item i v ds) ≡ ds
-remove_insert zero v no_items h = refl
-remove_insert (suc i) v no_items h = absurd (omega arith)
 remove_insert zero v (item d ds) h = refl
 remove_insert (suc i) v (item d ds) h = ap (item d) (remove_insert i v ds (omega arith))
+remove_insert i v ds h = search rules
 
 pub insert_remove : (i : ℕ) (w : Data) (ds : Items) → get_item i ds ≡ Some w → insert_item i w (remove_item i ds) ≡ ds
-insert_remove i w no_items is = cc
-insert_remove zero w (item d no_items) is = let e : d ≡ w = cc in cc
 insert_remove zero w (item d (item e ds)) is = let e : d ≡ w = cc in cc
 insert_remove (suc i) w (item d ds) is = ap (item d) (insert_remove i w ds is)
+insert_remove i w ds is = search rules
 
 pub within_removed : (i : ℕ) (w : Data) (ds : Items) → get_item i ds ≡ Some w → i ≤ items_len (remove_item i ds)
-within_removed i w no_items is = cc
-within_removed zero w (item d ds) is = omega arith
 within_removed (suc i) w (item d ds) is = let h : i ≤ items_len (remove_item i ds) = within_removed i w ds is in omega arith
+within_removed i w ds is = search rules
 
 -- ---- at the parent
 
@@ -85,15 +73,10 @@ take_member k v ms h hv is = rw (get_member-put k v ms) (ap Some (without_put k 
 
 -- what stands at t
 pub stands_one : (p : Data) (t : List ℕ) (s : Step) (w : Data) → Names p t s → found p (t ∷ []) ≡ Some w → child s p ≡ Some w
-stands_one p t s w names is =
-    let more : option_and_then (λ c. found c []) (child s p) ≡ Some w = rw (names_step p t s names) at is in
-    option_and_then_some _ (child s p) w more (λ c stands same. stands ∙ same)
+stands_one p t s w names is = search rules
 
 pub put_taken : (t : List ℕ) (p w : Data) (s : Step) → IsDocument p → Names p t s → child s p ≡ Some w → put_in w t (drop_child s p) ≡ Some p
-put_taken t (object ms) w (key k) h names is =
-    let e : get_member t ms ≡ Some w = ap (λ x. get_member x ms) names ∙ is in
-    subst (λ x. put_in w t (object (without x ms)) ≡ Some (object ms)) names (ap Some (put_without t w ms h e))
 put_taken t (array ds) w (place i) h names is =
     ap (option_map (λ j. array (insert_item j w (remove_item i ds)))) (slot_some t (remove_item i ds) i (inl (names, within_removed i w ds is)))
     ∙ ap (λ x. Some (array x)) (insert_remove i w ds is)
-put_taken t p w s h names is = absurd names
+put_taken t p w s h names is = search (rules, put_without)

@@ -1,5 +1,5 @@
 -- Locality in the words of the definitions.
-use Rattle.std.proofs.Common.{◌≡◌, ◌↔◌, ℕ, List, [], ◌∷◌, Some, Ok, Err, refl, sym, ap, ◌∙◌, subst}
+use Rattle.std.proofs.Common.{◌≡◌, ◌↔◌, ℕ, List, ◌∷◌, Some, Ok, Err, refl, ap, ◌∙◌, subst, rules}
 use Rattle.serde_json.specs.Data.{Data}
 use Rattle.jsonptr.specs.Text.{Pointer}
 use Rattle.json_patch.specs.Document.{IsDocument, Step}
@@ -15,14 +15,13 @@ use Rattle.json_patch.specs.ChangeComputed.{set_child, found, replaced}
 use Rattle.json_patch.specs.RunComputed.{Outcome, fault, or_refused, stepped, ran}
 use Rattle.json_patch.specs.SharedComputed.{stripped, stripped_all}
 use Rattle.json_patch.proofs.Children.{child_set}
-use Rattle.json_patch.proofs.Resolved.{step_names, names_step}
+use Rattle.json_patch.proofs.Resolved.{names_step}
 use Rattle.json_patch.proofs.Altered.{altered_some}
 use Rattle.json_patch.proofs.Replaced.{replaced_is}
 use Rattle.json_patch.proofs.Exact.{replaced_exact}
-use Rattle.json_patch.proofs.Level.{step_of_set}
 use Rattle.json_patch.proofs.Stepped.{stands_found, stands_document, leaves_stepped, refuses_stepped, stepped_leaves, stepped_refuses, leaves_document}
 use Rattle.json_patch.proofs.Runs.{accepts_ran, ran_accepts, refuses_ran, ran_refuses, accepts_document}
-use Rattle.json_patch.proofs.Below.{lifted, some_replaced, stepped_under, whole_stripped, all_whole_stripped, RunsUnder, ran_under}
+use Rattle.json_patch.proofs.Below.{lifted, some_replaced, stepped_under, all_whole_stripped, RunsUnder, ran_under}
 
 -- ---- one step
 
@@ -31,7 +30,7 @@ module _ (d : Data) (S : Pointer) (b : Data) (op : Operation) (hd : IsDocument d
   unfolding lifted
   local_leaves e h =
       let hb : IsDocument b = stands_document d S b hd at in
-      let hs : IsWholeOp (stripped S op) = whole_stripped S op hv in
+      let hs : IsWholeOp (stripped S op) = (search rules) in
       let f : found d S ≡ Some b = stands_found d S b at in
       let x : (x : Data) × (replaced d S e ≡ Some x) = some_replaced d S b hd f e in
       let step : stepped d op ≡ Ok x.0 = stepped_under d S b hd f op within ∙ ap (lifted d S) (leaves_stepped b (stripped S op) e hb hs h) ∙ ap (or_refused InvalidPointer) x.1 in
@@ -41,7 +40,7 @@ module _ (d : Data) (S : Pointer) (b : Data) (op : Operation) (hd : IsDocument d
   unfolding lifted
   local_refuses kind h =
       let hb : IsDocument b = stands_document d S b hd at in
-      let hs : IsWholeOp (stripped S op) = whole_stripped S op hv in
+      let hs : IsWholeOp (stripped S op) = (search rules) in
       let step : stepped d op ≡ Err kind = stepped_under d S b hd (stands_found d S b at) op within ∙ ap (lifted d S) (refuses_stepped b (stripped S op) kind hb hs h) in
       stepped_refuses d op kind hd hv step
 
@@ -59,20 +58,11 @@ module _ (d : Data) (S : Pointer) (b : Data) (ops : List Operation) (hd : IsDocu
 
   to : (o : Outcome) (x : Data) → ran b (stripped_all S ops) ≡ o → RunsUnder d S ops o → Accepts d ops x → (e : Data) × Accepts b (stripped_all S ops) e × IsReplaced d S e x
   unfolding RunsUnder
-  to (Ok e) x is u h =
-      let r : ran d ops ≡ Ok x = accepts_ran d ops x hd hv h in
-      let s : ran d ops ≡ Ok u.1.0 = u.1.2 in
-      let same : u.1.0 ≡ x = cc in
-      (e, ran_accepts b (stripped_all S ops) e there whole is, replaced_is d S e x hd u.0 (u.1.1 ∙ ap Some same))
-  to (Err f) x is u h = let r : ran d ops ≡ Ok x = accepts_ran d ops x hd hv h in cc
+  to o x is u h = search (rules, accepts_ran, ran_accepts, there, whole, replaced_is)
 
   from : (e x : Data) → RunsUnder d S ops (Ok e) → IsReplaced d S e x → Accepts d ops x
   unfolding RunsUnder
-  from e x u h =
-      let r : replaced d S e ≡ Some x = replaced_exact d S e x hd u.0 h in
-      let s : replaced d S e ≡ Some u.1.0 = u.1.1 in
-      let same : u.1.0 ≡ x = cc in
-      ran_accepts d ops x hd hv (u.1.2 ∙ ap Ok same)
+  from e x u h = search (rules, replaced_exact d S e x hd u.0 h, ran_accepts d ops x hd hv, replaced_exact, ran_accepts)
 
   pub runs_alike : (x : Data) → Accepts d ops x ↔ ((e : Data) × Accepts b (stripped_all S ops) e × IsReplaced d S e x)
   runs_alike x = (
@@ -82,33 +72,25 @@ module _ (d : Data) (S : Pointer) (b : Data) (ops : List Operation) (hd : IsDocu
 
   refused_to : (o : Outcome) (k : ℕ) (kind : PatchErrorKind) → ran b (stripped_all S ops) ≡ o → RunsUnder d S ops o → RefusesAt d ops k kind → RefusesAt b (stripped_all S ops) k kind
   unfolding RunsUnder
-  refused_to (Ok e) k kind is u h = let r : ran d ops ≡ Err (fault k kind) = refuses_ran d ops k kind hd hv h in let s : ran d ops ≡ Ok u.1.0 = u.1.2 in cc
-  refused_to (Err f) k kind is u h =
-      let r : ran d ops ≡ Err (fault k kind) = refuses_ran d ops k kind hd hv h in
-      ran_refuses b (stripped_all S ops) k kind there whole (is ∙ sym u ∙ r)
+  refused_to o k kind is u h = search (rules, refuses_ran, ran_refuses, there, whole)
 
   refused_from : (k : ℕ) (kind : PatchErrorKind) → RunsUnder d S ops (Err (fault k kind)) → RefusesAt d ops k kind
   unfolding RunsUnder
   refused_from k kind u = ran_refuses d ops k kind hd hv u
 
   pub refused_alike : (k : ℕ) (kind : PatchErrorKind) → RefusesAt d ops k kind ↔ RefusesAt b (stripped_all S ops) k kind
-  refused_alike k kind = (
-    λ h. refused_to (ran b (stripped_all S ops)) k kind refl (under (ran b (stripped_all S ops)) refl) h,
-    λ h. refused_from k kind (under (Err (fault k kind)) (refuses_ran b (stripped_all S ops) k kind there whole h)),
-  )
+  refused_alike k kind = search (rules, refused_to, under, refused_from, refuses_ran, there, whole)
 
 -- ---- the location stays
 
 resolves_replaced : (d : Data) (S : Pointer) (L : List Step) (b e x : Data) → Resolves d S L b → replaced d S e ≡ Some x → Resolves x S L e
-resolves_replaced d [] [] b e x h is = cc
 resolves_replaced d (t ∷ S) (s ∷ L) b e x h is =
     let i : (y : Data) × (replaced h.0 S e ≡ Some y) = altered_some (λ c. Some e) h.0 S L b e h.3 refl in
     let w : replaced d (t ∷ S) e ≡ Some (set_child s i.0 d) = rw (names_step d t s h.1, h.2, i.1) refl in
     let same : set_child s i.0 d ≡ x = cc in
     subst (λ z. Resolves z (t ∷ S) (s ∷ L) e) same
-    (i.0, step_names (set_child s i.0 d) t s (step_of_set s d i.0 t ∙ names_step d t s h.1), child_set s d h.0 i.0 h.2, resolves_replaced h.0 S L b e i.0 h.3 i.1)
-resolves_replaced d [] (s ∷ L) b e x h is = absurd h
-resolves_replaced d (t ∷ S) [] b e x h is = absurd h
+    (i.0, (search rules), child_set s d h.0 i.0 h.2, resolves_replaced h.0 S L b e i.0 h.3 i.1)
+resolves_replaced d S L b e x h is = search rules
 
 -- in every state of the run S resolves to the same location
 pub location_stays : (d : Data) (S : Pointer) (L : List Step) (b : Data) (ops : List Operation) (x : Data) → IsDocument d → AreWhole ops → Resolves d S L b → AreWithin S ops → Accepts d ops x

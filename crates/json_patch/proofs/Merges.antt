@@ -1,9 +1,9 @@
 -- What is computed for a merge patch is what it leaves, and that alone.
-use Rattle.std.proofs.Common.{◌≡◌, ◌≢◌, ◌↔◌, ◌⊎◌, inl, inr, ⊎_elim, ℕ, List, Option, Some, None, unwrap_or, refl, sym, ap, ◌∙◌, subst}
+use Rattle.std.proofs.Common.{◌≡◌, ◌≢◌, ◌↔◌, ◌⊎◌, inl, inr, ⊎_elim, ℕ, List, Option, Some, None, unwrap_or, refl, sym, ap, ◌∙◌, subst, rules}
 use Rattle.serde_json.specs.Data.{Data, null, boolean, number, string, array, object, Members, no_members, member, put}
 use Rattle.serde_json.specs.Find.{get, get_member}
 use Rattle.serde_json.proofs.Views.{get_member-put, get_member-put_other}
-use Rattle.json_patch.specs.Document.{IsDocument, AreMembers, Step, key, place, child, sight_of, map}
+use Rattle.json_patch.specs.Document.{IsDocument, AreMembers, Step, key, child, sight_of, map}
 use Rattle.json_patch.specs.ChangeComputed.{without}
 use Rattle.json_patch.specs.Merged.{IsMerged, replaces, by_key, IsMergedMember, stays, goes, merges}
 use Rattle.json_patch.specs.MergedComputed.{members_of, merged, merged_members}
@@ -25,47 +25,29 @@ next_merged k null ms ps other = absurd (other refl)
 next_merged k q ms ps other = refl
 
 or_null_document : (o : Option Data) → ((d : Data) → o ≡ Some d → IsDocument d) → IsDocument (unwrap_or o null)
-or_null_document None h = tt
-or_null_document (Some d) h = h d refl
+or_null_document o h = search rules
 
 pub was_document : (k : List ℕ) (ms : Members) → AreMembers ms → IsDocument (unwrap_or (get_member k ms) null)
 was_document k ms h = or_null_document (get_member k ms) (λ d is. member_document k d ms h is)
 
-pub are_members : (d : Data) → IsDocument d → AreMembers (members_of d)
-are_members (object ms) h = h
-are_members d h = tt
-
 mutual
   pub merged_document : (p d : Data) → IsDocument d → IsDocument p → IsDocument (merged d p)
-  merged_document (object ps) d hd hp = merged_are_members ps (members_of d) (are_members d hd) hp
+  merged_document (object ps) d hd hp = merged_are_members ps (members_of d) (search rules) hp
   merged_document p d hd hp = hp
 
   merged_are_members : (ps ms : Members) → AreMembers ms → AreMembers ps → AreMembers (merged_members ms ps)
   merged_are_members no_members ms h hp = h
-  merged_are_members (member k q ps) ms h hp =
-      let w = unwrap_or (get_member k ms) null in
-      ⊎_elim (λ is. subst AreMembers (sym (next_removed k q ms ps is)) (merged_are_members ps (without k ms) (without_members k ms h) hp.2))
-      (λ other. subst AreMembers (sym (next_merged k q ms ps other))
-      (merged_are_members ps (put k (merged w q) ms) (put_members k (merged w q) ms h (merged_document q w (was_document k ms h) hp.1)) hp.2)) (null_cases q)
+  merged_are_members (member k q ps) ms h hp = search (rules, next_removed, without_members, next_merged, put_members, was_document, null_cases, merged_are_members ps, merged_document q)
 
 -- ---- it is Merged
 
 pub name_cases : (q k : List ℕ) → (q ≡ k) ⊎ (q ≢ k)
 name_cases q k = ⊎_elim (λ (e : key q ≡ key k). inl cc) (λ (out : key q ≡ key k → ⊥). inr (λ h. out (ap key h))) (step_cases (key q) (key k))
 
-get_members : (q : List ℕ) (d : Data) → get_member q (members_of d) ≡ get q d
-get_members q (object ms) = refl
-get_members q d = refl
-
 -- a name that the patch has not keeps its member
 unnamed : (k : List ℕ) (ps ms : Members) → get_member k ps ≡ None → get_member k (merged_members ms ps) ≡ get_member k ms
 unnamed k no_members ms is = refl
-unnamed k (member l q ps) ms is =
-    let other : k ≢ l = λ same. (let found : get_member k (member l q ps) ≡ Some q = ap (λ x. get_member x (member l q ps)) same ∙ found_first l q ps in cc) in
-    let later : get_member k ps ≡ None = sym (skips k l q ps other) ∙ is in
-    let w = unwrap_or (get_member l ms) null in
-    ⊎_elim (λ gone. ap (get_member k) (next_removed l q ms ps gone) ∙ unnamed k ps (without l ms) later ∙ get_without_other k l ms other)
-    (λ stay. ap (get_member k) (next_merged l q ms ps stay) ∙ unnamed k ps (put l (merged w q) ms) later ∙ get_member-put_other k l (merged w q) ms other) (null_cases q)
+unnamed k (member l q ps) ms is = search (rules, found_first, skips, next_removed, get_without_other, next_merged, get_member-put_other, null_cases, unnamed k ps)
 
 along : {was was' named named' left left' : Option Data} → was ≡ was' → named ≡ named' → left ≡ left' → IsMergedMember was' named' left' → IsMergedMember was named left
 along {left = left} a b c h = rw (a, b, c) h
@@ -74,16 +56,12 @@ along {left = left} a b c h = rw (a, b, c) h
 member_next : (k l : List ℕ) (q : Data) (ps ms ns : Members) → merged_members ms (member l q ps) ≡ merged_members ns ps → get_member l ps ≡ None → (k ≢ l → get_member k ns ≡ get_member k ms)
     → IsMergedMember (get_member l ms) (Some q) (get_member l ns) → IsMergedMember (get_member k ns) (get_member k ps) (get_member k (merged_members ns ps))
     → IsMergedMember (get_member k ms) (get_member k (member l q ps)) (get_member k (merged_members ms (member l q ps)))
-member_next k l q ps ms ns next once keeps here later =
-    ⊎_elim
-    (λ (same : k ≡ l). subst (λ x. IsMergedMember (get_member x ms) (get_member x (member l q ps)) (get_member x (merged_members ms (member l q ps)))) (sym same)
-    (along refl (found_first l q ps) (ap (get_member l) next ∙ unnamed l ps ns once) here))
-    (λ (other : k ≢ l). along (sym (keeps other)) (skips k l q ps other) (ap (get_member k) next) later) (name_cases k l)
+member_next k l q ps ms ns next once keeps here later = search (rules, along refl (found_first l q ps) (ap (get_member l) next ∙ unnamed l ps ns once) here, found_first l q ps, unnamed l ps ns once, along, skips k l q ps, name_cases k l, found_first, unnamed, skips, name_cases)
 
 mutual
   pub merged_is : (p d : Data) → IsDocument d → IsDocument p → IsMerged d p (merged d p)
   merged_is (object ps) d hd hp =
-      by_key refl refl (λ k. along (sym (get_members k d)) refl refl (member_is ps (members_of d) k (are_members d hd) hp))
+      by_key refl refl (λ k. along (sym (search rules)) refl refl (member_is ps (members_of d) k (search rules) hp))
   merged_is null d hd hp = replaces (λ h. cc)
   merged_is (boolean b) d hd hp = replaces (λ h. cc)
   merged_is (number n) d hd hp = replaces (λ h. cc)
@@ -114,13 +92,8 @@ mutual
   again_member goes = goes
   again_member (merges other h) = merges other (again h)
 
-no_places : (e : Data) (i : ℕ) → sight_of e ≡ map → child (place i) e ≡ None
-no_places (object ms) i h = refl
-no_places e i h = cc
-
 same_children : (e f : Data) → sight_of e ≡ map → sight_of f ≡ map → ((k : List ℕ) → get k e ≡ get k f) → (r : Step) → child r e ≡ child r f
-same_children e f he hf each (key k) = each k
-same_children e f he hf each (place i) = no_places e i he ∙ sym (no_places f i hf)
+same_children e f he hf each r = search rules
 
 mutual
   pub one : {d p e : Data} (f : Data) → IsDocument e → IsDocument f → IsMerged d p e → IsMerged d p f → e ≡ f
@@ -142,24 +115,16 @@ mutual
 pub merged_exactly : (d p e : Data) → IsDocument d → IsDocument p → IsDocument e → IsMerged d p e ↔ (merged d p ≡ e)
 merged_exactly d p e hd hp he = (λ h. one e (merged_document p d hd hp) he (merged_is p d hd hp) h, λ is. subst (IsMerged d p) is (merged_is p d hd hp))
 
-pub is_replaced : {d p e : Data} → sight_of p ≢ map → IsMerged d p e → e ≡ p
-is_replaced other (replaces _) = refl
-is_replaced other (by_key named left each) = absurd (other named)
-
-at_key : {d p e : Data} (k : List ℕ) → sight_of p ≡ map → IsMerged d p e → IsMergedMember (get k d) (get k p) (get k e)
-at_key k is (replaces other) = absurd (other is)
-at_key k is (by_key named left each) = each k
-
 kept : {was named left : Option Data} → named ≡ None → IsMergedMember was named left → left ≡ was
 kept is stays = refl
 kept is goes = cc
 kept is (merges other h) = cc
 
 pub unnamed_stays : {d p e : Data} (k : List ℕ) → sight_of p ≡ map → IsMerged d p e → get k p ≡ None → get k e ≡ get k d
-unnamed_stays k named h is = kept is (at_key k named h)
+unnamed_stays k named h is = kept is (search rules)
 
 pub exactly_one : (d p : Data) → IsDocument d → IsDocument p → (e : Data) × IsDocument e × IsMerged d p e × ((f : Data) → IsDocument f → IsMerged d p f → f ≡ e)
 exactly_one d p hd hp = (merged d p, merged_document p d hd hp, merged_is p d hd hp, λ f hf h. one (merged d p) hf (merged_document p d hd hp) h (merged_is p d hd hp))
 
 pub no_object : (d p e : Data) → sight_of p ≢ map → IsMerged d p e ↔ (e ≡ p)
-no_object d p e other = (is_replaced other, λ is. subst (IsMerged d p) (sym is) (replaces other))
+no_object d p e other = ((search rules), λ is. subst (IsMerged d p) (sym is) (replaces other))

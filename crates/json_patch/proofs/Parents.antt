@@ -1,12 +1,16 @@
 -- An operation as a change of its container, which the walk finds at all tokens but the last.
-use Rattle.std.proofs.Common.{◌≡◌, ℕ, List, [], ◌∷◌, ◌++◌, length, drop, not, true, false, Bool, IsTrue, Option, Some, None, option_map, option_and_then, Result, Ok, Err, IfOk, refl, sym, ap, ◌∙◌, subst}
+use Rattle.std.proofs.lemmas.Grind.{common_steps}
+use Rattle.std.proofs.Common.{◌≡◌, ◌<◌, ◌^◌, decimal, String, Global, string_bytes, ℕ, List, [], ◌∷◌, ◌++◌, length, drop, not, true, false, Bool, IsTrue, Option, Some, None, option_map, option_and_then, Result, Ok, Err, IfOk, refl, sym, ap, ◌∙◌, subst, rules, arith}
 use Rattle.std.specs.Prelude.{◌↔◌}
+use Rattle.std.specs.declared.alloc.AllocError.{AllocError}
 use Rattle.std.specs.Result.{IsErr, IsErrAnd}
 use Rattle.std.proofs.lemmas.List.{append_cancel_left}
-use Rattle.serde_json.specs.Data.{Data, array, object}
+use Rattle.serde_json.specs.Data.{Data, object}
 use Rattle.serde_json.specs.View.{view}
 use Rattle.serde_json.specs.declared.value.Value.{Value}
 use Rattle.jsonptr.specs.Text.{Pointer, IsProperPrefix}
+use Rattle.jsonptr.specs.Places.{token_of}
+use Rattle.jsonptr.specs.PlaceLaws.{token_is_decimal}
 use Rattle.json_patch.specs.Attempt.{Attempts, Steps, TakesOut}
 use Rattle.json_patch.specs.Document.{child}
 use Rattle.json_patch.specs.Operation.{add, move, replace, path_of}
@@ -14,14 +18,13 @@ use Rattle.json_patch.specs.ChangeComputed.{step_of, set_child, put_in, take_fro
 use Rattle.json_patch.specs.Edits.{Displaces, DisplacesAt, IsTaken, Undoes, undo_at_place}
 use Rattle.json_patch.specs.InPlace.{AreUnescaped, IsUnescaped}
 use Rattle.json_patch.specs.InverseComputed.{undo_in, undo_add}
-use Rattle.json_patch.specs.RunComputed.{moved, stepped}
+use Rattle.json_patch.specs.RunComputed.{stepped}
 use Rattle.json_patch.specs.SharedComputed.{stripped}
 use Rattle.json_patch.specs.declared.error.PatchErrorKind.TheVariants.{InvalidFromPointer, CannotMoveInsideItself}
 use Rattle.json_patch.specs.declared.walk.Displaced.{Displaced}
-use Rattle.json_patch.specs.declared.walk.Displaced.TheVariants.{Nothing, Former, Taken}
+use Rattle.json_patch.specs.declared.walk.Displaced.TheVariants.{Nothing, Former}
 use Rattle.json_patch.specs.declared.walk.Edit.TheVariants.{Insert, Take, Swap}
 use Rattle.json_patch.specs.declared.error.StepFault.{StepFault}
-use Rattle.json_patch.specs.declared.error.StepFault.TheVariants.{Refused, Memory}
 use Rattle.json_patch.proofs.Resolved.{split_is}
 use Rattle.json_patch.proofs.Stepped.{prefix_begins, not_begins}
 use Rattle.json_patch.proofs.Undone.{found_append}
@@ -29,16 +32,13 @@ use Rattle.json_patch.proofs.Undone.{found_append}
 -- ---- what is computed of the container
 
 pub no_last : (F : Pointer) (t : List ℕ) → [] ≡ F ++ t ∷ [] → ⊥
-no_last [] t is = cc
-no_last (s ∷ F) t is = cc
+no_last F t is = grind (arith, common_steps)
 
 pub added_in : (d : Data) (P F : Pointer) (t : List ℕ) (v : Data) → P ≡ F ++ t ∷ [] → added d P v ≡ altered (put_in v t) d F
-added_in d [] F t v is = absurd (no_last F t is)
-added_in d (s ∷ P) F t v is = let e = split_is s P F t is in rw (e.0, e.1) refl
+added_in d P F t v is = search (rules, no_last, split_is)
 
 pub removed_in : (d : Data) (P F : Pointer) (t : List ℕ) → P ≡ F ++ t ∷ [] → removed d P ≡ altered (take_from t) d F
-removed_in d [] F t is = absurd (no_last F t is)
-removed_in d (s ∷ P) F t is = let e = split_is s P F t is in rw (e.0, e.1) refl
+removed_in d P F t is = search (rules, no_last, split_is)
 
 altered-append : (g : Data → Option Data) (d : Data) (F Q : Pointer) → altered (λ c. altered g c Q) d F ≡ altered g d (F ++ Q)
 altered-append g d [] Q = refl
@@ -58,53 +58,38 @@ found_none d P F t c is at here = ap (found d) is ∙ found_append d F (t ∷ []
 -- ---- what undoes an add
 
 pub undo_add_in : (d : Data) (P F : Pointer) (t : List ℕ) → P ≡ F ++ t ∷ [] → undo_add d P ≡ undo_in d F t P (found d F)
-undo_add_in d [] F t is = absurd (no_last F t is)
-undo_add_in d (s ∷ P) F t is = let e = split_is s P F t is in rw (e.0, e.1) refl
+undo_add_in d P F t is = search (rules, no_last, split_is)
 
 undo_found : (was : Displaced) (v : Value) (d c : Data) (P F : Pointer) (t : List ℕ) → P ≡ F ++ t ∷ [] → found d F ≡ Some c → Displaces (Insert v) t c was
     → undo_in d F t P (Some c) ≡ undo_at_place (path_of (undo_in d F t P (Some c))) was
-undo_found Nothing v d (array ds) P F t is at h = refl
 undo_found Nothing v d (object ms) P F t is at h = rw (found_none d P F t (object ms) is at h) refl
 undo_found (Former w) v d (object ms) P F t is at h = rw (found_in d P F t (object ms) (view w) is at h) refl
-undo_found (Taken w) v d (array ds) P F t is at h = absurd h
-undo_found was v d c P F t is at h = absurd h
+undo_found was v d c P F t is at h = search rules
 
 pub undo_as_found : (r : Result Displaced StepFault) (v : Value) (d : Data) (P F : Pointer) (t : List ℕ) (x : Data) → P ≡ F ++ t ∷ [] → IfOk r (DisplacesAt (Insert v) d F t) → IfOk r (Undoes d (add P x))
 undo_as_found (Err e) v d P F t x is h = h
-undo_as_found (Ok was) v d P F t x is h =
-    ap (λ o. o ∷ []) (subst (λ u. u ≡ undo_at_place (path_of u) was) (sym (undo_add_in d P F t is ∙ ap (undo_in d F t P) h.1)) (undo_found was v d h.0 P F t is h.1 h.2))
+undo_as_found (Ok was) v d P F t x is h = search (rules, undo_add_in d P F t is, undo_found was v d h.0 P F t is h.1 h.2, undo_add_in, undo_found)
 
 pub undo_swapped : (r : Result Displaced StepFault) (v : Value) (d : Data) (P F : Pointer) (t : List ℕ) (x : Data) → P ≡ F ++ t ∷ [] → IfOk r (DisplacesAt (Swap v) d F t) → IfOk r (Undoes d (replace P x))
-undo_swapped (Ok (Former w)) v d P F t x is h = rw (found_in d P F t h.0 (view w) is h.1 h.2) refl
-undo_swapped (Ok was) v d P F t x is h = absurd h.2
-undo_swapped (Err e) v d P F t x is h = h
+undo_swapped r v d P F t x is h = search (rules, found_in)
 
 pub taken_there : (r : Result Displaced StepFault) (d : Data) (P F : Pointer) (t : List ℕ) → P ≡ F ++ t ∷ [] → IfOk r (DisplacesAt Take d F t) → IfOk r (IsTaken d P)
-taken_there (Ok (Taken w)) d P F t is h = found_in d P F t h.0 (view w) is h.1 h.2
-taken_there (Ok was) d P F t is h = absurd h.2
-taken_there (Err e) d P F t is h = h
+taken_there r d P F t is h = search (rules, found_in)
 
 -- ---- a move
 
 pub inside : (b : Bool) (F P R : Pointer) → P ≡ F ++ R → (IsTrue b ↔ (R ≡ [])) → IsTrue (not b) ↔ IsProperPrefix F P
-inside true F P R is h = (λ no. cc, λ (p : IsProperPrefix F P). (let e : R ≡ p.0 ∷ p.1 = append_cancel_left F R (p.0 ∷ p.1) (sym is ∙ p.2) in let z : R ≡ [] = h.0 refl in cc))
-inside false F P [] is h = (λ yes. (let z : false ≡ true = h.1 refl in cc), λ p. refl)
 inside false F P (t ∷ R) is h = (λ yes. (t, R, is), λ p. refl)
+inside b F P R is h = search (rules, append_cancel_left)
 
 pub move_inside : (d : Data) (F P : Pointer) → IsProperPrefix F P → stepped d (move F P) ≡ Err CannotMoveInsideItself
 move_inside d F P h = rw (prefix_begins F P h)
 
 pub moves : {T : Type 0} (r : Result T StepFault) (d m e v : Data) (F P : Pointer) → (IsProperPrefix F P → ⊥) → removed d F ≡ Some m → found d F ≡ Some v → Attempts r (added m P v) m e → Steps r (stepped d (move F P)) e
-moves (Ok x) d m e v F P out gone stood h = rw (not_begins F P out, gone, stood, h)
-moves (Err (Refused kind)) d m e v F P out gone stood h = rw (not_begins F P out, gone, stood, h.0.1) (ap Err (sym h.0.0))
-moves (Err (Memory f)) d m e v F P out gone stood h = tt
-
-no_source : (P : Pointer) (o : Option Data) → moved P o None ≡ Err InvalidFromPointer
-no_source P None = refl
-no_source P (Some v) = refl
+moves r d m e v F P out gone stood h = search (rules, not_begins)
 
 pub move_nowhere : (d : Data) (F P : Pointer) → (IsProperPrefix F P → ⊥) → removed d F ≡ None → stepped d (move F P) ≡ Err InvalidFromPointer
-move_nowhere d F P out none = rw (not_begins F P out, none) (no_source P (found d F))
+move_nowhere d F P out none = rw (not_begins F P out, none) (search rules)
 
 pub not_inside : (F P : Pointer) → (IsTrue false ↔ IsProperPrefix F P) → IsProperPrefix F P → ⊥
 not_inside F P h p = let yes : false ≡ true = h.1 p in cc
@@ -112,15 +97,13 @@ not_inside F P h p = let yes : false ≡ true = h.1 p in cc
 -- the value is out, and is added or not
 pub move_goes : {T : Type 0} (r : Result T StepFault) (d m e : Data) (v : Value) (S F P G Q : Pointer) → F ≡ drop (length S) G → P ≡ drop (length S) Q → TakesOut d m F P v → Attempts r (added m P (view v)) m e
     → Steps r (stepped d (stripped S (move G Q))) e
-move_goes r d m e v S F P G Q from path out h =
-    subst (λ X. Steps r (stepped d (move X (drop (length S) Q))) e) from (subst (λ X. Steps r (stepped d (move F X)) e) path (moves r d m e (view v) F P out.0 out.1 out.2 h))
+move_goes r d m e v S F P G Q from path out h = search (rules, not_begins)
 
 -- what `?` passed on
 pub move_stops : {T : Type 0} (U : Type 0) (r : Result T StepFault) (fault : StepFault) (d m e : Data) (v : Value) (S F P G Q : Pointer) → F ≡ drop (length S) G → P ≡ drop (length S) Q → IsErr r × IsErrAnd r (λ f. f ≡ fault) → TakesOut d m F P v
     → Attempts {T = U} (Err fault) (added m P (view v)) m e → Steps r (stepped d (stripped S (move G Q))) e
 move_stops U (Ok x) fault d m e v S F P G Q from path gives out h = absurd gives.1
-move_stops {T} U (Err f) fault d m e v S F P G Q from path gives out h =
-    move_goes {T = T} (Err f) d m e v S F P G Q from path out (subst (λ g. Attempts {T = T} (Err g) (added m P (view v)) m e) (sym gives.1) h)
+move_stops {T} U (Err f) fault d m e v S F P G Q from path gives out h = search (rules, move_goes {T = T} (Err f) d m e v S F P G Q from path out, move_goes)
 
 -- ---- without memory
 

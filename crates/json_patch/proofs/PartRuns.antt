@@ -1,5 +1,5 @@
 -- A run on a copy of a part of a document, one step at a time, and what it is of the document.
-use Rattle.std.proofs.Common.{◌≡◌, ◌⊎◌, inl, inr, ⊎_elim, ◌+◌, ◌-◌, ◌<◌, ◌≤◌, Bool, true, false, ℕ, zero, suc, List, [], ◌∷◌, ◌++◌, length, drop, take, Option, Some, Result, Ok, Err, refl, sym, ap, ◌∙◌, subst, arith}
+use Rattle.std.proofs.Common.{◌≡◌, ◌⊎◌, inl, inr, ⊎_elim, ◌+◌, ◌-◌, ◌<◌, ◌≤◌, IsTrue, Bool, false, if◌then◌else◌, ℕ, zero, suc, List, [], ◌∷◌, ◌++◌, length, drop, take, Option, Some, Result, Ok, Err, refl, sym, ap, ◌∙◌, subst, arith, rules}
 use mathlib.Core.List.{reverse}
 use Rattle.std.specs.Result.{is_err}
 use Rattle.serde_json.specs.Data.{Data}
@@ -21,25 +21,16 @@ use Rattle.json_patch.specs.declared.operation.PatchOperation.{PatchOperation}
 use Rattle.json_patch.specs.declared.error.StepFault.{StepFault}
 use Rattle.json_patch.specs.declared.record.Keep.{Keep}
 use Rattle.json_patch.specs.declared.record.Keep.TheVariants.{Inverse}
-use Rattle.json_patch.specs.declared.error.StepFault.TheVariants.{Refused, Memory}
 use Rattle.json_patch.proofs.Applied.{IsAt, IsState, recorded_more, state_more, whole_at}
-use Rattle.json_patch.proofs.Below.{Replaces, replaced_itself, replaces, lifted, some_replaced, stepped_under, whole_stripped}
+use Rattle.json_patch.proofs.Below.{Replaces, replaced_itself, replaces, lifted, some_replaced, stepped_under}
 use Rattle.json_patch.proofs.InversesBelow.{block_under}
 use Rattle.json_patch.proofs.Stepped.{leaves_document, stepped_leaves}
 use Rattle.json_patch.proofs.Undone.{found_document}
 
 -- ---- an operation at the root
 
-stripped_root : (op : Operation) → stripped [] op ≡ op
-stripped_root (add P v) = refl
-stripped_root (remove P) = refl
-stripped_root (replace P v) = refl
-stripped_root (move F P) = refl
-stripped_root (copy F P) = refl
-stripped_root (test P v) = refl
-
 pub stripped_whole : (S : Pointer) (op : Operation) → S ≡ [] → stripped S op ≡ op
-stripped_whole S op root = ap (λ X. stripped X op) root ∙ stripped_root op
+stripped_whole S op root = ap (λ X. stripped X op) root ∙ (search rules)
 
 extended_root : (ops : List Operation) → extended_all [] ops ≡ ops
 extended_root [] = refl
@@ -56,24 +47,8 @@ block_whole d S op root = ap (λ o. extended_all S (block d o)) (stripped_whole 
 pub step_whole : (T : Type 0) (r : Result T StepFault) (d new : Data) (S : Pointer) (op : Operation) → S ≡ [] → Steps r (stepped d (stripped S op)) new → Steps r (stepped d op) new
 step_whole T r d new S op root h = subst (λ o. Steps r (stepped d o) new) (stripped_whole S op root) h
 
-root_begins : (op : Operation) → IsBegun [] op
-root_begins (add P v) = (P, refl)
-root_begins (remove P) = (P, refl)
-root_begins (replace P v) = (P, refl)
-root_begins (move F P) = ((F, refl), (P, refl))
-root_begins (copy F P) = ((F, refl), (P, refl))
-root_begins (test P v) = (P, refl)
-
 begins : (S P : Pointer) → IsProperPrefix S P → IsPrefix S P
 begins S P h = (h.0 ∷ h.1, h.2)
-
-within_begun : (S : Pointer) (op : Operation) → IsWithin S op → IsBegun S op
-within_begun S (add P v) h = begins S P h
-within_begun S (remove P) h = begins S P h
-within_begun S (replace P v) h = begins S P h
-within_begun S (move F P) h = (begins S F h.0, begins S P h.1)
-within_begun S (copy F P) h = (begins S F h.0, begins S P h.1)
-within_begun S (test P v) h = begins S P h
 
 -- ---- an operation at a part, or at the root
 
@@ -81,18 +56,15 @@ abbrev pub IsAtPart : Pointer → Operation → Type 0
 IsAtPart S op = (S ≡ []) ⊎ IsWithin S op
 
 pub begun_whole : (S : Pointer) (op : Operation) → S ≡ [] → IsBegun S op
-begun_whole S op root = subst (λ X. IsBegun X op) (sym root) (root_begins op)
+begun_whole S op root = subst (λ X. IsBegun X op) (sym root) (search rules)
 
 pub begun_part : (S : Pointer) (op : Operation) → IsAtPart S op → IsBegun S op
-begun_part S op h = ⊎_elim (begun_whole S op) (within_begun S op) h
+begun_part S op h = ⊎_elim (begun_whole S op) (search rules) h
 
 within_at : (S : Pointer) (os : List PatchOperation) (start n k : ℕ) (o : PatchOperation) → start ≤ k → k < start + n → k < length os → IsAt os k o → AreWithin S (operations (take n (drop start os))) → IsWithin S (operation_of o)
-within_at S [] start n k o from to less is h = absurd (omega arith)
-within_at S (x ∷ os) zero zero k o from to less is h = absurd (omega arith)
-within_at S (x ∷ os) zero (suc n) zero o from to less is h = subst (λ y. IsWithin S (operation_of y)) (sym is) h.0
 within_at S (x ∷ os) zero (suc n) (suc k) o from to less is h = within_at S os zero n k o (omega arith) (omega arith) (omega arith) is h.1
-within_at S (x ∷ os) (suc start) n zero o from to less is h = absurd (omega arith)
 within_at S (x ∷ os) (suc start) n (suc k) o from to less is h = within_at S os start n k o (omega arith) (omega arith) (omega arith) is h
+within_at S os start n k o from to less is h = search rules
 
 pub part_at : (S : Pointer) (os : List PatchOperation) (start end k : ℕ) (o : PatchOperation) → start ≤ k → k < end → end ≤ length os → IsAt os k o → AreAt S (operations (take (end - start) (drop start os))) → IsAtPart S (operation_of o)
 part_at S os start end k o from to most is h =
@@ -103,36 +75,26 @@ part_at S os start end k o from to most is h =
 module _ (x : Data) (S : Pointer) (b : Data) (op : Operation) (hx : IsDocument x) (there : found x S ≡ Some b) where
   unfolding_root : (r : Result Data PatchErrorKind) → r ≡ lifted x [] r
   unfolding lifted
-  unfolding_root (Ok e) = refl
-  unfolding_root (Err kind) = refl
+  unfolding_root r = search rules
 
   at_root : S ≡ [] → x ≡ b
   at_root root = let same : Some x ≡ Some b = ap (found x) (sym root) ∙ there in cc
 
   stepped_part : IsAtPart S op → stepped x op ≡ lifted x S (stepped b (stripped S op))
-  stepped_part h =
-      ⊎_elim
-      (λ (root : S ≡ []).
-      unfolding_root (stepped x op) ∙ ap (λ T. lifted x T (stepped x op)) (sym root)
-      ∙ ap (lifted x S) (ap (λ y. stepped y op) (at_root root) ∙ ap (stepped b) (sym (stripped_whole S op root))))
-      (λ (w : IsWithin S op). stepped_under x S b hx there op w) h
+  stepped_part h = search (rules, unfolding_root, lifted, at_root, stripped_whole, stepped_under)
 
   pub block_part : IsAtPart S op → block x op ≡ block_at b S op
-  block_part h =
-      ⊎_elim
-      (λ (root : S ≡ []). ap (λ y. block y op) (at_root root) ∙ sym (block_whole b S op root))
-      (λ (w : IsWithin S op). block_under x S b hx there op w) h
+  block_part h = search (rules, at_root, block_whole, block_under)
 
   -- where the step fails there, so does that of the document
   pub part_stops : (T U : Type 0) (f : StepFault) (e new : Data) → IsAtPart S op → Steps {T = T} (Err f) (stepped b (stripped S op)) e → Steps {T = U} (Err f) (stepped x op) new
   unfolding lifted
-  part_stops T U (Refused kind) e new at h = stepped_part at ∙ ap (lifted x S) h
-  part_stops T U (Memory error) e new at h = tt
+  part_stops T U f e new at h = search (rules, stepped_part, lifted)
 
   pub part_steps : (e : Data) → IsAtPart S op → IsWholeOp op → stepped b (stripped S op) ≡ Ok e → (y : Data) × (stepped x op ≡ Ok y) × Replaces x S e y
   unfolding lifted
   part_steps e at whole h =
-      let hs : IsWholeOp (stripped S op) = whole_stripped S op whole in
+      let hs : IsWholeOp (stripped S op) = (search rules) in
       let he : IsDocument e = leaves_document b (stripped S op) e hb hs (stepped_leaves b (stripped S op) e hb hs h) in
       let y : (y : Data) × (replaced x S e ≡ Some y) = some_replaced x S b hx there e in
       (y.0, stepped_part at ∙ ap (lifted x S) h ∙ ap (or_refused InvalidPointer) y.1, replaces x S e y.0 hx he y.1)
@@ -155,24 +117,14 @@ part_first d m os k S w hm s there = record { x = m; state = s; document = hm; t
 
 module _ (d m : Data) (os : List PatchOperation) (k : ℕ) (S : Pointer) (w : Data) (p : Part d m os k S w) where
   pub part_end : (new : Data) → replaced m S w ≡ Some new → IsState d os k new
-  part_end new is =
-      let itself : replaced p.x S w ≡ Some p.x = replaced_itself p.x S w p.document p.there in
-      let again : replaced p.x S w ≡ replaced m S w = p.again w (found_document p.x S w p.document p.there) in
-      let same : p.x ≡ new = cc in
-      subst (IsState d os k) same p.state
+  part_end new is = search (rules, replaced_itself, found_document, IsState)
 
   module _ (o : PatchOperation) (e : Data) (hd : IsDocument d) (hv : AreWhole (operations os)) (less : k < length os) (is : IsAt os k o) (at : IsAtPart S (operation_of o)) (made : stepped w (stripped S (operation_of o)) ≡ Ok e) where
     made_whole : (y : Data) × (stepped p.x (operation_of o) ≡ Ok y) × Replaces p.x S e y
     made_whole = part_steps p.x S w (operation_of o) p.document p.there e at (whole_at os k o less is hv) made
 
     pub part_more : Part d m os (k + 1) S e
-    part_more = record {
-      x = made_whole.0;
-      state = state_more d p.x made_whole.0 os k o hd hv less is p.state made_whole.1;
-      document = made_whole.2.document;
-      there = made_whole.2.found_there;
-      again = λ f hf. made_whole.2.again f hf ∙ p.again f hf;
-    }
+    part_more = search (rules, made_whole, state_more)
 
     pub part_recorded : (keep : Keep) (undo more : List PatchOperation) → keep ≡ Inverse → operations more ≡ operations undo ++ recorded keep (block_at w S (operation_of o))
         → AreRecorded d (operations os) k (operations undo) → AreRecorded d (operations os) (k + 1) (operations more)
@@ -184,8 +136,7 @@ pub ended_at : (d new : Data) (os : List PatchOperation) (k end : ℕ) → k ≡
 ended_at d new os k end is h = subst (λ n. Accepts d (take n (operations os)) new) is h
 
 pub made_put : {T : Type 0} (r : Result T StepFault) (b : Bool) (wanted : Option Data) (old new : Data) → Attempts r wanted old new → b ≡ is_err r → b ≡ false → wanted ≡ Some new
-made_put (Ok x) b wanted old new h told never = h
-made_put (Err f) b wanted old new h told never = let e : true ≡ false = sym told ∙ never in cc
+made_put r b wanted old new h told never = search rules
 
 -- a step made on the document itself
 pub recorded_at : (d m e : Data) (os : List PatchOperation) (k end : ℕ) (S : Pointer) (o : PatchOperation) (keep : Keep) (undo more : List PatchOperation) → k + 1 ≡ end → IsDocument d → AreWhole (operations os) → k < length os → IsAt os k o → IsState d os k m

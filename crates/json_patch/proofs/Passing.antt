@@ -1,5 +1,5 @@
 -- A loop over a patch's members, each of which changes the document's member of its name alone.
-use Rattle.std.proofs.Common.{◌≡◌, ◌≢◌, ℕ, List, ◌∷◌, ⊎_elim, Option, Some, None, string_bytes, refl, sym, ap, ◌∙◌, subst}
+use Rattle.std.proofs.Common.{◌≡◌, ◌≢◌, ℕ, List, ◌∷◌, ⊎_elim, Option, Some, None, string_bytes, sym, ap, ◌∙◌, subst, rules}
 use Rattle.std.specs.Map.{lookup, remove_entry, set_value}
 use Rattle.serde_json.specs.Data.{Data, Members, member, put}
 use Rattle.serde_json.specs.Find.{get_member}
@@ -22,18 +22,10 @@ pub changes_nothing : (t : List ℕ) (now new : Members) → AreMembers now → 
 changes_nothing t now new h is = record { document = subst AreMembers (sym is) h; others = λ k other. ap (get_member k) is; here = ap (get_member t) is }
 
 pub changes_put : (t : List ℕ) (d : Data) (now new : Members) → AreMembers now → IsDocument d → new ≡ put t d now → ChangesAt t now new (Some d)
-changes_put t d now new h hd is = record {
-  document = subst AreMembers (sym is) (put_members t d now h hd);
-  others = λ k other. ap (get_member k) is ∙ get_member-put_other k t d now other;
-  here = ap (get_member t) is ∙ get_member-put t d now;
-}
+changes_put t d now new h hd is = search (rules, put_members, get_member-put_other, get_member-put)
 
 pub changes_without : (t : List ℕ) (now new : Members) → AreMembers now → new ≡ without t now → ChangesAt t now new None
-changes_without t now new h is = record {
-  document = subst AreMembers (sym is) (without_members t now h);
-  others = λ k other. ap (get_member k) is ∙ get_without_other k t now other;
-  here = ap (get_member t) is ∙ get_without t now h;
-}
+changes_without t now new h is = search (rules, without_members, get_without_other, get_without)
 
 pub changes_written : (t : List ℕ) (es new : List Entry) (d w : Value) → AreInOrder es → Some d ≡ lookup (is_named t) es → new ≡ set_value (is_named t) es w → AreMembers (members_view es) → IsDocument (view w)
     → ChangesAt t (members_view es) (members_view new) (Some (view w))
@@ -53,13 +45,7 @@ pub record Passes (M : Option Data → Option Data → Option Data → Type 0) (
 
 module _ (M : Option Data → Option Data → Option Data → Type 0) where
   pub begins : ((was : Option Data) → M was None was) → (start all : Members) → AreMembers start → AreMembers all → Passes M start all start all
-  begins unnamed start all h hp = record {
-    members = hp;
-    document = h;
-    named = λ k q is. is;
-    kept = λ k q is. refl;
-    passed = λ k is. subst (λ o. M (get_member k start) o (get_member k start)) (sym is) (unnamed (get_member k start));
-  }
+  begins unnamed start all h hp = search rules
 
   module _ (start all now new ps : Members) (l : List ℕ) (q : Data) (o : Option Data) (h : Passes M start all now (member l q ps)) (changes : ChangesAt l now new o) (here : M (get_member l now) (Some q) o) where
     apart : (k : List ℕ) (p : Data) → get_member k ps ≡ Some p → k ≢ l
@@ -88,11 +74,7 @@ starts M unnamed start all items is h hp = subst (λ es. Passes M start (members
 pub steps_at : (M : Option Data → Option Data → Option Data → Type 0) (start all now new : Members) (items left : List Entry) (e : Entry) (t : List ℕ)
     → items ≡ e ∷ left → t ≡ string_bytes e.0 → Passes M start all now (members_view items)
     → (IsDocument (view e.1) → (o : Option Data) × ChangesAt t now new o × M (get_member t now) (Some (view e.1)) o) → Passes M start all new (members_view left)
-steps_at M start all now new items left e t is_next named before step =
-    let h : Passes M start all now (member t (view e.1) (members_view left)) =
-    subst (λ x. Passes M start all now (member x (view e.1) (members_view left))) (sym named) (subst (λ es. Passes M start all now (members_view es)) is_next before) in
-    let s = step h.members.1 in
-    steps M start all now new (members_view left) t (view e.1) s.0 h s.1 s.2
+steps_at M start all now new items left e t is_next named before step = search (rules, steps M start all now new (members_view left) t (view e.1), steps)
 
 pub next_document : (items left : List Entry) (e : Entry) → items ≡ e ∷ left → AreMembers (members_view items) → IsDocument (view e.1)
 next_document items left e is_next h = (subst (λ es. AreMembers (members_view es)) is_next h).1

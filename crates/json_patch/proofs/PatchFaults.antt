@@ -1,50 +1,31 @@
 -- The faults of an operation value, in their order.
-use Rattle.std.proofs.Common.{◌≡◌, ◌<◌, ◌≤◌, ◌^◌, ℕ, pos, negsuc, List, [], ◌∷◌, ◌⊎◌, Option, Some, None, Ordering, Less, Equal, Greater, nat_cmp, refl, sym, ap, ◌∙◌, subst, inl, inr, arith, ⊎_elim, codes}
-use Rattle.std.proofs.lemmas.Bool.{cases_lt}
-use Rattle.std.specs.Cmp.Lexicographic.{slice_cmp}
-use Rattle.serde_json.specs.Data.{Num, unsigned, negative, float, Data, null, boolean, number, string, array, object, Items, no_items, item, Members, no_members, member}
+use Rattle.std.proofs.Common.{◌≡◌, ℕ, List, [], ◌∷◌, ◌⊎◌, Option, Some, None, refl, sym, ap, ◌∙◌, subst, inl, inr, ⊎_elim, codes, rules}
+use Rattle.serde_json.specs.Data.{Data, string, array, object, Items, no_items, item, Members, no_members, member}
 use Rattle.serde_json.specs.Find.{get}
 use Rattle.jsonptr.specs.Text.{Pointer, text_of}
 use Rattle.jsonptr.specs.Faults.{IsFault}
 use Rattle.jsonptr.specs.declared.ParseError.{ParseError}
-use Rattle.json_patch.specs.Document.{IsDocument, AreDocuments, AreMembers, IsBelowMembers, IsWhole}
-use Rattle.json_patch.specs.PatchValue.{IsObject, Lacks, HasNoText, HasNoPointer, HasNoDocument, IsOneOf, IsFieldFault, NoneBelow, IsFirst, rank}
+use Rattle.json_patch.specs.Document.{IsDocument, AreDocuments, AreMembers, IsBelowMembers}
+use Rattle.json_patch.specs.PatchValue.{IsObject, Lacks, HasNoText, HasNoPointer, HasNoDocument, IsFieldFault, NoneBelow, IsFirst, rank}
 use Rattle.json_patch.specs.ReadSteps.{HasAnyFrom, IsPointerAt}
 use Rattle.json_patch.specs.declared.error.ReadKind.{ReadKind}
-use Rattle.json_patch.specs.declared.error.ReadKind.TheVariants.{NotAList, NotAnObject, MissingOp, OpNotText, UnknownOp, MissingFrom, FromNotText, BadFrom, MissingPath, PathNotText, BadPath, MissingValue, ValueNotWhole}
+use Rattle.json_patch.specs.declared.error.ReadKind.TheVariants.{BadFrom, BadPath}
 use Rattle.jsonptr.specs.TextLaws.{pointer_or_fault, pointer_has_no_fault, one_fault}
 
 -- ---- a value is a document, or it isn't
-
-less_or_not : (o : Ordering) → (o ≡ Less) ⊎ (o ≡ Less → ⊥)
-less_or_not Less = inl refl
-less_or_not Equal = inr (λ e. cc)
-less_or_not Greater = inr (λ e. cc)
 
 both_or_not : {A B : Type 0} → A ⊎ (A → ⊥) → B ⊎ (B → ⊥) → (A × B) ⊎ (A × B → ⊥)
 both_or_not a b = ⊎_elim (λ x. ⊎_elim (λ y. inl (x, y)) (λ n. inr (λ h. n h.1)) b) (λ n. inr (λ h. n h.0)) a
 
 below_or_not : (k : List ℕ) (ms : Members) → IsBelowMembers k ms ⊎ (IsBelowMembers k ms → ⊥)
 below_or_not k no_members = inl tt
-below_or_not k (member l d ms) = both_or_not (less_or_not (slice_cmp nat_cmp k l)) (below_or_not k ms)
-
-below_bound_or_not : (n bound : ℕ) → (n < bound) ⊎ (n < bound → ⊥)
-below_bound_or_not n bound = ⊎_elim inl (λ past. inr (λ l. absurd (omega arith))) (cases_lt n bound)
-
-whole_or_not : (n : Num) → IsWhole n ⊎ (IsWhole n → ⊥)
-whole_or_not (unsigned n) = below_bound_or_not n (2 ^ 64)
-whole_or_not (negative (pos n)) = inr (λ h. h)
-whole_or_not (negative (negsuc n)) = below_bound_or_not n (2 ^ 63)
-whole_or_not (float x) = inr (λ h. h)
+below_or_not k (member l d ms) = both_or_not (search rules) (below_or_not k ms)
 
 mutual
   pub document_or_not : (d : Data) → IsDocument d ⊎ (IsDocument d → ⊥)
-  document_or_not null = inl tt
-  document_or_not (boolean b) = inl tt
-  document_or_not (number n) = whole_or_not n
-  document_or_not (string s) = inl tt
   document_or_not (array ds) = documents_or_not ds
   document_or_not (object ms) = members_or_not ms
+  document_or_not d = search rules
 
   documents_or_not : (ds : Items) → AreDocuments ds ⊎ (AreDocuments ds → ⊥)
   documents_or_not no_items = inl tt
@@ -52,40 +33,21 @@ mutual
 
   members_or_not : (ms : Members) → AreMembers ms ⊎ (AreMembers ms → ⊥)
   members_or_not no_members = inl tt
-  members_or_not (member k d ms) =
-      ⊎_elim (λ x. ⊎_elim (λ y. ⊎_elim (λ z. inl (x, y, z)) (λ n. inr (λ h. n h.2)) (members_or_not ms)) (λ n. inr (λ h. n h.1)) (document_or_not d))
-      (λ n. inr (λ h. n h.0)) (below_or_not k ms)
+  members_or_not (member k d ms) = search (rules, below_or_not, members_or_not ms, document_or_not d)
 
 -- ---- what is found at a member
 
 pub object_or_not : (v : Data) → IsObject v ⊎ (IsObject v → ⊥)
-object_or_not null = inr (λ h. let e = h.1 in cc)
-object_or_not (boolean b) = inr (λ h. let e = h.1 in cc)
-object_or_not (number n) = inr (λ h. let e = h.1 in cc)
-object_or_not (string s) = inr (λ h. let e = h.1 in cc)
-object_or_not (array ds) = inr (λ h. let e = h.1 in cc)
 object_or_not (object ms) = inl (ms, refl)
+object_or_not v = search rules
 
 text_or_not : (d : Data) → ((t : List ℕ) × (d ≡ string t)) ⊎ ((t : List ℕ) → d ≡ string t → ⊥)
-text_or_not null = inr (λ t e. cc)
-text_or_not (boolean b) = inr (λ t e. cc)
-text_or_not (number n) = inr (λ t e. cc)
-text_or_not (string s) = inl (s, refl)
-text_or_not (array ds) = inr (λ t e. cc)
 text_or_not (object ms) = inr (λ t e. cc)
+text_or_not d = search rules
 
 some_or_none : (o : Option Data) → ((d : Data) × (o ≡ Some d)) ⊎ (o ≡ None)
 some_or_none None = inr refl
 some_or_none (Some d) = inl (d, refl)
-
--- only an object has a member
-pub object_found : (k : List ℕ) (v d : Data) → get k v ≡ Some d → IsObject v
-object_found k null d e = cc
-object_found k (boolean b) d e = cc
-object_found k (number n) d e = cc
-object_found k (string s) d e = cc
-object_found k (array ds) d e = cc
-object_found k (object ms) d e = (ms, refl)
 
 -- what is found of a member that is to be a pointer's text
 pub data Text (v : Data) (k : List ℕ) : Type 0 where
@@ -117,128 +79,41 @@ held_at v k o =
 pub found_lacks : (v : Data) (k : List ℕ) (d : Data) → get k v ≡ Some d → Lacks v k → ⊥
 found_lacks v k d e h = let n = h.1 in cc
 
-pub same_found : (v : Data) (k : List ℕ) (d c : Data) → get k v ≡ Some d → get k v ≡ Some c → d ≡ c
-same_found v k d c e f = cc
-
 pub found_text : (v : Data) (k t : List ℕ) → get k v ≡ Some (string t) → HasNoText v k → ⊥
-found_text v k t e h = h.2 t (same_found v k h.0 (string t) h.1 e)
+found_text v k t e h = h.2 t (search rules)
 
 pub same_text : (v : Data) (k t s : List ℕ) → get k v ≡ Some (string t) → get k v ≡ Some (string s) → t ≡ s
 same_text v k t s e f = cc
 
 pub found_pointer : (v : Data) (k : List ℕ) (P : Pointer) (e : ParseError) → get k v ≡ Some (string (text_of P)) → HasNoPointer v k e → ⊥
 found_pointer v k P e f h =
-    pointer_has_no_fault P e (subst (λ t. IsFault t e) (same_text v k h.0 (text_of P) h.1 f) h.2)
+    pointer_has_no_fault P e (subst (λ t. IsFault t e) (search rules) h.2)
 
 pub found_document : (v : Data) (k : List ℕ) (d : Data) → get k v ≡ Some d → IsDocument d → HasNoDocument v k → ⊥
-found_document v k d e doc h = h.2 (subst IsDocument (same_found v k d h.0 e h.1) doc)
+found_document v k d e doc h = h.2 (subst IsDocument (search rules) doc)
 
 pub no_pointer_one : (v : Data) (k : List ℕ) (e f : ParseError) → HasNoPointer v k e → HasNoPointer v k f → e ≡ f
-no_pointer_one v k e f h g = one_fault g.0 e f (subst (λ t. IsFault t e) (same_text v k h.0 g.0 h.1 g.1) h.2) g.2
+no_pointer_one v k e f h g = one_fault g.0 e f (subst (λ t. IsFault t e) (search rules) h.2) g.2
 
 -- ---- the faults by their ranks
 
-module _ (names : List (List ℕ)) (v : Data) where
-  abbrev At : ReadKind → Type 0
-  At = IsFieldFault names v
-
-  pub object_clears : IsObject v → NoneBelow At 6
-  object_clears o NotAList l f = f
-  object_clears o NotAnObject l f = f o
-  object_clears o MissingOp l f = f
-  object_clears o OpNotText l f = f
-  object_clears o UnknownOp l f = f
-  object_clears o _ l f = absurd (omega arith)
-
-  pub not_object : (IsObject v → ⊥) → IsFirst At NotAnObject
-  not_object n = record { here = n; none_before = before }
-    where
-      before : NoneBelow At 2
-      before NotAList l f = f
-      before _ l f = absurd (omega arith)
-
-  -- no fault is looked for before `path`
-  pub past_from : IsObject v → HasAnyFrom names v → NoneBelow At 9
-  past_from o has NotAnObject l f = f o
-  past_from o has MissingFrom l f = let F = has f.0 in found_lacks v (codes "from") _ F.1 f.1
-  past_from o has FromNotText l f = let F = has f.0 in found_text v (codes "from") _ F.1 f.1
-  past_from o has (BadFrom e) l f = let F = has f.0 in found_pointer v (codes "from") F.0 e F.1 f.1
-  past_from o has NotAList l f = f
-  past_from o has MissingOp l f = f
-  past_from o has OpNotText l f = f
-  past_from o has UnknownOp l f = f
-  past_from o has _ l f = absurd (omega arith)
-
-  module _ (below : NoneBelow At 6) (has : IsOneOf names (codes "from")) where
-    up_to : (r : ℕ) → r ≤ 8 → (6 < r → Lacks v (codes "from") → ⊥) → (7 < r → HasNoText v (codes "from") → ⊥) → NoneBelow At r
-    up_to r small a t MissingFrom l f = a l f.1
-    up_to r small a t FromNotText l f = t l f.1
-    up_to r small a t other l f = below other (omega (arith, l, small)) f
-
-    pub from_missing : Lacks v (codes "from") → IsFirst At MissingFrom
-    from_missing h = record { here = (has, h); none_before = below }
-
-    pub from_no_text : HasNoText v (codes "from") → IsFirst At FromNotText
-    from_no_text h = record { here = (has, h); none_before = up_to 7 (omega arith) (λ l. found_lacks v (codes "from") _ h.1) (λ l. absurd (omega (arith, l))) }
-
-    pub from_no_pointer : (e : ParseError) → HasNoPointer v (codes "from") e → IsFirst At (BadFrom e)
-    from_no_pointer e h = record { here = (has, h); none_before = up_to 8 (omega arith) (λ l. found_lacks v (codes "from") _ h.1) (λ l. found_text v (codes "from") _ h.1) }
-
-  module _ (below : NoneBelow At 9) where
-    path_up_to : (r : ℕ) → r ≤ 12 → (9 < r → Lacks v (codes "path") → ⊥) → (10 < r → HasNoText v (codes "path") → ⊥) → (11 < r → (e : ParseError) → HasNoPointer v (codes "path") e → ⊥) → NoneBelow At r
-    path_up_to r small a t p MissingPath l f = a l f
-    path_up_to r small a t p PathNotText l f = t l f
-    path_up_to r small a t p (BadPath e) l f = p l e f
-    path_up_to r small a t p other l f = below other (omega (arith, l, small)) f
-
-    pub path_clears : (P : Pointer) → get (codes "path") v ≡ Some (string (text_of P)) → NoneBelow At 12
-    path_clears P found = path_up_to 12 (omega arith) (λ l. found_lacks v (codes "path") _ found) (λ l. found_text v (codes "path") _ found) (λ l e. found_pointer v (codes "path") P e found)
-
-    pub path_missing : Lacks v (codes "path") → IsFirst At MissingPath
-    path_missing h = record { here = h; none_before = below }
-
-    pub path_no_text : HasNoText v (codes "path") → IsFirst At PathNotText
-    path_no_text h = record { here = h; none_before = path_up_to 10 (omega arith) (λ l. found_lacks v (codes "path") _ h.1) (λ l. absurd (omega (arith, l))) (λ l. absurd (omega (arith, l))) }
-
-    pub path_no_pointer : (e : ParseError) → HasNoPointer v (codes "path") e → IsFirst At (BadPath e)
-    path_no_pointer e h = record { here = h; none_before = path_up_to 11 (omega arith) (λ l. found_lacks v (codes "path") _ h.1) (λ l. found_text v (codes "path") _ h.1) (λ l. absurd (omega (arith, l))) }
-
-  module _ (below : NoneBelow At 12) (has : IsOneOf names (codes "value")) where
-    pub value_missing : Lacks v (codes "value") → IsFirst At MissingValue
-    value_missing h = record { here = (has, h); none_before = below }
-
-    pub value_no_document : HasNoDocument v (codes "value") → IsFirst At ValueNotWhole
-    value_no_document h = record { here = (has, h); none_before = λ other l f. ⊎_elim (λ low. below other low f) (λ high. at other high l f) (cases_lt (rank other) 12) }
-      where
-        at : (other : ReadKind) → 12 ≤ rank other → rank other < 13 → At other → ⊥
-        at MissingValue g l f = found_lacks v (codes "value") _ h.1 f.1
-        at _ g l f = absurd (omega arith)
+-- no fault is looked for before `path`
+pub past_from : (names : List (List ℕ)) (v : Data) → IsObject v → HasAnyFrom names v → NoneBelow (IsFieldFault names v) 9
+past_from names v o has (BadFrom e) l f = let F = has f.0 in found_pointer v (codes "from") F.0 e F.1 f.1
+past_from names v o has kind l f = search rules
 
 -- no fault is looked for before `value`
 pub past_path : (v : Data) (P : Pointer) → IsPointerAt v (codes "path") P → NoneBelow (IsFieldFault (codes "path" ∷ codes "value" ∷ []) v) 12
-past_path v P found = path_clears (codes "path" ∷ codes "value" ∷ []) v (past_from (codes "path" ∷ codes "value" ∷ []) v (object_found (codes "path") v _ found) (λ h. cc)) P found
+past_path v P found (BadPath e) l f = found_pointer v (codes "path") P e found f
+past_path v P found kind l f = search rules
 
 -- ---- one first fault
 
 module _ (F : ReadKind → Type 0) (from_one : (e f : ParseError) → F (BadFrom e) → F (BadFrom f) → e ≡ f) (path_one : (e f : ParseError) → F (BadPath e) → F (BadPath f) → e ≡ f) where
   same_rank : (kind other : ReadKind) → rank kind ≡ rank other → F kind → F other → other ≡ kind
-  same_rank NotAList NotAList r h g = refl
-  same_rank NotAnObject NotAnObject r h g = refl
-  same_rank MissingOp MissingOp r h g = refl
-  same_rank OpNotText OpNotText r h g = refl
-  same_rank UnknownOp UnknownOp r h g = refl
-  same_rank MissingFrom MissingFrom r h g = refl
-  same_rank FromNotText FromNotText r h g = refl
   same_rank (BadFrom e) (BadFrom f) r h g = ap BadFrom (from_one f e g h)
-  same_rank MissingPath MissingPath r h g = refl
-  same_rank PathNotText PathNotText r h g = refl
   same_rank (BadPath e) (BadPath f) r h g = ap BadPath (path_one f e g h)
-  same_rank MissingValue MissingValue r h g = refl
-  same_rank ValueNotWhole ValueNotWhole r h g = refl
-  same_rank _ _ r h g = absurd (omega arith)
+  same_rank kind other r h g = search rules
 
   pub first_one : (kind other : ReadKind) → IsFirst F kind → IsFirst F other → other ≡ kind
-  first_one kind other h g =
-      ⊎_elim (λ l. absurd (g.none_before kind l h.here)) (λ le. ⊎_elim (λ m. absurd (h.none_before other m g.here))
-      (λ ge. same_rank kind other (omega (arith, le, ge)) h.here g.here) (cases_lt (rank other) (rank kind)))
-      (cases_lt (rank kind) (rank other))
+  first_one kind other h g = search (rules, same_rank)

@@ -1,5 +1,5 @@
 -- Locations under and beside another.
-use Rattle.std.proofs.Common.{◌≡◌, ℕ, ◌<◌, ◌≤◌, List, [], ◌∷◌, ◌++◌, ◌⊎◌, inl, inr, ⊎_elim, refl, sym, ap, subst, arith}
+use Rattle.std.proofs.Common.{◌≡◌, ℕ, ◌<◌, ◌≤◌, List, [], ◌∷◌, ◌++◌, ◌⊎◌, inl, inr, ⊎_elim, refl, ap, arith, rules}
 use Rattle.std.proofs.lemmas.Bool.{cases_lt}
 use Rattle.std.proofs.lemmas.List.{append_cancel_left}
 use Rattle.json_patch.specs.Document.{Step, key, place}
@@ -13,25 +13,13 @@ abbrev pub IsApart : List Step → List Step → Type 0
 IsApart L X = (R : List Step) → X ≡ L ++ R → ⊥
 
 pub under_cases : (L X : List Step) → IsUnder L X ⊎ IsApart L X
-under_cases [] X = inl (X, refl)
-under_cases (s ∷ L) [] = inr (λ R h. cc)
-under_cases (s ∷ L) (r ∷ X) =
-    ⊎_elim
-    (λ (e : r ≡ s). ⊎_elim (λ (u : IsUnder L X). inl (u.0, (let w : X ≡ L ++ u.0 = u.1 in cc))) (λ (out : IsApart L X). inr (λ R h. out R cc)) (under_cases L X))
-    (λ (out : r ≡ s → ⊥). inr (λ R h. out cc)) (step_cases r s)
+under_cases (s ∷ L) (r ∷ X) = search (rules, step_cases r s, under_cases L X, step_cases)
+under_cases L X = search rules
 
 -- X is under what the step s at L covers or moves
 abbrev pub IsMoved : List Step → Step → List Step → Type 0
 IsMoved L (key k) X = (R : List Step) × (X ≡ L ++ key k ∷ R)
 IsMoved L (place i) X = (j : ℕ) × (R : List Step) × (i ≤ j) × (X ≡ L ++ place j ∷ R)
-
-apart_beside : (L : List Step) (s : Step) (X : List Step) → IsApart L X → IsBeside L s X
-apart_beside L (key k) X out = λ R h. out (key k ∷ R) h
-apart_beside L (place i) X out = λ j R le h. out (place j ∷ R) h
-
-beside_start : (s : Step) → IsBeside [] s []
-beside_start (key k) = λ R h. cc
-beside_start (place i) = λ j R le h. cc
 
 next_cases : (s r : Step) (R : List Step) → IsMoved [] s (r ∷ R) ⊎ IsBeside [] s (r ∷ R)
 next_cases (key k) r R = ⊎_elim (λ e. inl (R, ap (λ x. x ∷ R) e)) (λ out. inr (λ Q h. out cc)) (step_cases r (key k))
@@ -40,25 +28,14 @@ next_cases (place i) (place j) R =
     ⊎_elim (λ (lt : j < i). inr (λ m Q le h. (let e : j ≡ m = cc in omega arith))) (λ (le : i ≤ j). inl (j, R, le, refl)) (cases_lt j i)
 
 split_cases : (s : Step) (Y : List Step) → IsMoved [] s Y ⊎ IsBeside [] s Y
-split_cases s [] = inr (beside_start s)
+split_cases s [] = inr (search rules)
 split_cases s (r ∷ R) = next_cases s r R
 
--- what holds below L, seen from the start
-moved_under : (L : List Step) (s : Step) (Y : List Step) → IsMoved [] s Y → IsMoved L s (L ++ Y)
-moved_under L (key k) Y m = (m.0, ap (λ Z. L ++ Z) m.1)
-moved_under L (place i) Y m = (m.0, m.1, m.2, ap (λ Z. L ++ Z) m.3)
-
-beside_under : (L : List Step) (s : Step) (Y : List Step) → IsBeside [] s Y → IsBeside L s (L ++ Y)
-beside_under L (key k) Y b = λ R h. b R (append_cancel_left L Y (key k ∷ R) h)
-beside_under L (place i) Y b = λ j R le h. b j R le (append_cancel_left L Y (place j ∷ R) h)
-
 pub beside_inside : (L : List Step) (s : Step) (Y : List Step) → IsBeside L s (L ++ Y) → IsBeside [] s Y
-beside_inside L (key k) Y b = λ R h. b R (ap (λ Z. L ++ Z) h)
-beside_inside L (place i) Y b = λ j R le h. b j R le (ap (λ Z. L ++ Z) h)
+beside_inside L s Y b = search rules
 
 moved_cases_at : (L : List Step) (s : Step) (Y : List Step) → IsMoved L s (L ++ Y) ⊎ IsBeside L s (L ++ Y)
-moved_cases_at L s Y = ⊎_elim (λ m. inl (moved_under L s Y m)) (λ b. inr (beside_under L s Y b)) (split_cases s Y)
+moved_cases_at L s Y = ⊎_elim (λ m. inl (search rules)) (λ b. inr (search (rules, append_cancel_left))) (split_cases s Y)
 
 pub moved_cases : (L : List Step) (s : Step) (X : List Step) → IsMoved L s X ⊎ IsBeside L s X
-moved_cases L s X =
-    ⊎_elim (λ (u : IsUnder L X). subst (λ Z. IsMoved L s Z ⊎ IsBeside L s Z) (sym u.1) (moved_cases_at L s u.0)) (λ (out : IsApart L X). inr (apart_beside L s X out)) (under_cases L X)
+moved_cases L s X = search (rules, moved_cases_at L s, under_cases L X, moved_cases_at, under_cases)

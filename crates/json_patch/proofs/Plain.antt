@@ -1,8 +1,7 @@
 -- An inverse holds `add`, `remove` and `replace` alone, and no `-` for a place in a list.
-use Rattle.std.proofs.Common.{◌≡◌, ℕ, List, [], ◌∷◌, ◌++◌, append_assoc, Option, Some, None, option_and_then, Ok, refl, sym, ap, ◌∙◌, subst}
+use Rattle.std.proofs.Common.{◌≡◌, ℕ, List, [], ◌∷◌, ◌++◌, append_assoc, Option, Some, None, option_and_then, Ok, refl, sym, ap, ◌∙◌, subst, rules}
 use Rattle.std.proofs.lemmas.Option.{option_and_then_some}
-use Rattle.serde_json.specs.Data.{Data, array, object, Items}
-use Rattle.serde_json.specs.Find.{get_member}
+use Rattle.serde_json.specs.Data.{Data, array, Items}
 use Rattle.jsonptr.specs.Text.{Pointer}
 use Rattle.jsonptr.specs.Places.{next_token}
 use Rattle.json_patch.specs.Document.{IsDocument, child}
@@ -43,22 +42,15 @@ found_changed f d (t ∷ P) e is =
 
 -- in a list nothing stands at `-`
 next_nowhere : (d : Data) (F R : Pointer) (ds : Items) → found d F ≡ Some (array ds) → found d (F ++ next_token ∷ R) ≡ None
-next_nowhere d F R ds at = found_append d F (next_token ∷ R) ∙ ap (option_and_then (λ p. found p (next_token ∷ R))) at ∙ none
-  where
-    none : found (array ds) (next_token ∷ R) ≡ None
-    none = rw next_is_no_place refl
+next_nowhere d F R ds at = search (rules, found_append, option_and_then, next_is_no_place)
 
 -- and nothing is taken there
 next_untaken : (p : Data) (ds : Items) → take_from next_token p ≡ Some (array ds) → ⊥
-next_untaken (array es) ds is = let none : take_from next_token (array es) ≡ None = rw next_is_no_place refl in cc
-next_untaken (object ms) ds is = option_map_some _ (get_member next_token ms) (array ds) is (λ c at whole. cc)
-next_untaken p ds is = cc
+next_untaken p ds is = search (rules, next_is_no_place, option_map_some)
 
 -- a pointer that resolves holds no such `-`
 plain_found : (d : Data) (P : Pointer) (c : Data) → found d P ≡ Some c → NamesNoNext d P
-plain_found d P c is F R ds whole stands =
-    let none : found d (F ++ next_token ∷ R) ≡ None = next_nowhere d F R ds (stands_found d F (array ds) stands) in
-    let some : found d (F ++ next_token ∷ R) ≡ Some c = ap (found d) (sym whole) ∙ is in cc
+plain_found d P c is F R ds whole stands = search (rules, next_nowhere d F R ds (stands_found d F (array ds) stands), stands_found d F (array ds) stands, next_nowhere, stands_found)
 
 -- nor does one from which a value was removed
 plain_removed : (d : Data) (P : Pointer) (m : Data) → removed d P ≡ Some m → NamesNoNext m P

@@ -1,7 +1,7 @@
 -- The operation that `op` names, and the items of a list, read one by one.
-use Rattle.std.proofs.Common.{◌≡◌, ◌<◌, ℕ, zero, suc, List, [], ◌∷◌, ◌++◌, take, length, get_or, subst, arith, Some, codes, Result, Ok, Err}
+use Rattle.std.proofs.Common.{◌≡◌, ◌<◌, ℕ, suc, List, [], ◌∷◌, ◌++◌, take, length, get_or, arith, Some, codes, Result, rules}
 use Rattle.std.specs.Prelude.{IsErrAnd}
-use Rattle.serde_json.specs.Data.{Data, Items, no_items, item, string}
+use Rattle.serde_json.specs.Data.{Data, Items, item, string}
 use Rattle.serde_json.specs.Find.{get}
 use Rattle.serde_json.specs.View.{view, items_view}
 use Rattle.serde_json.specs.declared.value.Value.{Value}
@@ -9,38 +9,27 @@ use Rattle.json_patch.specs.Operation.{Operation, AreWhole, operation_of, operat
 use Rattle.json_patch.specs.PatchValue.{ReadsItems, ReadsOperation, RefusesItem, RefusesFields, RefusesOperation, name_of, field_names}
 use Rattle.json_patch.specs.ReadSteps.{IfUnread, OfKind}
 use Rattle.json_patch.specs.declared.reading.ItemFault.{ItemFault}
-use Rattle.json_patch.specs.declared.reading.ItemFault.TheVariants.{Refused, Memory}
 use Rattle.json_patch.specs.declared.error.ReadKind.{ReadKind}
 use Rattle.json_patch.specs.declared.operation.PatchOperation.{PatchOperation}
-use Rattle.json_patch.proofs.PatchValues.{named_refused}
 
 -- what is read is whole
 pub reads_whole : (ds : Items) (ops : List Operation) → ReadsItems ds ops → AreWhole ops
-reads_whole no_items [] h = tt
 reads_whole (item d ds) (op ∷ ops) h = (h.0.1, reads_whole ds ops h.1)
-reads_whole no_items (op ∷ ops) h = absurd h
-reads_whole (item d ds) [] h = absurd h
+reads_whole ds ops h = search rules
 
 -- the next item is read
 pub item_read : (vs : List Value) (os : List PatchOperation) (n : ℕ) (v : Value) (o : PatchOperation) → n < length vs → v ≡ get_or vs n v
     → ReadsItems (items_view (take n vs)) (operations os) → ReadsOperation (view v) (operation_of o) → ReadsItems (items_view (take (suc n) vs)) (operations (os ++ o ∷ []))
-item_read [] os n v o l is h g = absurd (omega arith)
-item_read (w ∷ vs) [] zero v o l is h g = (subst (λ x. ReadsOperation (view x) (operation_of o)) is g, tt)
-item_read (w ∷ vs) (p ∷ os) zero v o l is h g = absurd h
-item_read (w ∷ vs) [] (suc n) v o l is h g = absurd h
 item_read (w ∷ vs) (p ∷ os) (suc n) v o l is h g = (h.0, item_read vs os n v o (omega arith) is h.1 g)
+item_read vs os n v o l is h g = search rules
 
 -- the next item is refused
 pub item_refused : (vs : List Value) (os : List PatchOperation) (n : ℕ) (v : Value) (kind : ReadKind) → n < length vs → v ≡ get_or vs n v
     → ReadsItems (items_view (take n vs)) (operations os) → RefusesOperation (view v) kind → RefusesItem (items_view vs) n kind
-item_refused [] os n v kind l is h g = absurd (omega arith)
-item_refused (w ∷ vs) os zero v kind l is h g = subst (λ x. RefusesOperation (view x) kind) is g
-item_refused (w ∷ vs) [] (suc n) v kind l is h g = absurd h
 item_refused (w ∷ vs) (p ∷ os) (suc n) v kind l is h g = (operation_of p, h.0, item_refused vs os n v kind (omega arith) is h.1 g)
+item_refused vs os n v kind l is h g = search rules
 
 -- the members of the operation that `op` names are at fault
 pub named_fault : {U : Type 0} (op : Operation) (v : Data) (n : List ℕ) (f : ItemFault) (r : Result U ItemFault) → get (codes "op") v ≡ Some (string n) → n ≡ name_of op
     → OfKind (RefusesFields (field_names op) v) f → IsErrAnd r (λ g. g ≡ f) → IfUnread r (RefusesOperation v)
-named_fault op v n f (Ok x) e is h at = absurd at
-named_fault op v n (Refused kind) (Err g) e is h at = rw at (named_refused v op kind (rw is at e) h)
-named_fault op v n (Memory error) (Err g) e is h at = rw at tt
+named_fault op v n f r e is h at = search rules

@@ -1,39 +1,30 @@
 -- The computed document is the one that remove leaves, and the only one.
-use Rattle.std.proofs.Common.{◌≡◌, ℕ, suc, List, [], ◌∷◌, ◌++◌, ⊎_elim, Some, None, refl, sym, ap, ◌∙◌, subst}
+use Rattle.std.proofs.Common.{◌≡◌, ℕ, List, [], ◌∷◌, ◌++◌, Some, None, ap, subst, rules}
 use Rattle.std.proofs.lemmas.Option.{option_and_then_some}
 use Rattle.serde_json.specs.Data.{Data, array, object, Items, Members}
 use Rattle.json_patch.specs.Document.{IsDocument, Step, key, place, child, look}
 use Rattle.json_patch.specs.Resolve.{Names, Resolves}
-use Rattle.json_patch.specs.Change.{IsBeside, ShiftsDown, TakesAt, IsRemoved}
+use Rattle.json_patch.specs.Change.{IsBeside, TakesAt, IsRemoved}
 use Rattle.json_patch.specs.ChangeComputed.{step_of, drop_child, front_of, last_of, take_from, removed, remove_item, without}
 use Rattle.json_patch.proofs.Alike.{alike}
 use Rattle.json_patch.proofs.Members.{get_without, get_without_other, without_members}
 use Rattle.json_patch.proofs.Items.{get_remove_later, get_remove_before, remove_items}
 use Rattle.json_patch.proofs.Places.{IsMoved, moved_cases}
-use Rattle.json_patch.proofs.Resolved.{option_map_some, step_names, names_step, resolves_same, resolves_document, Ends, ends, ended, last_same, no_end}
+use Rattle.json_patch.proofs.Resolved.{option_map_some, resolves_same, resolves_document, Ends, ends, ended, last_same, no_end}
 use Rattle.json_patch.proofs.Altered.{Grafts, IsAltered, altered_is, altered_some}
 use Rattle.json_patch.proofs.Slots.{below, not_from}
 use Rattle.json_patch.proofs.Added.{elsewhere_lift}
 
 member_elsewhere : (k : List ℕ) (ms : Members) (X : List Step) → IsBeside [] (key k) X → look (object (without k ms)) X ≡ look (object ms) X
-member_elsewhere k ms [] b = refl
 member_elsewhere k ms (key q ∷ R) b = below _ _ R (get_without_other q k ms (λ h. b R (ap (λ x. key x ∷ R) h)))
-member_elsewhere k ms (place j ∷ R) b = refl
+member_elsewhere k ms X b = search rules
 
 item_elsewhere : (i : ℕ) (ds : Items) (X : List Step) → IsBeside [] (place i) X → look (array (remove_item i ds)) X ≡ look (array ds) X
-item_elsewhere i ds [] b = refl
-item_elsewhere i ds (key q ∷ R) b = refl
 item_elsewhere i ds (place j ∷ R) b = below _ _ R (get_remove_before j i ds (not_from i j R b))
-
-drop_takes : (s : Step) (p c : Data) → IsDocument p → child s p ≡ Some c → TakesAt p (drop_child s p) [] s
-drop_takes (key k) (object ms) c h is = record { later = λ R. below _ _ R (get_without k ms h); elsewhere = member_elsewhere k ms }
-drop_takes (place i) (array ds) c h is = record { later = λ j R le. below _ _ R (get_remove_later j i ds le); elsewhere = item_elsewhere i ds }
-drop_takes s p c h is = cc
+item_elsewhere i ds X b = search rules
 
 pub drop_document : (s : Step) (p : Data) → IsDocument p → IsDocument (drop_child s p)
-drop_document (key k) (object ms) h = without_members k ms h
-drop_document (place i) (array ds) h = remove_items i ds h
-drop_document s p h = h
+drop_document s p h = search (rules, without_members, remove_items)
 
 pub record TakesIn (t : List ℕ) (p q : Data) : Type 0 where
   pub s : Step
@@ -46,23 +37,16 @@ pub take_from_takes : (t : List ℕ) (p q : Data) → take_from t p ≡ Some q �
 take_from_takes t p q is =
     option_and_then_some _ (step_of p t) q is (λ s named more.
     option_map_some _ (child s p) q more (λ c stands whole.
-    record { s = s; c = c; names = step_names p t s named; stands = stands; whole = whole }))
-
-take_from_some : (t : List ℕ) (p : Data) (s : Step) (c : Data) → Names p t s → child s p ≡ Some c → take_from t p ≡ Some (drop_child s p)
-take_from_some t p s c names stands = rw (names_step p t s names, stands)
-
-shifts_lift : (d e : Data) (L : List Step) (p q : Data) (s : Step) → Grafts d e L p q → ShiftsDown p q [] s → ShiftsDown d e L s
-shifts_lift d e L p q (key k) g h = λ R. g.after (key k ∷ R) ∙ h R
-shifts_lift d e L p q (place i) g h = λ j R le. g.after (place j ∷ R) ∙ h j R le ∙ sym (g.before (place (suc j) ∷ R))
+    record { s = s; c = c; names = (search rules); stands = stands; whole = whole }))
 
 takes_lift : (d e : Data) (L : List Step) (p q : Data) (s : Step) → Grafts d e L p q → TakesAt p q [] s → TakesAt d e L s
-takes_lift d e L p q s g h = record { later = shifts_lift d e L p q s g h.later; elsewhere = elsewhere_lift d e L p q s g h.elsewhere }
+takes_lift d e L p q s g h = record { later = (search rules); elsewhere = elsewhere_lift d e L p q s g h.elsewhere }
 
 removed_below : (d : Data) (t : List ℕ) (P : List (List ℕ)) (e : Data) → IsDocument d → IsAltered (take_from (last_of t P)) d (front_of t P) e → IsRemoved d (t ∷ P) e
 removed_below d t P e hd a =
     let i : TakesIn (last_of t P) a.p a.q = take_from_takes (last_of t P) a.p a.q a.result in
     let hp : IsDocument a.p = resolves_document d (front_of t P) a.L a.p hd a.resolves in
-    let takes : TakesAt a.p a.q [] i.s = subst (λ q. TakesAt a.p q [] i.s) i.whole (drop_takes i.s a.p i.c hp i.stands) in (
+    let takes : TakesAt a.p a.q [] i.s = subst (λ q. TakesAt a.p q [] i.s) i.whole (search (rules, below, get_without, member_elsewhere, get_remove_later, item_elsewhere)) in (
       a.L,
       i.s,
       i.c,
@@ -80,7 +64,7 @@ removed_none d [] e is h = no_end h.0 h.1 d h.2 h.3
 removed_none d (t ∷ P) e is h =
     let i : Ends d t P h.0 h.1 h.2 = ends d t P h.0 h.1 h.2 h.3 in
     let a : (e : Data) × (removed d (t ∷ P) ≡ Some e) =
-    altered_some _ d (front_of t P) h.0 i.p (drop_child h.1 i.p) i.front (take_from_some (last_of t P) i.p h.1 h.2 i.names i.stands) in
+    altered_some _ d (front_of t P) h.0 i.p (drop_child h.1 i.p) i.front (search rules) in
     let b : removed d (t ∷ P) ≡ Some a.0 = a.1 in cc
 
 -- where there is something to remove, a document is left
@@ -89,20 +73,14 @@ removed_there d [] L s c hd h = absurd (no_end L s d c h)
 removed_there d (t ∷ P) L s c hd h =
     let i : Ends d t P L s c = ends d t P L s c h in
     let a : (e : Data) × (removed d (t ∷ P) ≡ Some e) =
-    altered_some _ d (front_of t P) L i.p (drop_child s i.p) i.front (take_from_some (last_of t P) i.p s c i.names i.stands) in
+    altered_some _ d (front_of t P) L i.p (drop_child s i.p) i.front (search rules) in
     (a.0, removed_is d (t ∷ P) a.0 hd a.1)
 
 takes_moved : (d e f : Data) (L : List Step) (s : Step) (X : List Step) → TakesAt d e L s → TakesAt d f L s → IsMoved L s X → look e X ≡ look f X
-takes_moved d e f L (key k) X h g m = rw m.1 (h.later m.0 ∙ sym (g.later m.0))
-takes_moved d e f L (place i) X h g m = rw m.3 (h.later m.0 m.1 m.2 ∙ sym (g.later m.0 m.1 m.2))
+takes_moved d e f L s X h g m = search rules
 
 takes_same : (d e f : Data) (L : List Step) (s : Step) → TakesAt d e L s → TakesAt d f L s → (X : List Step) → look e X ≡ look f X
-takes_same d e f L s h g X =
-    ⊎_elim (λ m. takes_moved d e f L s X h g m) (λ b. h.elsewhere X b ∙ sym (g.elsewhere X b)) (moved_cases L s X)
+takes_same d e f L s h g X = search (rules, takes_moved, moved_cases)
 
 pub removed_one : (d : Data) (P : List (List ℕ)) (e f : Data) → IsRemoved d P e → IsRemoved d P f → e ≡ f
-removed_one d P e f h g =
-    let same : (h.0 ≡ g.0) × (h.1 ≡ g.1) = last_same h.0 g.0 h.1 g.1 (resolves_same d P (h.0 ++ h.1 ∷ []) (g.0 ++ g.1 ∷ []) h.2 g.2 h.3 g.3).0 in
-    let a : TakesAt d f h.0 g.1 = subst (λ L. TakesAt d f L g.1) (sym same.0) g.5 in
-    let b : TakesAt d f h.0 h.1 = subst (λ s. TakesAt d f h.0 s) (sym same.1) a in
-    alike e f h.4 g.4 (takes_same d e f h.0 h.1 h.5 b)
+removed_one d P e f h g = search (rules, last_same, resolves_same, alike, takes_same)

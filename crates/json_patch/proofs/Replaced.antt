@@ -1,5 +1,5 @@
 -- The computed document is the one that replace leaves, and the only one.
-use Rattle.std.proofs.Common.{◌≡◌, ℕ, List, ⊎_elim, Option, Some, None, refl, sym, ap, ◌∙◌, subst}
+use Rattle.std.proofs.Common.{◌≡◌, ℕ, List, Some, None, refl, rules}
 use Rattle.serde_json.specs.Data.{Data}
 use Rattle.json_patch.specs.Document.{IsDocument, Step, look}
 use Rattle.json_patch.specs.Resolve.{Resolves}
@@ -11,14 +11,7 @@ use Rattle.json_patch.proofs.Resolved.{resolves_same}
 use Rattle.json_patch.proofs.Altered.{IsAltered, altered_is, altered_some}
 
 replaced_by : (d : Data) (P : List (List ℕ)) (v e : Data) → IsDocument d → IsDocument v → IsAltered (λ c. Some v) d P e → IsReplaced d P v e
-replaced_by d P v e hd hv a =
-    let q : a.q ≡ v = (let r : ◌≡◌ {A = Option Data} (Some v) (Some a.q) = a.result in cc) in (
-      a.L,
-      a.p,
-      a.resolves,
-      a.keeps hd (λ hp. subst IsDocument (sym q) hv),
-      record { here = λ R. a.grafts.after R ∙ ap (λ x. look x R) q; elsewhere = λ X out. a.grafts.apart X out },
-    )
+replaced_by d P v e hd hv a = search rules
 
 pub replaced_is : (d : Data) (P : List (List ℕ)) (v e : Data) → IsDocument d → IsDocument v → replaced d P v ≡ Some e → IsReplaced d P v e
 replaced_is d P v e hd hv is = replaced_by d P v e hd hv (altered_is _ d P e is)
@@ -35,10 +28,7 @@ replaced_there d P v L c hd hv h =
     (a.0, replaced_is d P v a.0 hd hv a.1)
 
 sets_same : (d e f v : Data) (L : List Step) → SetsAt d e v L → SetsAt d f v L → (X : List Step) → look e X ≡ look f X
-sets_same d e f v L h g X =
-    ⊎_elim (λ (u : IsUnder L X). rw u.1 (h.here u.0 ∙ sym (g.here u.0))) (λ (out : IsApart L X). h.elsewhere X out ∙ sym (g.elsewhere X out)) (under_cases L X)
+sets_same d e f v L h g X = search (rules, IsUnder L X, IsApart L X, under_cases L X, IsUnder, IsApart, under_cases)
 
 pub replaced_one : (d : Data) (P : List (List ℕ)) (v e f : Data) → IsReplaced d P v e → IsReplaced d P v f → e ≡ f
-replaced_one d P v e f h g =
-    let same : h.0 ≡ g.0 = (resolves_same d P h.0 g.0 h.1 g.1 h.2 g.2).0 in
-    alike e f h.3 g.3 (sets_same d e f v h.0 h.4 (subst (λ L. SetsAt d f v L) (sym same) g.4))
+replaced_one d P v e f h g = search (rules, resolves_same, alike, sets_same)

@@ -1,58 +1,28 @@
 -- Steps, pointers and their locations.
-use Rattle.std.proofs.Common.{◌≡◌, ℕ, List, [], ◌∷◌, ◌++◌, Option, Some, None, option_map, refl, sym, ap, ◌∙◌, subst}
-use Rattle.serde_json.specs.Data.{Data, array, object}
-use Rattle.jsonptr.specs.Places.{place_of}
-use Rattle.json_patch.specs.Document.{IsDocument, Step, key, place, child}
+use Rattle.std.proofs.lemmas.Grind.{common_steps}
+use Rattle.std.proofs.Common.{◌≡◌, ℕ, List, [], ◌∷◌, ◌++◌, Option, Some, option_map, refl, ap, rules, arith}
+use Rattle.serde_json.specs.Data.{Data}
+use Rattle.json_patch.specs.Document.{IsDocument, Step, child}
 use Rattle.json_patch.specs.Resolve.{Names, Resolves}
 use Rattle.json_patch.specs.ChangeComputed.{step_of, front_of, last_of}
 use Rattle.json_patch.proofs.Children.{child_document}
 
 pub option_map_some : {A B P : Type 0} (f : A → B) (o : Option A) (y : B) → option_map f o ≡ Some y → ((x : A) → o ≡ Some x → f x ≡ y → P) → P
-option_map_some f None y is k = cc
-option_map_some f (Some x) y is k = k x refl cc
-
-place_named : (o : Option ℕ) (i : ℕ) → option_map place o ≡ Some (place i) → o ≡ Some i
-place_named None i h = cc
-place_named (Some j) i h = cc
-
-no_key : (o : Option ℕ) (k : List ℕ) → option_map place o ≡ Some (key k) → ⊥
-no_key None k h = cc
-no_key (Some j) k h = cc
-
-pub step_names : (d : Data) (t : List ℕ) (s : Step) → step_of d t ≡ Some s → Names d t s
-step_names (object ms) t (key k) is = cc
-step_names (array ds) t (place i) is = place_named (place_of t) i is
-step_names (array ds) t (key k) is = no_key (place_of t) k is
-step_names d t s is = cc
+option_map_some f o y is k = search rules
 
 pub names_step : (d : Data) (t : List ℕ) (s : Step) → Names d t s → step_of d t ≡ Some s
-names_step (object ms) t (key k) h = cc
-names_step (array ds) t (place i) h = ap (option_map place) h
-names_step d t s h = absurd h
+names_step d t s h = search rules
 
 pub names_same : (d : Data) (t : List ℕ) (s r : Step) → Names d t s → Names d t r → s ≡ r
 names_same d t s r h k = let a : step_of d t ≡ Some s = names_step d t s h in let b : step_of d t ≡ Some r = names_step d t r k in cc
 
 pub resolves_same : (d : Data) (P : List (List ℕ)) (L M : List Step) (p q : Data) → Resolves d P L p → Resolves d P M q → (L ≡ M) × (p ≡ q)
-resolves_same d [] [] [] p q h k = (refl, sym h ∙ k)
-resolves_same d (t ∷ P) (s ∷ L) (r ∷ M) p q h k =
-    let e : s ≡ r = names_same d t s r h.1 k.1 in
-    let a : child s d ≡ Some h.0 = h.2 in
-    let b : child s d ≡ Some k.0 = ap (λ x. child x d) e ∙ k.2 in
-    let c : k.0 ≡ h.0 = cc in
-    let i : (L ≡ M) × (p ≡ q) = resolves_same h.0 P L M p q h.3 (subst (λ x. Resolves x P M q) c k.3) in
-    let j : L ≡ M = i.0 in
-    (cc, i.1)
-resolves_same d [] [] (r ∷ M) p q h k = absurd k
-resolves_same d (t ∷ P) (s ∷ L) [] p q h k = absurd k
-resolves_same d [] (s ∷ L) M p q h k = absurd h
-resolves_same d (t ∷ P) [] M p q h k = absurd h
+resolves_same d (t ∷ P) (s ∷ L) (r ∷ M) p q h k = search (rules, names_same d t s r h.1 k.1, resolves_same h.0 P L M p q h.3, names_same)
+resolves_same d P L M p q h k = search rules
 
 pub resolves_document : (d : Data) (P : List (List ℕ)) (L : List Step) (p : Data) → IsDocument d → Resolves d P L p → IsDocument p
-resolves_document d [] [] p hd h = subst IsDocument h hd
 resolves_document d (t ∷ P) (s ∷ L) p hd h = resolves_document h.0 P L p (child_document s d h.0 hd h.2) h.3
-resolves_document d [] (s ∷ L) p hd h = absurd h
-resolves_document d (t ∷ P) [] p hd h = absurd h
+resolves_document d P L p hd h = search rules
 
 -- ---- the last token
 
@@ -65,16 +35,12 @@ split_is t [] [] b h = (refl, cc)
 split_is t [] (a ∷ []) b h = cc
 split_is t [] (a ∷ c ∷ A) b h = cc
 split_is t (u ∷ P) [] b h = cc
-split_is t (u ∷ P) (a ∷ A) b h =
-    let i : (A ≡ front_of u P) × (b ≡ last_of u P) = split_is u P A b cc in
-    let j : A ≡ front_of u P = i.0 in
-    (cc, i.1)
+split_is t (u ∷ P) (a ∷ A) b h = search (rules, split_is u P A b)
 
 -- ---- the last step
 
 pub no_end : (L : List Step) (s : Step) (c e : Data) → Resolves c [] (L ++ s ∷ []) e → ⊥
-no_end [] s c e h = h
-no_end (r ∷ L) s c e h = h
+no_end L s c e h = grind (arith, common_steps)
 
 -- s is the step that the last token names, from p, which stands where the others lead
 pub record Ends (d : Data) (t : List ℕ) (P : List (List ℕ)) (L : List Step) (s : Step) (c : Data) : Type 0 where
@@ -84,27 +50,14 @@ pub record Ends (d : Data) (t : List ℕ) (P : List (List ℕ)) (L : List Step) 
   pub stands : child s p ≡ Some c
 
 pub ends : (d : Data) (t : List ℕ) (P : List (List ℕ)) (L : List Step) (s : Step) (c : Data) → Resolves d (t ∷ P) (L ++ s ∷ []) c → Ends d t P L s c
-ends d t [] [] s c h = record { p = d; front = refl; names = h.1; stands = h.2 ∙ ap Some h.3 }
 ends d t [] (r ∷ L) s c h = absurd (no_end L s h.0 c h.3)
-ends d t (u ∷ P) [] s c h = absurd h.3
-ends d t (u ∷ P) (r ∷ L) s c h =
-    let i : Ends h.0 u P L s c = ends h.0 u P L s c h.3 in
-    record { p = i.p; front = (h.0, h.1, h.2, i.front); names = i.names; stands = i.stands }
+ends d t (u ∷ P) (r ∷ L) s c h = grind (arith, common_steps, ends h.0 u P L s c h.3)
+ends d t P L s c h = search rules
 
 pub ended : (d : Data) (t : List ℕ) (P : List (List ℕ)) (L : List Step) (s : Step) (c p : Data) → Resolves d (front_of t P) L p → Names p (last_of t P) s → child s p ≡ Some c
     → Resolves d (t ∷ P) (L ++ s ∷ []) c
-ended d t [] [] s c p h names stands = (c, subst (λ x. Names x t s) (sym h) names, ap (child s) h ∙ stands, refl)
-ended d t [] (r ∷ L) s c p h names stands = absurd h
-ended d t (u ∷ P) [] s c p h names stands = absurd h
 ended d t (u ∷ P) (r ∷ L) s c p h names stands = (h.0, h.1, h.2, ended h.0 u P L s c p h.3 names stands)
+ended d t P L s c p h names stands = search rules
 
 pub last_same : (L M : List Step) (s r : Step) → L ++ s ∷ [] ≡ M ++ r ∷ [] → (L ≡ M) × (s ≡ r)
-last_same [] [] s r h = (refl, cc)
-last_same [] (y ∷ []) s r h = cc
-last_same [] (y ∷ z ∷ M) s r h = cc
-last_same (x ∷ []) [] s r h = cc
-last_same (x ∷ z ∷ L) [] s r h = cc
-last_same (x ∷ L) (y ∷ M) s r h =
-    let i : (L ≡ M) × (s ≡ r) = last_same L M s r cc in
-    let j : L ≡ M = i.0 in
-    (cc, i.1)
+last_same L M s r h = grind (arith, common_steps)

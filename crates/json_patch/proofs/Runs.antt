@@ -1,10 +1,10 @@
 -- A run ends exactly where it is computed to end; joined lists.
-use Rattle.std.proofs.Common.{◌≡◌, ◌+◌, inl, inr, ℕ, zero, suc, List, [], ◌∷◌, ◌++◌, length, take, Result, Ok, Err, refl, sym, ap, ◌∙◌, subst, arith}
+use Rattle.std.proofs.lemmas.Grind.{common_steps}
+use Rattle.std.proofs.Common.{◌≡◌, ◌+◌, inl, inr, ℕ, suc, List, [], ◌∷◌, ◌++◌, length, Result, Ok, Err, refl, sym, ap, ◌∙◌, subst, arith, rules}
 use Rattle.serde_json.specs.Data.{Data}
 use Rattle.json_patch.specs.Document.{IsDocument}
 use Rattle.json_patch.specs.Operation.{Operation, test, IsWholeOp, AreWhole}
 use Rattle.json_patch.specs.declared.error.PatchErrorKind.{PatchErrorKind}
-use Rattle.json_patch.specs.Step.{Leaves, Refuses}
 use Rattle.json_patch.specs.Run.{Accepts, RefusesAt, IsAccepted, IsRefused, Ends, AreTests}
 use Rattle.json_patch.specs.RunComputed.{Outcome, fault, counted, ran_on, stepped, ran}
 use Rattle.json_patch.proofs.Stepped.{leaves_stepped, refuses_stepped, stepped_leaves, stepped_refuses, leaves_document}
@@ -15,38 +15,25 @@ accepts_ran d (op ∷ ops) e hd hv h =
     rw (leaves_stepped d op h.0 hd hv.0 h.1, accepts_ran h.0 ops e (leaves_document d op h.0 hd hv.0 h.1) hv.1 h.2) refl
 
 pub refuses_ran : (d : Data) (ops : List Operation) (k : ℕ) (kind : PatchErrorKind) → IsDocument d → AreWhole ops → RefusesAt d ops k kind → ran d ops ≡ Err (fault k kind)
-refuses_ran d [] k kind hd hv h = absurd h
-refuses_ran d (op ∷ ops) zero kind hd hv h = rw (refuses_stepped d op kind hd hv.0 h) refl
 refuses_ran d (op ∷ ops) (suc k) kind hd hv h =
     rw (leaves_stepped d op h.0 hd hv.0 h.1, refuses_ran h.0 ops k kind (leaves_document d op h.0 hd hv.0 h.1) hv.1 h.2) refl
+refuses_ran d ops k kind hd hv h = search (rules, refuses_stepped)
 
 -- ---- where a run ends, found out
 
-counted_ok : (o : Outcome) (e : Data) → counted o ≡ Ok e → o ≡ Ok e
-counted_ok (Ok f) e h = h
-counted_ok (Err (fault k kind)) e h = cc
-
 counted_err : (o : Outcome) (k : ℕ) (kind : PatchErrorKind) → counted o ≡ Err (fault k kind) → (j : ℕ) × (k ≡ suc j) × (o ≡ Err (fault j kind))
-counted_err (Ok f) k kind h = cc
-counted_err (Err (fault j other)) k kind h = (j, cc, cc)
+counted_err o k kind h = search rules
 
 module _ (d : Data) (op : Operation) (ops : List Operation) (hd : IsDocument d) (hv : IsWholeOp op) where
   accepts_on : (r : Result Data PatchErrorKind) (e : Data) → stepped d op ≡ r → ((m : Data) → IsDocument m → ran m ops ≡ Ok e → Accepts m ops e)
       → ran_on r (λ m. ran m ops) ≡ Ok e → Accepts d (op ∷ ops) e
-  accepts_on (Ok m) e is more h =
-      let l : Leaves d op m = stepped_leaves d op m hd hv is in
-      (m, l, more m (leaves_document d op m hd hv l) (counted_ok (ran m ops) e h))
+  accepts_on (Ok m) e is more h = search (rules, stepped_leaves d op m hd hv is, leaves_document d op m hd hv, stepped_leaves, leaves_document)
   accepts_on (Err kind) e is more h = cc
 
   refuses_on : (r : Result Data PatchErrorKind) (k : ℕ) (kind : PatchErrorKind) → stepped d op ≡ r → ((m : Data) (j : ℕ) → IsDocument m → ran m ops ≡ Err (fault j kind) → RefusesAt m ops j kind)
       → ran_on r (λ m. ran m ops) ≡ Err (fault k kind) → RefusesAt d (op ∷ ops) k kind
-  refuses_on (Ok m) k kind is more h =
-      let l : Leaves d op m = stepped_leaves d op m hd hv is in
-      let c : (j : ℕ) × (k ≡ suc j) × (ran m ops ≡ Err (fault j kind)) = counted_err (ran m ops) k kind h in
-      subst (λ n. RefusesAt d (op ∷ ops) n kind) (sym c.1) (m, l, more m c.0 (leaves_document d op m hd hv l) c.2)
-  refuses_on (Err other) k kind is more h =
-      let a : zero ≡ k = cc in let b : other ≡ kind = cc in
-      subst (λ n. RefusesAt d (op ∷ ops) n kind) a (subst (Refuses d op) b (stepped_refuses d op other hd hv is))
+  refuses_on (Ok m) k kind is more h = search (rules, stepped_leaves d op m hd hv is, counted_err (ran m ops) k kind h, leaves_document d op m hd hv, stepped_leaves, counted_err, leaves_document)
+  refuses_on r k kind is more h = search (rules, stepped_refuses)
 
 pub ran_accepts : (d : Data) (ops : List Operation) (e : Data) → IsDocument d → AreWhole ops → ran d ops ≡ Ok e → Accepts d ops e
 ran_accepts d [] e hd hv is = cc
@@ -60,18 +47,10 @@ ran_refuses d (op ∷ ops) k kind hd hv is = refuses_on d op ops hd hv.0 (steppe
 
 module _ (d : Data) (ops : List Operation) (hd : IsDocument d) (hv : AreWhole ops) where
   pub accepted : (e : Data) → ran d ops ≡ Ok e → IsAccepted d ops e
-  accepted e is = record {
-    accepts = ran_accepts d ops e hd hv is;
-    end = λ f h. (let a : ran d ops ≡ Ok f = accepts_ran d ops f hd hv h in cc);
-    nowhere = λ k kind h. (let a : ran d ops ≡ Err (fault k kind) = refuses_ran d ops k kind hd hv h in cc);
-  }
+  accepted e is = search (rules, ran_accepts, accepts_ran, refuses_ran)
 
   refused : (k : ℕ) (kind : PatchErrorKind) → ran d ops ≡ Err (fault k kind) → IsRefused d ops k kind
-  refused k kind is = record {
-    refuses = ran_refuses d ops k kind hd hv is;
-    here = λ j other h. (let a : ran d ops ≡ Err (fault j other) = refuses_ran d ops j other hd hv h in let b : ◌≡◌ {A = Outcome} (Err (fault j other)) (Err (fault k kind)) = sym a ∙ is in (cc, cc));
-    never = λ e h. (let a : ran d ops ≡ Ok e = accepts_ran d ops e hd hv h in cc);
-  }
+  refused k kind is = search (rules, ran_refuses, refuses_ran, accepts_ran)
 
   on_outcome : (o : Outcome) → ran d ops ≡ o → Ends d ops
   on_outcome (Ok e) is = inl (e, accepted e is)
@@ -92,28 +71,16 @@ accepts_joined d (op ∷ xs) ys m e h g = (h.0, h.1, accepts_joined h.0 xs ys m 
 
 pub accepts_split : (d : Data) (xs ys : List Operation) (e : Data) → Accepts d (xs ++ ys) e → (m : Data) × Accepts d xs m × Accepts m ys e
 accepts_split d [] ys e h = (d, refl, h)
-accepts_split d (op ∷ xs) ys e h =
-    let i : (m : Data) × Accepts h.0 xs m × Accepts m ys e = accepts_split h.0 xs ys e h.2 in (i.0, (h.0, h.1, i.1), i.2)
+accepts_split d (op ∷ xs) ys e h = grind (arith, common_steps, accepts_split h.0 xs ys e h.2)
 
 pub refuses_second : (d : Data) (xs ys : List Operation) (m : Data) (j : ℕ) (kind : PatchErrorKind) → Accepts d xs m → RefusesAt m ys j kind → RefusesAt d (xs ++ ys) (length xs + j) kind
-refuses_second d [] ys m j kind h g =
-    let e : j ≡ 0 + j = omega arith in subst (λ n. RefusesAt d ys n kind) e (subst (λ x. RefusesAt x ys j kind) (sym h) g)
-refuses_second d (op ∷ xs) ys m j kind h g =
-    let e : suc (length xs + j) ≡ suc (length xs) + j = omega arith in
-    subst (λ n. RefusesAt d (op ∷ (xs ++ ys)) n kind) e (h.0, h.1, refuses_second h.0 xs ys m j kind h.2 g)
+refuses_second d (op ∷ xs) ys m j kind h g = grind (arith, common_steps, refuses_second h.0 xs ys m j kind h.2 g)
+refuses_second d xs ys m j kind h g = search rules
 
 pub refuses_first : (d : Data) (xs ys : List Operation) (k : ℕ) (kind : PatchErrorKind) → RefusesAt d xs k kind → RefusesAt d (xs ++ ys) k kind
-refuses_first d [] ys k kind h = absurd h
-refuses_first d (op ∷ xs) ys zero kind h = h
 refuses_first d (op ∷ xs) ys (suc k) kind h = (h.0, h.1, refuses_first h.0 xs ys k kind h.2)
+refuses_first d xs ys k kind h = search rules
 
 pub tests_end : (d : Data) (ops : List Operation) (e : Data) → AreTests ops → Accepts d ops e → e ≡ d
-tests_end d [] e t h = sym h
 tests_end d (test P v ∷ ops) e t h = tests_end h.0 ops e t h.2 ∙ h.1.1
-tests_end d (op ∷ ops) e t h = absurd t
-
--- a refused list is accepted up to the operation that is refused
-pub refused_after : (d : Data) (ops : List Operation) (k : ℕ) (kind : PatchErrorKind) → RefusesAt d ops k kind → (m : Data) × Accepts d (take k ops) m
-refused_after d [] k kind h = absurd h
-refused_after d (op ∷ ops) zero kind h = (d, refl)
-refused_after d (op ∷ ops) (suc k) kind h = let i : (m : Data) × Accepts h.0 (take k ops) m = refused_after h.0 ops k kind h.2 in (i.0, (h.0, h.1, i.1))
+tests_end d ops e t h = search rules

@@ -1,7 +1,6 @@
 -- Objects whose members stand in order are the same where each name has the same in both.
-use Rattle.std.proofs.Common.{◌≡◌, ◌↔◌, ℕ, List, Option, Some, Ordering, Less, Equal, Greater, nat_cmp, refl, subst}
+use Rattle.std.proofs.Common.{◌≡◌, ◌↔◌, ℕ, List, Ordering, Equal, nat_cmp, refl, rules}
 use Rattle.std.specs.Cmp.Lexicographic.{slice_cmp}
-use Rattle.std.specs.Ordering.{match_ordering}
 use Rattle.serde_json.specs.Data.{Data, object, Members, no_members, member}
 use Rattle.serde_json.specs.Find.{get_member}
 use Rattle.json_patch.specs.Document.{IsBelowMembers}
@@ -11,26 +10,17 @@ use Rattle.json_patch.proofs.Members.{tied_same, less_back, below_more, below_ab
 abbrev AreSameByName : Members → Members → Type 0
 AreSameByName ms ns = (q : List ℕ) → AreSameAt (get_member q ms) (get_member q ns)
 
-at_first : (o : Ordering) (d e : Data) (f g : Option Data) → AreSame d e → AreSameAt f g → AreSameAt (match_ordering o f (Some d) f) (match_ordering o g (Some e) g)
-at_first Less d e f g h rest = rest
-at_first Equal d e f g h rest = h
-at_first Greater d e f g h rest = rest
-
 by_name : (ms ns : Members) → AreSameMembers ms ns → AreSameByName ms ns
-by_name no_members no_members h q = tt
-by_name (member k d ms) (member l e ns) h q =
-    subst (λ x. AreSameAt (get_member q (member k d ms)) (get_member q (member x e ns))) h.0
-    (at_first (slice_cmp nat_cmp q k) d e (get_member q ms) (get_member q ns) h.1 (by_name ms ns h.2 q))
-by_name _ _ h q = absurd h
+by_name (member k d ms) (member l e ns) h q = search (rules, by_name ms ns)
+by_name ms ns h q = search rules
 
 module _ (k : List ℕ) (d e : Data) (ms ns : Members) (below : IsBelowMembers k ms) (under : IsBelowMembers k ns) (same : AreSameByName (member k d ms) (member k e ns)) where
   first_same : AreSame d e
   first_same = rw (found_first k d ms, found_first k e ns) at (same k)
 
   rest_at : (q : List ℕ) (o : Ordering) → slice_cmp nat_cmp q k ≡ o → AreSameAt (get_member q ms) (get_member q ns)
-  rest_at q Less is = rw is at (same q)
   rest_at q Equal is = let e : q ≡ k = tied_same q k is in rw (e, below_absent k ms below, below_absent k ns under) tt
-  rest_at q Greater is = rw is at (same q)
+  rest_at q o is = search rules
 
 -- a name that is below all of ns is not in ns
 left_alone : (k : List ℕ) (d : Data) (ms ns : Members) → IsBelowMembers k ns → AreSameAt (get_member k (member k d ms)) (get_member k ns) → ⊥
@@ -41,15 +31,8 @@ right_alone k e ms ns h same = rw (found_first k e ns, below_absent k ms h) at s
 
 step : (o : Ordering) (k l : List ℕ) (d e : Data) (ms ns : Members) → slice_cmp nat_cmp k l ≡ o → IsBelowMembers k ms → IsBelowMembers l ns
     → AreSameByName (member k d ms) (member l e ns) → (AreSameByName ms ns → AreSameMembers ms ns) → AreSameMembers (member k d ms) (member l e ns)
-step Less k l d e ms ns is below under same rest =
-    absurd (left_alone k d ms (member l e ns) (is, below_more k l ns is under) (same k))
-step Equal k l d e ms ns is below under same rest =
-    let P : List ℕ → Type 0 = λ x. IsBelowMembers x ns → AreSameByName (member k d ms) (member x e ns) → AreSameMembers (member k d ms) (member x e ns) in
-    let at_k : P k = λ u s. (refl, first_same k d e ms ns below u s, rest (λ q. rest_at k d e ms ns below u s q _ refl)) in
-    subst P (tied_same k l is) at_k under same
-step Greater k l d e ms ns is below under same rest =
-    let less : slice_cmp nat_cmp l k ≡ Less = less_back k l is in
-    absurd (right_alone l e (member k d ms) ns (less, below_more l k ms less below) (same l))
+step Equal k l d e ms ns is below under same rest = search (rules, first_same k d e ms ns below, rest_at k d e ms ns below, tied_same k l is, first_same, rest_at, tied_same)
+step o k l d e ms ns is below under same rest = search (rules, left_alone, below_more, less_back, right_alone)
 
 in_turn : (ms ns : Members) → AreInOrder ms → AreInOrder ns → AreSameByName ms ns → AreSameMembers ms ns
 in_turn no_members no_members h g same = tt

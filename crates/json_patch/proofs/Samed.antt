@@ -1,43 +1,30 @@
 -- On documents equality is `≡`, and what a comparison answers is what it says.
-use Rattle.std.proofs.Common.{◌≡◌, ◌↔◌, IsTrue, List, [], ◌∷◌, Bool, true, Option, Some, None, IfSome, refl, sym, ap, subst}
+use Rattle.std.proofs.Common.{◌≡◌, ◌↔◌, IsTrue, List, [], ◌∷◌, Bool, true, Option, Some, IfSome, sym, ap, subst, rules}
 use Rattle.std.specs.Bool.{Decides}
 use Rattle.std.specs.Cmp.Lexicographic.{pointwise}
 use Rattle.std.specs.Ordering.{on}
-use Rattle.std.proofs.lemmas.Bool.Decides.{Decides-and, Decides-at, Decides-like, not_from_Decides}
-use Rattle.std.proofs.lemmas.Slice.Eq.{bytes_eq-Decides}
-use Rattle.serde_json.specs.Data.{Num, unsigned, negative, float, Data, null, boolean, number, string, array, object, Items, no_items, item, Members, no_members, member}
-use Rattle.json_patch.specs.Document.{IsDocument, AreDocuments, AreMembers, IsWhole}
-use Rattle.json_patch.specs.Operation.{Operation, Parts, add, remove, replace, move, copy, test, parts_of, operation_of, operations, IsWholeOp, AreWhole}
+use Rattle.std.proofs.lemmas.Bool.Decides.{Decides-and, Decides-at, Decides-like}
+use Rattle.serde_json.specs.Data.{Data, array, object, Items, item, Members, member}
+use Rattle.json_patch.specs.Document.{IsDocument, AreDocuments, AreMembers}
+use Rattle.json_patch.specs.Operation.{Operation, Parts, parts_of, operation_of, operations, IsWholeOp, AreWhole}
 use Rattle.json_patch.specs.declared.operation.PatchOperation.{PatchOperation}
-use Rattle.json_patch.specs.Same.{AreSameNumbers, AreSame, AreSameItems, AreSameMembers, AreSameAt, AreSameParts, AreSameOperations, AreSameLists}
+use Rattle.json_patch.specs.Same.{AreSame, AreSameItems, AreSameMembers, AreSameAt, AreSameParts, AreSameOperations, AreSameLists}
 use Rattle.json_patch.specs.SameComputed.{same, same_parts, same_operation}
 use Rattle.json_patch.specs.SameLaws.{AreSame-refl, AreSame-sym, same-Decides, parts-refl, parts-Decides}
 
-numbers-is : (m n : Num) → IsWhole m → AreSameNumbers m n → m ≡ n
-numbers-is (unsigned m) (unsigned n) w h = ap unsigned h
-numbers-is (negative y) (negative z) w h = ap negative h
-numbers-is (float x) n w h = absurd w
-numbers-is _ _ w h = absurd h
-
 mutual
   pub AreSame-is : (d e : Data) → IsDocument d → AreSame d e → d ≡ e
-  AreSame-is null null w h = refl
-  AreSame-is (boolean b) (boolean c) w h = ap boolean h
-  AreSame-is (number m) (number n) w h = ap number (numbers-is m n w h)
-  AreSame-is (string s) (string t) w h = ap string h
   AreSame-is (array ds) (array es) w h = ap array (items-is ds es w h)
   AreSame-is (object ms) (object ns) w h = ap object (members-is ms ns w h)
-  AreSame-is _ _ w h = absurd h
+  AreSame-is d e w h = search rules
 
   items-is : (ds es : Items) → AreDocuments ds → AreSameItems ds es → ds ≡ es
-  items-is no_items no_items w h = refl
   items-is (item d ds) (item e es) w h = rw (AreSame-is d e w.0 h.0, items-is ds es w.1 h.1)
-  items-is _ _ w h = absurd h
+  items-is ds es w h = search rules
 
   members-is : (ms ns : Members) → AreMembers ms → AreSameMembers ms ns → ms ≡ ns
-  members-is no_members no_members w h = refl
   members-is (member k d ms) (member l e ns) w h = rw (h.0, AreSame-is d e w.1 h.1, members-is ms ns w.2 h.2)
-  members-is _ _ w h = absurd h
+  members-is ms ns w h = search rules
 
 is-AreSame : (d e : Data) → d ≡ e → AreSame d e
 is-AreSame d e is = subst (AreSame d) is (AreSame-refl d)
@@ -46,28 +33,15 @@ pub AreSame-document : (d e : Data) → IsDocument d → AreSame d e ↔ (d ≡ 
 AreSame-document d e w = (AreSame-is d e w, is-AreSame d e)
 
 at-is : (o p : Option Data) → IfSome o IsDocument → AreSameAt o p → o ≡ p
-at-is None None w h = refl
 at-is (Some d) (Some e) w h = ap Some (AreSame-is d e w h)
-at-is _ _ w h = absurd h
-
--- an operation is what its parts are
-one_operation : (op other : Operation) → parts_of op ≡ parts_of other → op ≡ other
-one_operation (add P v) (add Q w) h = let p : P ≡ Q = ap (λ x. x.path) h in let o : Some v ≡ Some w = ap (λ x. x.value) h in cc
-one_operation (remove P) (remove Q) h = ap (λ x. remove x.path) h
-one_operation (replace P v) (replace Q w) h = let p : P ≡ Q = ap (λ x. x.path) h in let o : Some v ≡ Some w = ap (λ x. x.value) h in cc
-one_operation (move F P) (move G Q) h = let p : P ≡ Q = ap (λ x. x.path) h in let o : Some F ≡ Some G = ap (λ x. x.from) h in cc
-one_operation (copy F P) (copy G Q) h = let p : P ≡ Q = ap (λ x. x.path) h in let o : Some F ≡ Some G = ap (λ x. x.from) h in cc
-one_operation (test P v) (test Q w) h = let p : P ≡ Q = ap (λ x. x.path) h in let o : Some v ≡ Some w = ap (λ x. x.value) h in cc
-one_operation _ _ h = absurd (not_from_Decides _ (bytes_eq-Decides _ _) refl (ap (λ x. x.name) h))
+at-is o p w h = search rules
 
 operation-is : (op other : Operation) → IsWholeOp op → AreSameOperations op other → op ≡ other
-operation-is op other w h =
-    one_operation op other (λ i. record { name = h.name i; from = h.from i; path = h.path i; value = at-is (parts_of op).value (parts_of other).value w h.value i })
+operation-is op other w h = search (rules, at-is)
 
 lists-is : (ops others : List Operation) → AreWhole ops → AreSameLists ops others → ops ≡ others
-lists-is [] [] hv h = refl
 lists-is (op ∷ ops) (other ∷ others) hv h = rw (operation-is op other hv.0 h.0, lists-is ops others hv.1 h.1)
-lists-is _ _ hv h = absurd h
+lists-is ops others hv h = search rules
 
 lists-refl : (ops : List Operation) → AreSameLists ops ops
 lists-refl [] = tt
@@ -94,11 +68,8 @@ pub parts_say : (r : Bool) (p q : Parts) → r ≡ same_parts p q → IsTrue r �
 parts_say r p q is = Decides-at r (same_parts p q) is (parts-Decides p q)
 
 tests-Decide : (xs ys : List PatchOperation) → Decides (pointwise (on operation_of same_operation) xs ys) (AreSameLists (operations xs) (operations ys))
-tests-Decide [] [] = (λ h. tt, λ h. refl)
-tests-Decide (x ∷ xs) (y ∷ ys) =
-    Decides-and (same_operation (operation_of x) (operation_of y)) (pointwise (on operation_of same_operation) xs ys)
-    (parts-Decides (parts_of (operation_of x)) (parts_of (operation_of y))) (tests-Decide xs ys)
-tests-Decide _ _ = (λ h. cc, λ h. absurd h)
+tests-Decide (x ∷ xs) (y ∷ ys) = search (rules, Decides-and, parts-Decides, tests-Decide xs ys)
+tests-Decide xs ys = search rules
 
 pub operations_say : (r : Bool) (xs ys : List PatchOperation) → r ≡ pointwise (on operation_of same_operation) xs ys
     → IsTrue r ↔ AreSameLists (operations xs) (operations ys)

@@ -1,5 +1,6 @@
 -- The tokens that a list shares are those that are computed.
-use Rattle.std.proofs.Common.{◌≡◌, ◌↔◌, ◌+◌, ◌<◌, ◌≤◌, ℕ, zero, suc, List, [], ◌∷◌, ◌++◌, length, drop, add-one, arith, append_assoc, append-nil, Bool, true, false, bytes_eq, if◌then◌else◌, Option, Some, None, IfNone, refl, sym, ap, ◌∙◌, subst}
+use Rattle.std.proofs.lemmas.Grind.{common_steps}
+use Rattle.std.proofs.Common.{◌≡◌, ◌↔◌, ◌+◌, ◌<◌, ◌≤◌, ℕ, suc, List, [], ◌∷◌, ◌++◌, length, drop, add-one, arith, append_assoc, append-nil, Bool, true, bytes_eq, if◌then◌else◌, Option, Some, None, IfNone, refl, sym, ap, ◌∙◌, subst, rules}
 use Rattle.std.proofs.lemmas.Slice.Eq.{bytes_eq-Decides}
 use Rattle.jsonptr.specs.Text.{Pointer, IsPrefix, IsProperPrefix, IsLongestShared}
 use Rattle.json_patch.specs.Operation.{Operation, add, remove, replace, move, copy, test, operation_of, operations, path_of, from_of}
@@ -20,45 +21,31 @@ prefix_more : (t : List ℕ) (P Q : Pointer) → IsPrefix P Q → IsPrefix (t �
 prefix_more t P Q h = (h.0, ap (λ X. t ∷ X) h.1)
 
 either : (b : Bool) (X : Pointer → Type 0) (P : Pointer) → (b ≡ true → X P) → X [] → X (if b then P else [])
-either true X P h g = h refl
-either false X P h g = g
+either b X P h g = search rules
 
 common_left : (P Q : Pointer) → IsPrefix (common P Q) P
-common_left [] Q = ([], refl)
-common_left (t ∷ P) [] = (t ∷ P, refl)
 common_left (t ∷ P) (u ∷ Q) = either (bytes_eq t u) (λ X. IsPrefix X (t ∷ P)) (t ∷ common P Q) (λ e. prefix_more t (common P Q) P (common_left P Q)) (t ∷ P, refl)
+common_left P Q = search rules
 
 common_right : (P Q : Pointer) → IsPrefix (common P Q) Q
-common_right [] Q = (Q, refl)
-common_right (t ∷ P) [] = ([], refl)
 common_right (t ∷ P) (u ∷ Q) =
     either (bytes_eq t u) (λ X. IsPrefix X (u ∷ Q)) (t ∷ common P Q)
     (λ e. subst (λ x. IsPrefix (x ∷ common P Q) (u ∷ Q)) (sym ((bytes_eq-Decides t u).0 e)) (prefix_more u (common P Q) Q (common_right P Q))) (u ∷ Q, refl)
+common_right P Q = search rules
 
 common_longest : (T P Q : Pointer) → IsPrefix T P → IsPrefix T Q → IsPrefix T (common P Q)
-common_longest [] P Q h g = (common P Q, refl)
-common_longest (t ∷ T) [] Q h g = absurd (let e : [] ≡ t ∷ (T ++ h.0) = h.1 in cc)
-common_longest (t ∷ T) (u ∷ P) [] h g = absurd (let e : [] ≡ t ∷ (T ++ g.0) = g.1 in cc)
-common_longest (t ∷ T) (u ∷ P) (w ∷ Q) h g =
-    let a : u ∷ P ≡ t ∷ (T ++ h.0) = h.1 in let b : w ∷ Q ≡ t ∷ (T ++ g.0) = g.1 in
-    let same : u ≡ w = cc in let first : t ≡ u = cc in
-    let i : IsPrefix T (common P Q) = common_longest T P Q (h.0, cc) (g.0, cc) in
-    let test : bytes_eq u w ≡ true = (bytes_eq-Decides u w).1 same in
-    rw test (i.0, ap (λ x. x ∷ common P Q) (sym first) ∙ ap (λ X. t ∷ X) i.1)
+common_longest (t ∷ T) (u ∷ P) (w ∷ Q) h g = search (rules, bytes_eq, bytes_eq-Decides, common_longest T P Q)
+common_longest T P Q h g = search rules
 
 push_some : (R : Pointer) (t : List ℕ) → (y : List ℕ) × (Y : Pointer) × (R ++ t ∷ [] ≡ y ∷ Y)
 push_some [] t = (t, [], refl)
 push_some (u ∷ R) t = (u, R ++ t ∷ [], refl)
 
 front_proper : (T : Pointer) (t : List ℕ) (P : Pointer) → IsPrefix T (front_of t P) → IsProperPrefix T (t ∷ P)
-front_proper T t P h =
-    let y : (y : List ℕ) × (Y : Pointer) × (h.0 ++ last_of t P ∷ [] ≡ y ∷ Y) = push_some h.0 (last_of t P) in
-    (y.0, y.1, split_whole t P ∙ ap (λ X. X ++ last_of t P ∷ []) h.1 ∙ append_assoc T h.0 (last_of t P ∷ []) ∙ ap (λ X. T ++ X) y.2)
+front_proper T t P h = search (rules, push_some h.0 (last_of t P), split_whole t P, append_assoc T h.0 (last_of t P ∷ []), push_some, split_whole, append_assoc)
 
 proper_front : (T : Pointer) (t : List ℕ) (P : Pointer) → IsProperPrefix T (t ∷ P) → IsPrefix T (front_of t P)
-proper_front T t P h =
-    let e : t ∷ P ≡ (T ++ front_of h.0 h.1) ++ last_of h.0 h.1 ∷ [] = h.2 ∙ ap (λ X. T ++ X) (split_whole h.0 h.1) ∙ sym (append_assoc T (front_of h.0 h.1) (last_of h.0 h.1 ∷ [])) in
-    (front_of h.0 h.1, sym (split_is t P (T ++ front_of h.0 h.1) (last_of h.0 h.1) e).0)
+proper_front T t P h = search (rules, split_whole h.0 h.1, append_assoc T (front_of h.0 h.1) (last_of h.0 h.1 ∷ []), split_is t P (T ++ front_of h.0 h.1) (last_of h.0 h.1), split_whole, append_assoc, split_is)
 
 no_proper : (T : Pointer) → IsProperPrefix T [] → ⊥
 no_proper [] h = let e : [] ≡ h.0 ∷ h.1 = h.2 in cc
@@ -74,9 +61,6 @@ record Longest (S : Pointer) (Ps : List Pointer) (R : Pointer) : Type 0 where
   longest : (T : Pointer) → IsPrefix T S → AllBegun T Ps → IsPrefix T R
 
 parents_longest : (S : Pointer) (Ps : List Pointer) (R : Pointer) → parents_of S Ps ≡ Some R → Longest S Ps R
-parents_longest S [] R is =
-    let e : S ≡ R = cc in record { first = ([], e ∙ sym (append-nil R)); all = tt; longest = λ T h g. subst (IsPrefix T) e h }
-parents_longest S ([] ∷ Ps) R is = cc
 parents_longest S ((t ∷ P) ∷ Ps) R is =
     let i : Longest (common S (front_of t P)) Ps R = parents_longest (common S (front_of t P)) Ps R is in
     record {
@@ -84,23 +68,19 @@ parents_longest S ((t ∷ P) ∷ Ps) R is =
       all = (front_proper R t P (prefix_trans R (common S (front_of t P)) (front_of t P) i.first (common_right S (front_of t P))), i.all);
       longest = λ T h g. i.longest T (common_longest T S (front_of t P) h (proper_front T t P g.0)) g.1;
     }
+parents_longest S Ps R is = search (rules, append-nil)
 
 parents_none : (S : Pointer) (Ps : List Pointer) (T : Pointer) → parents_of S Ps ≡ None → AllBegun T Ps → ⊥
-parents_none S [] T is h = cc
-parents_none S ([] ∷ Ps) T is h = no_proper T h.0
 parents_none S ((t ∷ P) ∷ Ps) T is h = parents_none (common S (front_of t P)) Ps T is h.1
+parents_none S Ps T is h = search (rules, no_proper)
 
 shared_longest : (Ps : List Pointer) (S : Pointer) → shared_of Ps ≡ Some S → AllBegun S Ps × ((T : Pointer) → AllBegun T Ps → IsPrefix T S)
-shared_longest [] S is = cc
-shared_longest ([] ∷ Ps) S is = cc
-shared_longest ((t ∷ P) ∷ Ps) S is =
-    let i : Longest (front_of t P) Ps S = parents_longest (front_of t P) Ps S is in
-    ((front_proper S t P i.first, i.all), λ T h. i.longest T (proper_front T t P h.0) h.1)
+shared_longest ((t ∷ P) ∷ Ps) S is = search (rules, parents_longest (front_of t P) Ps S is, front_proper S t P, proper_front, parents_longest, front_proper)
+shared_longest Ps S is = search rules
 
 shared_none : (Ps : List Pointer) (T : Pointer) → (Ps ≡ [] → ⊥) → shared_of Ps ≡ None → AllBegun T Ps → ⊥
-shared_none [] T some is h = some refl
-shared_none ([] ∷ Ps) T some is h = no_proper T h.0
 shared_none ((t ∷ P) ∷ Ps) T some is h = parents_none (front_of t P) Ps T is h.1
+shared_none Ps T some is h = search (rules, no_proper)
 
 within_begun : (S : Pointer) (ops : List Operation) → AreWithin S ops → AllBegun S (all_pointers ops)
 within_begun S [] h = tt
@@ -121,19 +101,11 @@ begun_within S (copy F P ∷ ops) h = ((h.0, h.1.0), begun_within S ops h.1.1)
 begun_within S (test P v ∷ ops) h = (h.0, begun_within S ops h.1)
 
 some_pointers : (ops : List Operation) → IsNotEmpty ops → all_pointers ops ≡ [] → ⊥
-some_pointers [] h e = h
-some_pointers (add P v ∷ ops) h e = cc
-some_pointers (remove P ∷ ops) h e = cc
-some_pointers (replace P v ∷ ops) h e = cc
-some_pointers (move F P ∷ ops) h e = cc
-some_pointers (copy F P ∷ ops) h e = cc
-some_pointers (test P v ∷ ops) h e = cc
+some_pointers ops h e = search rules
 
 pub shared_is : (ops : List Operation) (S : Pointer) → shared ops ≡ Some S → IsShared ops S
 shared_is [] S is = cc
-shared_is (op ∷ ops) S is =
-    let l = shared_longest (all_pointers (op ∷ ops)) S is in
-    record { some = tt; within = begun_within S (op ∷ ops) l.0; longest = λ T h. l.1 T (within_begun T (op ∷ ops) h) }
+shared_is (op ∷ ops) S is = search (rules, shared_longest (all_pointers (op ∷ ops)) S is, begun_within S (op ∷ ops), within_begun, shared_longest, begun_within)
 
 pub not_shared : (ops : List Operation) (S : Pointer) → shared ops ≡ None → IsShared ops S → ⊥
 not_shared ops S is h = shared_none (all_pointers ops) S (some_pointers ops h.some) is (within_begun S ops h.within)
@@ -142,9 +114,7 @@ prefix_same : (P Q : Pointer) → IsPrefix P Q → IsPrefix Q P → P ≡ Q
 prefix_same [] [] h g = refl
 prefix_same [] (u ∷ Q) h g = let e : [] ≡ u ∷ (Q ++ g.0) = g.1 in cc
 prefix_same (t ∷ P) [] h g = let e : [] ≡ t ∷ (P ++ h.0) = h.1 in cc
-prefix_same (t ∷ P) (u ∷ Q) h g =
-    let a : u ∷ Q ≡ t ∷ (P ++ h.0) = h.1 in let b : t ∷ P ≡ u ∷ (Q ++ g.0) = g.1 in
-    let i : P ≡ Q = prefix_same P Q (h.0, cc) (g.0, cc) in cc
+prefix_same (t ∷ P) (u ∷ Q) h g = search (rules, prefix_same P Q)
 
 pub shared_one : (ops : List Operation) (S T : Pointer) → IsShared ops S → IsShared ops T → S ≡ T
 shared_one ops S T h g = prefix_same S T (g.longest S h.within) (h.longest T g.within)
@@ -162,9 +132,7 @@ shared_iff ops S = (λ h. shared_exactly ops S h, λ h. shared_is ops S h)
 -- ---- by what is looked up of each operation
 
 prefix_proper : (T A : Pointer) (a : List ℕ) → IsPrefix T A → IsProperPrefix T (A ++ a ∷ [])
-prefix_proper T A a h =
-    let y = push_some h.0 a in
-    (y.0, y.1, ap (λ X. X ++ a ∷ []) h.1 ∙ append_assoc T h.0 (a ∷ []) ∙ ap (λ X. T ++ X) y.2)
+prefix_proper T A a h = search (rules, push_some h.0 a, append_assoc T h.0 (a ∷ []), push_some, append_assoc)
 
 proper_prefix : (T A : Pointer) (a : List ℕ) → IsProperPrefix T (A ++ a ∷ []) → IsPrefix T A
 proper_prefix T A a h =
@@ -172,20 +140,10 @@ proper_prefix T A a h =
     subst (IsPrefix T) (sym (split_is y.0 y.1 A a (sym y.2)).0) (proper_front T y.0 y.1 (subst (IsProperPrefix T) y.2 h))
 
 alone_within : (T : Pointer) (op : Operation) → from_of op ≡ None → IsWithin T op ↔ IsProperPrefix T (path_of op)
-alone_within T (add P v) none = (λ h. h, λ h. h)
-alone_within T (remove P) none = (λ h. h, λ h. h)
-alone_within T (replace P v) none = (λ h. h, λ h. h)
-alone_within T (move F P) none = cc
-alone_within T (copy F P) none = cc
-alone_within T (test P v) none = (λ h. h, λ h. h)
+alone_within T op none = search rules
 
 both_within : (T F : Pointer) (op : Operation) → from_of op ≡ Some F → IsWithin T op ↔ (IsProperPrefix T F × IsProperPrefix T (path_of op))
-both_within T F (add P v) some = cc
-both_within T F (remove P) some = cc
-both_within T F (replace P v) some = cc
-both_within T F (move G P) some = let same : G ≡ F = cc in (λ h. (subst (IsProperPrefix T) same h.0, h.1), λ h. (subst (IsProperPrefix T) (sym same) h.0, h.1))
-both_within T F (copy G P) some = let same : G ≡ F = cc in (λ h. (subst (IsProperPrefix T) same h.0, h.1), λ h. (subst (IsProperPrefix T) (sym same) h.0, h.1))
-both_within T F (test P v) some = cc
+both_within T F op some = search rules
 
 pub root_within : (op : Operation) → path_of op ≡ [] → (T : Pointer) → IsWithin T op → ⊥
 root_within (add P v) root T h = no_proper T (subst (IsProperPrefix T) root h)
@@ -220,9 +178,8 @@ shares_first os rest first S is h = rw is (λ T. (λ w. ((h T).0 w.0, w.1), λ w
 
 within_at : (T : Pointer) (os : List PatchOperation) (k : ℕ) (o : PatchOperation) → k < length os → IsAt os k o
     → AreWithin T (drop k (operations os)) ↔ (IsWithin T (operation_of o) × AreWithin T (drop (suc k) (operations os)))
-within_at T [] k o less is = absurd (omega arith)
-within_at T (x ∷ os) zero o less is = (λ h. (subst (λ y. IsWithin T (operation_of y)) (sym is) h.0, h.1), λ h. (subst (λ y. IsWithin T (operation_of y)) is h.0, h.1))
 within_at T (x ∷ os) (suc k) o less is = within_at T os k o (omega arith) is
+within_at T os k o less is = search rules
 
 pub shares_more : (os rest : List PatchOperation) (k : ℕ) (o : PatchOperation) (S P C : Pointer) → k < length rest → IsAt rest k o → Shares os rest k S
     → IsLongest (λ T. IsWithin T (operation_of o)) P → IsLongestShared S P C → Shares os rest (k + 1) C
@@ -234,10 +191,7 @@ shares_more os rest k o S P C less is h p m =
     ))
 
 none_left : (T : Pointer) (os : List PatchOperation) (k : ℕ) → length os ≤ k → AreWithin T (drop k (operations os))
-none_left T [] zero le = tt
-none_left T [] (suc k) le = tt
-none_left T (x ∷ os) zero le = absurd (omega arith)
-none_left T (x ∷ os) (suc k) le = none_left T os k (omega arith)
+none_left T os k le = grind (arith, common_steps)
 
 pub shares_all : (os rest : List PatchOperation) (first : PatchOperation) (k : ℕ) (S : Pointer) → os ≡ first ∷ rest → length rest ≤ k → Shares os rest k S → IsShared (operations os) S
 shares_all os rest first k S is le h = record {
@@ -254,5 +208,4 @@ pub first_shares_none : (os rest : List PatchOperation) (first : PatchOperation)
 first_shares_none os rest first is none T shared = none T (subst (λ xs. AreWithin T (operations xs)) is shared.within).0
 
 pub even_if_none : {T : Type 0} (o : Option T) (P : Type 0) → P → IfNone o P
-even_if_none None P h = h
-even_if_none (Some x) P h = tt
+even_if_none o P h = search rules

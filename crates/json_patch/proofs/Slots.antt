@@ -1,5 +1,5 @@
 -- Where a token puts a new child, and what that leaves.
-use Rattle.std.proofs.Common.{◌≡◌, ◌≢◌, ℕ, ◌<◌, ◌≤◌, List, [], ◌∷◌, inl, inr, ⊎_elim, Bool, true, false, if◌then◌else◌, leb, bytes_eq, Option, Some, None, option_map, option_and_then, refl, sym, ap, ◌∙◌, subst, arith}
+use Rattle.std.proofs.Common.{◌≡◌, ℕ, ◌<◌, ◌≤◌, List, [], ◌∷◌, ⊎_elim, Bool, true, if◌then◌else◌, leb, bytes_eq, Option, Some, None, option_map, option_and_then, refl, ap, arith, rules}
 use Rattle.std.proofs.lemmas.Bool.{cases_lt}
 use Rattle.std.proofs.lemmas.Bool.Decides.{nat_tests}
 use Rattle.std.proofs.lemmas.Slice.Eq.{bytes_eq-Decides}
@@ -7,7 +7,6 @@ use Rattle.serde_json.specs.Data.{Data, array, object, Items, Members, put}
 use Rattle.serde_json.specs.Events.{items_len}
 use Rattle.serde_json.proofs.Views.{get_member-put, get_member-put_other}
 use Rattle.jsonptr.specs.PlaceLaws.{next_is_no_place}
-use Rattle.jsonptr.specs.Places.{place_of, next_token}
 use Rattle.json_patch.specs.Document.{IsDocument, Step, key, place, look, sight, standing}
 use Rattle.json_patch.specs.Resolve.{Aims}
 use Rattle.json_patch.specs.Change.{PutsAt, IsBeside}
@@ -17,36 +16,16 @@ use Rattle.json_patch.proofs.Items.{get_insert, get_insert_later, get_insert_bef
 use Rattle.json_patch.proofs.Resolved.{option_map_some}
 
 within : (b : Bool) (j n i : ℕ) → leb j n ≡ b → (if b then Some j else None) ≡ Some i → (j ≡ i) × (j ≤ n)
-within true j n i is h = (cc, grind (arith, nat_tests))
-within false j n i is h = cc
-
-slot_at : (b : Bool) (o : Option ℕ) (t : List ℕ) (ds : Items) (i : ℕ) → bytes_eq t next_token ≡ b → place_of t ≡ o
-    → (if b then Some (items_len ds) else option_and_then (λ j. if leb j (items_len ds) then Some j else None) o) ≡ Some i → Aims (array ds) t (place i)
-slot_at true o t ds i next is h = inr ((bytes_eq-Decides t next_token).0 next, cc)
-slot_at false None t ds i next is h = cc
-slot_at false (Some j) t ds i next is h =
-    let w : (j ≡ i) × (j ≤ items_len ds) = within (leb j (items_len ds)) j (items_len ds) i refl h in
-    let e : j ≡ i = w.0 in let le : j ≤ items_len ds = w.1 in
-    inl (is ∙ ap Some e, omega arith)
+within b j n i is h = search rules
 
 pub slot_aims : (t : List ℕ) (ds : Items) (i : ℕ) → slot_of t ds ≡ Some i → Aims (array ds) t (place i)
-slot_aims t ds i h = slot_at (bytes_eq t next_token) (place_of t) t ds i refl refl h
+slot_aims t ds i h = (search rules)
 
-pub fits : (i n : ℕ) → i ≤ n → leb i n ≡ true
+fits : (i n : ℕ) → i ≤ n → leb i n ≡ true
 fits i n le = grind (arith, nat_tests)
 
-pub not_next : (b : Bool) (t : List ℕ) → bytes_eq t next_token ≡ b → t ≢ next_token → b ≡ false
-not_next true t is other = absurd (other ((bytes_eq-Decides t next_token).0 is))
-not_next false t is other = refl
-
-pub place_is_not_next : (t : List ℕ) (i : ℕ) → place_of t ≡ Some i → t ≢ next_token
-place_is_not_next t i h is = let none : place_of t ≡ None = ap place_of is ∙ next_is_no_place in cc
-
 pub slot_some : (t : List ℕ) (ds : Items) (i : ℕ) → Aims (array ds) t (place i) → slot_of t ds ≡ Some i
-slot_some t ds i h =
-    ⊎_elim
-    (λ (a : (place_of t ≡ Some i) × (i ≤ items_len ds)). rw (not_next (bytes_eq t next_token) t refl (place_is_not_next t i a.0), a.0, fits i (items_len ds) a.1))
-    (λ (a : (t ≡ next_token) × (i ≡ items_len ds)). rw a.0 (ap Some (sym a.1))) h
+slot_some t ds i h = search (rules, bytes_eq-Decides, next_is_no_place, bytes_eq, nat_tests)
 
 pub aims_put : (v : Data) (t : List ℕ) (p : Data) (s : Step) → Aims p t s → (q : Data) × (put_in v t p ≡ Some q)
 aims_put v t (object ms) (key k) h = (object (put t v ms), refl)
@@ -54,11 +33,8 @@ aims_put v t (array ds) (place i) h = (array (insert_item i v ds), ap (option_ma
 aims_put v t p s h = absurd h
 
 pub aims_same : (p : Data) (t : List ℕ) (s r : Step) → Aims p t s → Aims p t r → s ≡ r
-aims_same (object ms) t (key k) (key l) h g = cc
 aims_same (array ds) t (place i) (place j) h g = let a : slot_of t ds ≡ Some i = slot_some t ds i h in let b : slot_of t ds ≡ Some j = slot_some t ds j g in cc
-aims_same (object ms) t (key k) (place j) h g = absurd g
-aims_same (array ds) t (place i) (key l) h g = absurd g
-aims_same p t s r h g = absurd h
+aims_same p t s r h g = search rules
 
 pub record PutsIn (v : Data) (t : List ℕ) (p q : Data) : Type 0 where
   pub s : Step
@@ -70,9 +46,8 @@ pub below : (o p : Option Data) (R : List Step) → o ≡ p → sight (option_an
 below o p R e = ap (λ o. sight (option_and_then (λ x. standing x R) o)) e
 
 member_elsewhere : (v : Data) (t : List ℕ) (ms : Members) (X : List Step) → IsBeside [] (key t) X → look (object (put t v ms)) X ≡ look (object ms) X
-member_elsewhere v t ms [] b = refl
 member_elsewhere v t ms (key q ∷ R) b = below _ _ R (get_member-put_other q t v ms (λ h. b R (ap (λ x. key x ∷ R) h)))
-member_elsewhere v t ms (place j ∷ R) b = refl
+member_elsewhere v t ms X b = search rules
 
 put_member_in : (v : Data) (t : List ℕ) (ms : Members) → PutsIn v t (object ms) (object (put t v ms))
 put_member_in v t ms = record {
@@ -86,9 +61,8 @@ pub not_from : (i j : ℕ) (R : List Step) → IsBeside [] (place i) (place j �
 not_from i j R b = ⊎_elim (λ (lt : j < i). lt) (λ (le : i ≤ j). absurd (b j R le refl)) (cases_lt j i)
 
 item_elsewhere : (v : Data) (i : ℕ) (ds : Items) → i ≤ items_len ds → (X : List Step) → IsBeside [] (place i) X → look (array (insert_item i v ds)) X ≡ look (array ds) X
-item_elsewhere v i ds le [] b = refl
-item_elsewhere v i ds le (key q ∷ R) b = refl
 item_elsewhere v i ds le (place j ∷ R) b = below _ _ R (get_insert_before j i v ds le (not_from i j R b))
+item_elsewhere v i ds le X b = search rules
 
 pub aims_within : (t : List ℕ) (ds : Items) (i : ℕ) → Aims (array ds) t (place i) → i ≤ items_len ds
 aims_within t ds i h = ⊎_elim (λ a. a.1) (λ a. let e : i ≡ items_len ds = a.1 in omega arith) h
@@ -109,6 +83,4 @@ put_item_in v t ds i is =
     }
 
 pub put_in_puts : (v : Data) (t : List ℕ) (p q : Data) → put_in v t p ≡ Some q → PutsIn v t p q
-put_in_puts v t (object ms) q is = let e : object (put t v ms) ≡ q = cc in subst (PutsIn v t (object ms)) e (put_member_in v t ms)
-put_in_puts v t (array ds) q is = option_map_some _ (slot_of t ds) q is (λ i slot whole. subst (PutsIn v t (array ds)) whole (put_item_in v t ds i slot))
-put_in_puts v t p q is = cc
+put_in_puts v t p q is = search (rules, put_member_in, option_map_some, put_item_in)

@@ -1,5 +1,5 @@
 -- An operation leaves, or is refused for, exactly what is computed.
-use Rattle.std.proofs.Common.{◌≡◌, ◌&&◌, ℕ, List, [], ◌∷◌, ◌++◌, Bool, true, false, true≢false, bytes_eq, if◌then◌else◌, Option, Some, None, Ok, Err, refl, sym, ap, ◌∙◌, subst}
+use Rattle.std.proofs.Common.{◌≡◌, ◌&&◌, ℕ, List, [], ◌∷◌, ◌++◌, Bool, true, false, bytes_eq, if◌then◌else◌, Option, Some, None, Ok, Err, refl, sym, ap, ◌∙◌, subst, rules}
 use Rattle.std.proofs.lemmas.Slice.Eq.{bytes_eq-Decides}
 use Rattle.serde_json.specs.Data.{Data}
 use Rattle.jsonptr.specs.Text.{Pointer, IsProperPrefix}
@@ -24,19 +24,11 @@ use Rattle.json_patch.proofs.Exact.{added_exact, removed_exact, replaced_exact}
 -- ---- proper prefixes
 
 both : (a b : Bool) → a && b ≡ true → (a ≡ true) × (b ≡ true)
-both true b h = (refl, h)
-both false b h = cc
+both a b h = search rules
 
 pub begins_prefix : (P Q : Pointer) → begins P Q ≡ true → IsProperPrefix P Q
-begins_prefix [] [] h = cc
-begins_prefix [] (u ∷ Q) h = (u, Q, refl)
-begins_prefix (t ∷ P) [] h = cc
-begins_prefix (t ∷ P) (u ∷ Q) h =
-    let two = both (bytes_eq t u) (begins P Q) h in
-    let i : IsProperPrefix P Q = begins_prefix P Q two.1 in
-    let e : t ≡ u = (bytes_eq-Decides t u).0 two.0 in
-    let f : Q ≡ P ++ i.0 ∷ i.1 = i.2 in
-    (i.0, i.1, cc)
+begins_prefix (t ∷ P) (u ∷ Q) h = search (rules, both, bytes_eq, bytes_eq-Decides, begins_prefix P Q)
+begins_prefix P Q h = search rules
 
 begins_long : (P : Pointer) (t : List ℕ) (R : Pointer) → begins P (P ++ t ∷ R) ≡ true
 begins_long [] t R = refl
@@ -46,8 +38,7 @@ pub prefix_begins : (P Q : Pointer) → IsProperPrefix P Q → begins P Q ≡ tr
 prefix_begins P Q h = ap (begins P) h.2 ∙ begins_long P h.0 h.1
 
 is_false : (b : Bool) → (b ≡ true → ⊥) → b ≡ false
-is_false true h = absurd (h refl)
-is_false false h = refl
+is_false b h = search rules
 
 pub not_begins : (P Q : Pointer) → (IsProperPrefix P Q → ⊥) → begins P Q ≡ false
 not_begins P Q h = is_false (begins P Q) (λ e. h (begins_prefix P Q e))
@@ -58,16 +49,13 @@ not_prefix P Q is h = let a : begins P Q ≡ true = prefix_begins P Q h in cc
 -- ---- options
 
 none_of : {A : Type 0} (o : Option A) → ((e : A) → o ≡ Some e → ⊥) → o ≡ None
-none_of None h = refl
-none_of (Some e) h = absurd (h e refl)
+none_of o h = search rules
 
 pub or_ok : (kind : PatchErrorKind) (o : Option Data) (e : Data) → or_refused kind o ≡ Ok e → o ≡ Some e
-or_ok kind None e h = cc
-or_ok kind (Some f) e h = cc
+or_ok kind o e h = search rules
 
 pub or_err : (kind other : PatchErrorKind) (o : Option Data) → or_refused kind o ≡ Err other → (o ≡ None) × (kind ≡ other)
-or_err kind other None h = (refl, cc)
-or_err kind other (Some f) h = cc
+or_err kind other o h = search rules
 
 -- ---- what stands, and what is never left
 
@@ -105,8 +93,7 @@ same_other : (w v : Data) → IsDocument v → (w ≡ v → ⊥) → same w v �
 same_other w v hv other = is_false (same w v) (λ h. other (same-is w v hv h))
 
 moved_none : (P : Pointer) (o : Option Data) → moved P o None ≡ Err InvalidFromPointer
-moved_none P None = refl
-moved_none P (Some v) = refl
+moved_none P o = search rules
 
 pub leaves_stepped : (d : Data) (op : Operation) (e : Data) → IsDocument d → IsWholeOp op → Leaves d op e → stepped d op ≡ Ok e
 leaves_stepped d (add P v) e hd hv h = ap (or_refused InvalidPointer) (added_exact d P v e hd hv h)
@@ -143,32 +130,24 @@ added_leaves : (d : Data) (P : Pointer) (v e : Data) → IsDocument d → IsDocu
 added_leaves d P v e hd hv is = added_is d P v e hd hv (or_ok InvalidPointer (added d P v) e is)
 
 added_refused : (d : Data) (P : Pointer) (v : Data) (kind : PatchErrorKind) → or_refused InvalidPointer (added d P v) ≡ Err kind → (InvalidPointer ≡ kind) × Never (IsAdded d P v)
-added_refused d P v kind is =
-    let h = or_err InvalidPointer kind (added d P v) is in (h.1, λ e. added_none d P v e h.0)
+added_refused d P v kind is = search (rules, or_err, added_none)
 
 module _ (d : Data) (F P : Pointer) (hd : IsDocument d) where
   move_leaves : (b : Bool) (o p : Option Data) (e : Data) → begins F P ≡ b → found d F ≡ o → removed d F ≡ p → (if b then Err CannotMoveInsideItself else moved P o p) ≡ Ok e
       → Leaves d (move F P) e
-  move_leaves true o p e b f r is = cc
-  move_leaves false None p e b f r is = cc
-  move_leaves false (Some v) None e b f r is = cc
   move_leaves false (Some v) (Some m) e b f r is =
       let s : StandsAt d F v = found_resolves d F v f in
       let g : IsRemoved d F m = removed_is d F m hd r in
       (not_prefix F P b, (v, m, s, g, added_leaves m P v e (removed_document d F m g) (stands_document d F v hd s) is))
+  move_leaves b o p e h f r is = search rules
 
   move_refused : (b : Bool) (o p : Option Data) (kind : PatchErrorKind) → begins F P ≡ b → found d F ≡ o → removed d F ≡ p → (if b then Err CannotMoveInsideItself else moved P o p) ≡ Err kind
       → Refuses d (move F P) kind
   move_refused true o p kind b f r is = let e : CannotMoveInsideItself ≡ kind = cc in subst (Refuses d (move F P)) e (begins_prefix F P b)
-  move_refused false None p kind b f r is =
-      let e : InvalidFromPointer ≡ kind = cc in subst (Refuses d (move F P)) e (not_prefix F P b, nothing_removed d F f)
+  move_refused false None p kind b f r is = search (rules, not_prefix F P b, nothing_removed d F f, not_prefix, nothing_removed)
   move_refused false (Some v) None kind b f r is =
       let e : InvalidFromPointer ≡ kind = cc in subst (Refuses d (move F P)) e (not_prefix F P b, λ m. removed_none d F m r)
-  move_refused false (Some v) (Some m) kind b f r is =
-      let s : StandsAt d F v = found_resolves d F v f in
-      let g : IsRemoved d F m = removed_is d F m hd r in
-      let h = added_refused m P v kind is in
-      subst (Refuses d (move F P)) h.0 (not_prefix F P b, (v, m, s, g, h.1))
+  move_refused false (Some v) (Some m) kind b f r is = search (rules, found_resolves, removed_is, added_refused, not_prefix)
 
   copy_leaves : (o : Option Data) (e : Data) → found d F ≡ o → copied d P o ≡ Ok e → Leaves d (copy F P) e
   copy_leaves None e f is = cc
@@ -177,37 +156,25 @@ module _ (d : Data) (F P : Pointer) (hd : IsDocument d) where
 
   copy_refused : (o : Option Data) (kind : PatchErrorKind) → found d F ≡ o → copied d P o ≡ Err kind → Refuses d (copy F P) kind
   copy_refused None kind f is = let e : InvalidFromPointer ≡ kind = cc in subst (Refuses d (copy F P)) e (found_never d F f)
-  copy_refused (Some v) kind f is =
-      let s : StandsAt d F v = found_resolves d F v f in
-      let h = added_refused d P v kind is in
-      subst (Refuses d (copy F P)) h.0 (v, s, h.1)
+  copy_refused (Some v) kind f is = search (rules, found_resolves d F v f, added_refused d P v kind is, found_resolves, added_refused)
 
 module _ (d : Data) (P : Pointer) (v : Data) where
   test_leaves : (b : Bool) (w e : Data) → IsDocument v → found d P ≡ Some w → same w v ≡ b → (if b then Ok d else Err TestFailed) ≡ Ok e → Leaves d (test P v) e
-  test_leaves true w e hv f s is = (found_resolves d P v (f ∙ ap Some (same-is w v hv s)), cc)
-  test_leaves false w e hv f s is = cc
+  test_leaves b w e hv f s is = search (rules, found_resolves, same-is)
 
   test_leaves_at : (o : Option Data) (e : Data) → IsDocument v → found d P ≡ o → tested d v o ≡ Ok e → Leaves d (test P v) e
-  test_leaves_at None e hv f is = cc
-  test_leaves_at (Some w) e hv f is = test_leaves (same w v) w e hv f refl is
+  test_leaves_at o e hv f is = search (rules, test_leaves)
 
   test_refused : (b : Bool) (w : Data) (kind : PatchErrorKind) → IsDocument v → found d P ≡ Some w → same w v ≡ b → (if b then Ok d else Err TestFailed) ≡ Err kind → Refuses d (test P v) kind
   test_refused true w kind hv f s is = cc
-  test_refused false w kind hv f s is =
-      let e : TestFailed ≡ kind = cc in
-      subst (Refuses d (test P v)) e (w, found_resolves d P w f, λ h. true≢false (sym (same-refl v) ∙ ap (λ x. same x v) (sym h) ∙ s))
+  test_refused false w kind hv f s is = search (rules, found_resolves d P w f, same-refl v, found_resolves, same-refl)
 
   test_refused_at : (o : Option Data) (kind : PatchErrorKind) → IsDocument v → found d P ≡ o → tested d v o ≡ Err kind → Refuses d (test P v) kind
   test_refused_at None kind hv f is = let e : InvalidPointer ≡ kind = cc in subst (Refuses d (test P v)) e (found_never d P f)
   test_refused_at (Some w) kind hv f is = test_refused (same w v) w kind hv f refl is
 
 pub stepped_leaves : (d : Data) (op : Operation) (e : Data) → IsDocument d → IsWholeOp op → stepped d op ≡ Ok e → Leaves d op e
-stepped_leaves d (add P v) e hd hv is = added_leaves d P v e hd hv is
-stepped_leaves d (remove P) e hd hv is = removed_is d P e hd (or_ok InvalidPointer (removed d P) e is)
-stepped_leaves d (replace P v) e hd hv is = replaced_is d P v e hd hv (or_ok InvalidPointer (replaced d P v) e is)
-stepped_leaves d (move F P) e hd hv is = move_leaves d F P hd (begins F P) (found d F) (removed d F) e refl refl refl is
-stepped_leaves d (copy F P) e hd hv is = copy_leaves d F P hd (found d F) e refl is
-stepped_leaves d (test P v) e hd hv is = test_leaves_at d P v (found d P) e hv refl is
+stepped_leaves d op e hd hv is = search (rules, added_leaves, removed_is, or_ok, replaced_is, move_leaves, copy_leaves, test_leaves_at)
 
 pub stepped_refuses : (d : Data) (op : Operation) (kind : PatchErrorKind) → IsDocument d → IsWholeOp op → stepped d op ≡ Err kind → Refuses d op kind
 stepped_refuses d (add P v) kind hd hv is = let h = added_refused d P v kind is in subst (Refuses d (add P v)) h.0 h.1
@@ -220,9 +187,6 @@ stepped_refuses d (copy F P) kind hd hv is = copy_refused d F P hd (found d F) k
 stepped_refuses d (test P v) kind hd hv is = test_refused_at d P v (found d P) kind hv refl is
 
 pub leaves_document : (d : Data) (op : Operation) (e : Data) → IsDocument d → IsWholeOp op → Leaves d op e → IsDocument e
-leaves_document d (add P v) e hd hv h = IsAdded_document d P v e hv h
-leaves_document d (remove P) e hd hv h = h.4
-leaves_document d (replace P v) e hd hv h = h.3
 leaves_document d (move F P) e hd hv h = IsAdded_document h.1.1 P h.1.0 e (stands_document d F h.1.0 hd h.1.2) h.1.4
 leaves_document d (copy F P) e hd hv h = IsAdded_document d P h.0 e (stands_document d F h.0 hd h.1) h.2
-leaves_document d (test P v) e hd hv h = subst IsDocument (sym h.1) hd
+leaves_document d op e hd hv h = search (rules, IsAdded_document)

@@ -1,6 +1,7 @@
 -- What is written for characters, values and operations.
-use Rattle.std.proofs.Common.{◌≡◌, ◌≢◌, ℕ, zero, suc, ◌<◌, ◌/◌, ◌%◌, ◌^◌, ◌-◌, ◌&&◌, Bool, true, false, List, [], ◌∷◌, ◌++◌, Option, Some, None, option_map, codes, bytes_eq, chars, flat_map, encode_utf8, IsUtf8, length, append_assoc, append-nil, inl, inr, refl, sym, ap, ◌∙◌, arith, ne_eqb, lt-ltb}
-use Rattle.std.proofs.lemmas.Bool.{and_parts, cases_eq}
+use Rattle.std.proofs.lemmas.Grind.{common_steps}
+use Rattle.std.proofs.Common.{◌≡◌, ◌≢◌, ℕ, zero, suc, ◌<◌, ◌/◌, ◌%◌, ◌^◌, ◌-◌, ◌&&◌, Bool, true, false, List, [], ◌∷◌, ◌++◌, Option, Some, option_map, codes, bytes_eq, chars, flat_map, encode_utf8, IsUtf8, length, append_assoc, append-nil, refl, sym, ◌∙◌, arith, rules}
+use Rattle.std.proofs.lemmas.Bool.{and_parts}
 use Rattle.std.proofs.lemmas.Slice.Eq.{bytes_eq-Decides}
 use Rattle.std.proofs.lemmas.Str.{chars-nil, chars_past_char}
 use Rattle.std.specs.Char.{digit_char}
@@ -18,9 +19,7 @@ holds_below test (suc n) = test n && holds_below test n
 
 holds_at : (test : ℕ → Bool) (n : ℕ) → holds_below test n ≡ true → (x : ℕ) → x < n → test x ≡ true
 holds_at test zero h x below = absurd (omega arith)
-holds_at test (suc n) h x below =
-    let p = and_parts (test n) _ h in
-    elim (cases_eq x n) [ inl same ↦ rw same p.0 | inr other ↦ holds_at test n p.1 x (omega arith) ]
+holds_at test (suc n) h x below = search (rules, and_parts, holds_at test n)
 
 -- four digits, of a number below 32
 abbrev pub four_digits : ℕ → List ℕ
@@ -38,28 +37,23 @@ abbrev pub hexadecimal : ℕ → List ℕ
 hexadecimal c = codes "\\u00" ++ digit_char (c / 16) ∷ digit_char (c % 16) ∷ []
 
 pub escaped_control : (c : ℕ) → c < 32 → c ≢ 8 → c ≢ 9 → c ≢ 10 → c ≢ 12 → c ≢ 13 → escaped c ≡ hexadecimal c
-escaped_control c below b t n f r =
-    rw (ne_eqb c 34 (λ e. omega arith), ne_eqb c 92 (λ e. omega arith), ne_eqb c 8 b, ne_eqb c 12 f, ne_eqb c 10 n, ne_eqb c 13 r, ne_eqb c 9 t, lt-ltb c 32 below)
+escaped_control c below b t n f r = search rules
 
 pub hexadecimal-four_digits : (c : ℕ) → c < 32 → 92 ∷ 117 ∷ four_digits c ≡ hexadecimal c
-hexadecimal-four_digits c below =
-    ap (λ l. 92 ∷ 117 ∷ l) ((bytes_eq-Decides _ _).0 (holds_at has_two_zeros 32 two_zeros c below))
+hexadecimal-four_digits c below = grind (arith, common_steps, bytes_eq-Decides, holds_at, two_zeros)
 
 -- ---- the characters of a text, one by one
 
 pub escaped_more : (done text rest whole : List ℕ) (c : ℕ) → IsUtf8 text → text ≡ encode_utf8 c ++ rest
     → done ++ flat_map escaped (chars text) ≡ whole → (done ++ escaped c) ++ flat_map escaped (chars rest) ≡ whole
-escaped_more done text rest whole c utf8 step h =
-    append_assoc done (escaped c) _ ∙ ap (λ cs. done ++ flat_map escaped cs) (sym (chars_past_char text rest c utf8 step)) ∙ h
+escaped_more done text rest whole c utf8 step h = search (rules, append_assoc, flat_map, chars_past_char)
 
 no_bytes : (rest : List ℕ) → length rest ≡ 0 → rest ≡ []
-no_bytes [] h = refl
-no_bytes (x ∷ rest) h = absurd (omega arith)
+no_bytes rest h = grind (arith, common_steps)
 
 pub quoted_end : (done text rest : List ℕ) → length rest ≡ 0 → done ++ flat_map escaped (chars rest) ≡ flat_map escaped (chars text)
     → (34 ∷ done) ++ 34 ∷ [] ≡ quoted text
-quoted_end done text rest none h =
-    ap (λ l. 34 ∷ (l ++ 34 ∷ [])) (sym (append-nil done) ∙ ap (λ cs. done ++ flat_map escaped cs) (sym (ap chars (no_bytes rest none) ∙ chars-nil)) ∙ h)
+quoted_end done text rest none h = search (rules, append-nil, flat_map, no_bytes, chars-nil)
 
 -- ---- items and members, one by one
 
@@ -70,13 +64,9 @@ printed_items_more done before whole ds es d step h = simp append_assoc (rw step
 pub printed_items_end : (done before whole : List ℕ) (ds : Items) → ds ≡ no_items → done ++ printed_items before ds ≡ whole → done ≡ whole
 printed_items_end done before whole ds none h = sym (append-nil done) ∙ (rw none at h)
 
-regroup : (a b q e p r : List ℕ) → (((a ++ b) ++ (q ++ e)) ++ p) ++ r ≡ a ++ (b ++ (q ++ (e ++ (p ++ r))))
-regroup a b q e p r = simp append_assoc
-
 pub printed_members_more : (done before whole k : List ℕ) (ms ns : Members) (d : Data) → ms ≡ member k d ns
     → done ++ printed_members before ms ≡ whole → (((done ++ before) ++ (quoted k ++ codes ":")) ++ printed d) ++ printed_members (codes ",") ns ≡ whole
-printed_members_more done before whole k ms ns d step h =
-    regroup done before (quoted k) (codes ":") (printed d) (printed_members (codes ",") ns) ∙ (rw step at h)
+printed_members_more done before whole k ms ns d step h = grind (arith, common_steps)
 
 pub printed_members_end : (done before whole : List ℕ) (ms : Members) → ms ≡ no_members → done ++ printed_members before ms ≡ whole → done ≡ whole
 printed_members_end done before whole ms none h = sym (append-nil done) ∙ (rw none at h)
@@ -89,18 +79,11 @@ WritesParts name from path value =
     ≡ printed_fields (field_if (codes "op") (option_map string name) ++ (field_if (codes "from") (option_map string from) ++ (codes "path", string path) ∷ field_if (codes "value") value))
 
 writes_parts : (name from : Option (List ℕ)) (path : List ℕ) (value : Option Data) → WritesParts name from path value
-writes_parts None None path None = simp (append_assoc, append-nil)
-writes_parts None None path (Some d) = simp (append_assoc, append-nil)
-writes_parts None (Some t) path None = simp (append_assoc, append-nil)
-writes_parts None (Some t) path (Some d) = simp (append_assoc, append-nil)
-writes_parts (Some n) None path None = simp (append_assoc, append-nil)
-writes_parts (Some n) None path (Some d) = simp (append_assoc, append-nil)
-writes_parts (Some n) (Some t) path None = simp (append_assoc, append-nil)
 writes_parts (Some n) (Some t) path (Some d) = simp (append_assoc, append-nil)
+writes_parts name from path value = search (rules, append_assoc, append-nil)
 
 from_text : (o : Option Pointer) → option_map string (option_map text_of o) ≡ option_map pointer_text o
-from_text None = refl
-from_text (Some P) = refl
+from_text o = search rules
 
 pub printed_operation : (name from : Option (List ℕ)) (path : List ℕ) (p : Parts) → from ≡ option_map text_of p.from → path ≡ text_of p.path
     → (((((codes "{" ++ leading_text (codes "op") name) ++ leading_text (codes "from") from) ++ (quoted (codes "path") ++ codes ":")) ++ quoted path) ++ trailing_text (codes "value") p.value) ++ codes "}"

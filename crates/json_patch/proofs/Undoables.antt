@@ -1,8 +1,9 @@
 -- Operations that can be undone with no memory, by their number.
-use Rattle.std.proofs.Common.{◌≡◌, ◌<◌, ◌-◌, ℕ, zero, suc, List, [], ◌∷◌, length, get_or, IsTrue, true, false, refl, sym, ◌∙◌, subst, arith}
+use Rattle.std.proofs.lemmas.Grind.{common_steps}
+use Rattle.std.proofs.Common.{◌≡◌, ◌<◌, ◌-◌, ℕ, suc, List, ◌∷◌, length, get_or, IsTrue, true, false, sym, ◌∙◌, subst, arith, rules}
 use Rattle.std.specs.Prelude.{◌↔◌}
 use Rattle.json_patch.specs.InPlace.{AreInPlace, IsInPlace, AreTestsThenRemove}
-use Rattle.json_patch.specs.Operation.{Operation, add, remove, replace, move, copy, test, IsMove, operation_of, operations}
+use Rattle.json_patch.specs.Operation.{Operation, test, IsMove, operation_of, operations}
 use Rattle.json_patch.specs.Undoing.{IsUndoable}
 use Rattle.json_patch.specs.declared.operation.PatchOperation.{PatchOperation}
 use Rattle.json_patch.proofs.Applied.{IsAt}
@@ -10,55 +11,30 @@ use Rattle.json_patch.proofs.Applied.{IsAt}
 -- ---- an operation that can be undone, by its number
 
 same_at : (os : List PatchOperation) (k : ℕ) (x o : PatchOperation) → k < length os → get_or os k x ≡ get_or os k o
-same_at [] k x o less = absurd (omega arith)
-same_at (y ∷ os) zero x o less = refl
-same_at (y ∷ os) (suc k) x o less = same_at os k x o (omega arith)
+same_at os k x o less = grind (arith, common_steps)
 
 pub undoable_at : (os : List PatchOperation) (k : ℕ) (x o : PatchOperation) → k < length os → IsAt os k x → IsAt os k o → IsUndoable (operation_of x) → IsUndoable (operation_of o)
 undoable_at os k x o less at is h = subst (λ y. IsUndoable (operation_of y)) (at ∙ same_at os k x o less ∙ sym is) h
 
 pub not_move : (op : Operation) → IsUndoable op → IsMove op → ⊥
-not_move (add P v) h m = m
-not_move (remove P) h m = m
-not_move (replace P v) h m = m
-not_move (move F P) h m = h
-not_move (copy F P) h m = m
-not_move (test P v) h m = m
+not_move op h m = search rules
 
 -- ---- `test`s and then at most one `remove`
 
 pub tests_in_place : (ops : List Operation) → AreTestsThenRemove ops → AreInPlace ops
-tests_in_place [] h = tt
-tests_in_place (add P v ∷ ops) h = absurd h
-tests_in_place (remove P ∷ []) h = (h, tt)
-tests_in_place (remove P ∷ op ∷ ops) h = absurd h
-tests_in_place (replace P v ∷ ops) h = absurd h
-tests_in_place (move F P ∷ ops) h = absurd h
-tests_in_place (copy F P ∷ ops) h = absurd h
 tests_in_place (test P v ∷ ops) h = (tt, tests_in_place ops h)
+tests_in_place ops h = search rules
 
 -- but for the last, each can be undone
 first_test : (op next : Operation) (ops : List Operation) → AreTestsThenRemove (op ∷ next ∷ ops) → IsUndoable op × AreTestsThenRemove (next ∷ ops)
-first_test (add P v) next ops h = absurd h
-first_test (remove P) next ops h = absurd h
-first_test (replace P v) next ops h = absurd h
-first_test (move F P) next ops h = absurd h
-first_test (copy F P) next ops h = absurd h
-first_test (test P v) next ops h = (tt, h)
+first_test op next ops h = search rules
 
 test_undoable : (os : List PatchOperation) (k : ℕ) (o : PatchOperation) → 1 < length os - k → IsAt os k o → AreTestsThenRemove (operations os) → IsUndoable (operation_of o)
-test_undoable [] k o less is h = absurd (omega arith)
-test_undoable (x ∷ []) k o less is h = absurd (omega arith)
-test_undoable (x ∷ y ∷ os) zero o less is h = subst (λ z. IsUndoable (operation_of z)) (sym is) (first_test (operation_of x) (operation_of y) (operations os) h).0
 test_undoable (x ∷ y ∷ os) (suc k) o less is h = test_undoable (y ∷ os) k o (omega arith) is (first_test (operation_of x) (operation_of y) (operations os) h).1
+test_undoable os k o less is h = search (rules, first_test)
 
 pub not_undoable : (os : List PatchOperation) (k : ℕ) (o : PatchOperation) → 1 < length os - k → IsAt os k o → AreTestsThenRemove (operations os) → (IsTrue false ↔ IsUndoable (operation_of o)) → ⊥
 not_undoable os k o less is h told = let yes : false ≡ true = told.1 (test_undoable os k o less is h) in cc
 
 pub move_not_in_place : (op : Operation) → IsMove op → IsInPlace op → ⊥
-move_not_in_place (add P v) m h = m
-move_not_in_place (remove P) m h = m
-move_not_in_place (replace P v) m h = m
-move_not_in_place (move F P) m h = h
-move_not_in_place (copy F P) m h = m
-move_not_in_place (test P v) m h = m
+move_not_in_place op m h = search rules

@@ -1,5 +1,5 @@
 -- Each operation's block gives back the document before it.
-use Rattle.std.proofs.Common.{◌≡◌, ℕ, ⊎_elim, List, [], ◌∷◌, ◌++◌, Bool, true, false, bytes_eq, if◌then◌else◌, Option, Some, None, option_map, option_and_then, Ok, refl, sym, ap, ◌∙◌, subst}
+use Rattle.std.proofs.Common.{◌≡◌, ℕ, List, [], ◌∷◌, ◌++◌, Bool, bytes_eq, if◌then◌else◌, Option, Some, None, option_map, option_and_then, Ok, refl, sym, ap, ◌∙◌, subst, rules}
 use Rattle.std.proofs.lemmas.Option.{option_and_then_some}
 use Rattle.std.proofs.lemmas.Slice.Eq.{bytes_eq-Decides}
 use Rattle.serde_json.specs.Data.{Data, array, object, Items, Members, put}
@@ -34,12 +34,7 @@ altered_append f d (t ∷ P) Q =
 -- what is found further on
 found_on : (o : Option Step) (d : Data) (P Q : Pointer) → ((c : Data) → found c (P ++ Q) ≡ option_and_then (λ p. found p Q) (found c P))
     → option_and_then (λ s. option_and_then (λ c. found c (P ++ Q)) (child s d)) o ≡ option_and_then (λ p. found p Q) (option_and_then (λ s. option_and_then (λ c. found c P) (child s d)) o)
-found_on None d P Q more = refl
-found_on (Some s) d P Q more = on (child s d)
-  where
-    on : (o : Option Data) → option_and_then (λ c. found c (P ++ Q)) o ≡ option_and_then (λ p. found p Q) (option_and_then (λ c. found c P) o)
-    on None = refl
-    on (Some c) = more c
+found_on o d P Q more = search rules
 
 pub found_append : (d : Data) (P Q : Pointer) → found d (P ++ Q) ≡ option_and_then (λ p. found p Q) (found d P)
 found_append d [] Q = refl
@@ -64,9 +59,7 @@ TakesBackAt f g d P = (p q : Data) → IsDocument p → found d P ≡ Some p →
 
 set_altered : (g : Data → Option Data) (d : Data) (t : List ℕ) (P : Pointer) (s : Step) (c b : Data) → step_of d t ≡ Some s → child s d ≡ Some c → altered g b P ≡ Some c
     → altered g (set_child s b d) (t ∷ P) ≡ Some (set_child s c (set_child s b d))
-set_altered g d t P s c b named stands inner =
-    let e : step_of (set_child s b d) t ≡ Some s = step_of_set s d b t ∙ named in
-    rw (e, child_set s d c b stands, inner) refl
+set_altered g d t P s c b named stands inner = search (rules, step_of_set, child_set)
 
 pub altered_back : (f g : Data → Option Data) (d : Data) (P : Pointer) (e : Data) → IsDocument d → TakesBackAt f g d P → altered f d P ≡ Some e → IsDocument e × (altered g e P ≡ Some d)
 altered_back f g d [] e hd back is = back d e hd refl is
@@ -82,11 +75,7 @@ altered_back f g d (t ∷ P) e hd back is =
 -- ---- add
 
 pub settled_place : (b : Bool) (t : List ℕ) (ds : Items) (i : ℕ) → bytes_eq t next_token ≡ b → Aims (array ds) t (place i) → place_of (if b then token_of (items_len ds) else t) ≡ Some i
-settled_place true t ds i is h =
-    let e : t ≡ next_token = (bytes_eq-Decides t next_token).0 is in
-    ⊎_elim (λ a. (let x : place_of t ≡ None = ap place_of e ∙ next_is_no_place in let y : place_of t ≡ Some i = a.0 in cc)) (λ a. (place_is_token (token_of (items_len ds)) (items_len ds)).1 refl ∙ ap Some (sym a.1)) h
-settled_place false t ds i is h =
-    ⊎_elim (λ a. a.0) (λ a. (let x : bytes_eq t next_token ≡ true = (bytes_eq-Decides t next_token).1 a.0 in cc)) h
+settled_place b t ds i is h = search (rules, bytes_eq-Decides, next_is_no_place, place_is_token, bytes_eq)
 
 put_item_back : (t : List ℕ) (v : Data) (ds : Items) (q : Data) → put_in v t (array ds) ≡ Some q → take_from (settled_token (Some (array ds)) t) q ≡ Some (array ds)
 put_item_back t v ds q is =
@@ -97,27 +86,20 @@ put_item_back t v ds q is =
 
 put_member_back : (t : List ℕ) (v : Data) (ms : Members) (q : Data) → IsDocument (object ms) → IsDocument v → get_member t ms ≡ None → put_in v t (object ms) ≡ Some q
     → take_from t q ≡ Some (object ms)
-put_member_back t v ms q h hv no_one is =
-    let e : object (put t v ms) ≡ q = cc in subst (λ x. take_from t x ≡ Some (object ms)) e (take_member t v ms h hv no_one)
+put_member_back t v ms q h hv no_one is = search (rules, take_member)
 
 set_one : (t : List ℕ) (v w : Data) (ms : Members) → altered (λ c. Some w) (object (put t v ms)) (t ∷ []) ≡ Some (object (put t w (put t v ms)))
 set_one t v w ms = rw (get_member-put t v ms) refl
 
 put_over_back : (t : List ℕ) (v w : Data) (ms : Members) (q : Data) → IsDocument (object ms) → IsDocument v → get_member t ms ≡ Some w → put_in v t (object ms) ≡ Some q
     → altered (λ c. Some w) q (t ∷ []) ≡ Some (object ms)
-put_over_back t v w ms q h hv was is =
-    let e : object (put t v ms) ≡ q = cc in
-    subst (λ x. altered (λ c. Some w) x (t ∷ []) ≡ Some (object ms)) e (set_one t v w ms ∙ ap Some (set_back (key t) (object ms) w v h hv was))
+put_over_back t v w ms q h hv was is = search (rules, set_one t v w ms, set_back (key t) (object ms) w v h hv was, set_one, set_back)
 
 pub found_last : (d : Data) (t : List ℕ) (P : Pointer) (p : Data) → found d (front_of t P) ≡ Some p → found d (t ∷ P) ≡ found p (last_of t P ∷ [])
 found_last d t P p at = ap (found d) (split_whole t P) ∙ found_append d (front_of t P) (last_of t P ∷ []) ∙ ap (option_and_then (λ x. found x (last_of t P ∷ []))) at
 
 found_member : (t : List ℕ) (ms : Members) → found (object ms) (t ∷ []) ≡ get_member t ms
-found_member t ms = on (get_member t ms)
-  where
-    on : (o : Option Data) → option_and_then (λ c. found c []) o ≡ o
-    on None = refl
-    on (Some c) = refl
+found_member t ms = search rules
 
 module _ (d : Data) (t : List ℕ) (P : Pointer) (v e : Data) (hd : IsDocument d) (hv : IsDocument v) (is : added d (t ∷ P) v ≡ Some e) where
   -- at the parent p, by g
@@ -132,9 +114,7 @@ module _ (d : Data) (t : List ℕ) (P : Pointer) (v e : Data) (hd : IsDocument d
       ))) is).1
 
   undo_member : (ms : Members) (o : Option Data) → found d (front_of t P) ≡ Some (object ms) → found d (t ∷ P) ≡ o → stepped e (undo_at (t ∷ P) o) ≡ Ok d
-  undo_member ms None at was =
-      let g : get_member (last_of t P) ms ≡ None = sym (found_member (last_of t P) ms) ∙ sym (found_last d t P (object ms) at) ∙ was in
-      ap (or_refused InvalidPointer) (back_at (object ms) (take_from (last_of t P)) at (λ q hp puts. put_member_back (last_of t P) v ms q hp hv g puts))
+  undo_member ms None at was = search (rules, found_member (last_of t P) ms, found_last d t P (object ms) at, back_at (object ms) (take_from (last_of t P)) at, put_member_back (last_of t P) v ms, found_member, found_last, back_at, put_member_back)
   undo_member ms (Some w) at was =
       let g : get_member (last_of t P) ms ≡ Some w = sym (found_member (last_of t P) ms) ∙ sym (found_last d t P (object ms) at) ∙ was in
       ap (or_refused InvalidPointer)
@@ -142,30 +122,19 @@ module _ (d : Data) (t : List ℕ) (P : Pointer) (v e : Data) (hd : IsDocument d
       ∙ back_at (object ms) (λ c. altered (λ x. Some w) c (last_of t P ∷ [])) at (λ q hp puts. put_over_back (last_of t P) v w ms q hp hv g puts))
 
   undo_below : (p q : Data) → found d (front_of t P) ≡ Some p → put_in v (last_of t P) p ≡ Some q → stepped e (undo_in d (front_of t P) (last_of t P) (t ∷ P) (Some p)) ≡ Ok d
-  undo_below (array ds) q at puts =
-      let u = settled_token (Some (array ds)) (last_of t P) in
-      ap (or_refused InvalidPointer) (removed_at e (front_of t P) u ∙ back_at (array ds) (take_from u) at (λ r hp ps. put_item_back (last_of t P) v ds r ps))
-  undo_below (object ms) q at puts = undo_member ms (found d (t ∷ P)) at refl
-  undo_below p q at puts = cc
+  undo_below p q at puts = search (rules, removed_at, back_at, put_item_back, undo_member)
 
   undo_beyond : stepped e (undo_add d (t ∷ P)) ≡ Ok d
-  undo_beyond =
-      let a : IsAltered (put_in v (last_of t P)) d (front_of t P) e = altered_is (put_in v (last_of t P)) d (front_of t P) e is in
-      let at : found d (front_of t P) ≡ Some a.p = resolves_found d (front_of t P) a.L a.p a.resolves in
-      subst (λ o. stepped e (undo_in d (front_of t P) (last_of t P) (t ∷ P) o) ≡ Ok d) (sym at) (undo_below a.p a.q at a.result)
+  undo_beyond = search (rules, IsAltered (put_in v (last_of t P)) d (front_of t P) e, altered_is (put_in v (last_of t P)) d (front_of t P) e is, resolves_found d (front_of t P), undo_below, IsAltered, altered_is, resolves_found)
 
 pub undo_added : (d : Data) (P : Pointer) (v e : Data) → IsDocument d → IsDocument v → added d P v ≡ Some e → stepped e (undo_add d P) ≡ Ok d
-undo_added d [] v e hd hv is = refl
-undo_added d (t ∷ P) v e hd hv is = undo_beyond d t P v e hd hv is
+undo_added d P v e hd hv is = search (rules, undo_beyond)
 
 -- ---- remove, replace
 
 module _ (t : List ℕ) (p q w : Data) (hp : IsDocument p) (is : take_from t p ≡ Some q) (was : found p (t ∷ []) ≡ Some w) where
   put_back : IsDocument q × (put_in w t q ≡ Some p)
-  put_back =
-      let i : TakesIn t p q = take_from_takes t p q is in
-      let stands : child i.s p ≡ Some w = stands_one p t i.s w i.names was in
-      (subst IsDocument i.whole (drop_document i.s p hp), subst (λ x. put_in w t x ≡ Some p) i.whole (put_taken t p w i.s hp i.names stands))
+  put_back = search (rules, TakesIn t p q, take_from_takes t p q is, stands_one p t, drop_document, put_taken t p w, TakesIn, take_from_takes, stands_one, put_taken)
 
 pub undo_removed : (d : Data) (P : Pointer) (w m : Data) → IsDocument d → removed d P ≡ Some m → found d P ≡ Some w → IsDocument m × (added m P w ≡ Some d)
 undo_removed d [] w m hd is was = cc

@@ -1,86 +1,50 @@
 -- A recorded run, undone.
-use Rattle.std.proofs.Common.{◌≡◌, ℕ, zero, suc, List, [], ◌∷◌, ◌++◌, length, drop, take, Bool, true, false, bytes_eq, if◌then◌else◌, Vec, vec_len, Global, Option, Some, None, Result, Ok, Err, IfOk, refl, sym, ap, ◌∙◌, subst, append_assoc, arith}
+use Rattle.std.proofs.lemmas.Grind.{common_steps}
+use Rattle.std.proofs.Common.{◌≡◌, ◌+◌, ◌≤◌, ℕ, zero, suc, List, [], ◌∷◌, ◌++◌, length, drop, take, map, Bool, bytes_eq, if◌then◌else◌, Vec, vec_len, Global, Option, Some, None, Result, Ok, Err, IfOk, refl, sym, ap, ◌∙◌, subst, append_assoc, arith, rules}
 use Rattle.std.specs.Result.{IsErrAnd}
 use Rattle.std.specs.declared.alloc.AllocError.{AllocError}
 use Rattle.std.proofs.lemmas.List.{map-append, reverse-append}
 use mathlib.Core.List.{reverse}
-use Rattle.serde_json.specs.Data.{Data, null, boolean, number, string, array, object}
-use Rattle.serde_json.specs.Events.{items_len}
+use Rattle.serde_json.specs.Data.{Data}
 use Rattle.serde_json.specs.View.{view}
 use Rattle.serde_json.specs.declared.value.Value.{Value, Array}
 use Rattle.serde_json.proofs.Views.{items_len-items_view, view-Array}
 use Rattle.jsonptr.specs.Text.{Pointer, IsPrefix, ReplacesLast}
 use Rattle.jsonptr.specs.Places.{next_token, token_of}
 use Rattle.jsonptr.specs.PlaceLaws.{place_is_plain}
-use Rattle.json_patch.specs.Attempt.{Steps, TakesOut}
+use Rattle.json_patch.specs.Attempt.{Steps}
 use Rattle.json_patch.specs.ChangeComputed.{found, front_of, last_of}
-use Rattle.json_patch.specs.Edits.{Undoes, undo_at_place}
 use Rattle.json_patch.specs.InPlace.{AreUnescaped, IsUnescaped}
 use Rattle.json_patch.specs.InverseComputed.{block, settled_token, undo_add, undo_at, undo_in, with_found}
-use Rattle.json_patch.specs.Operation.{Operation, add, remove, replace, move, copy, test, operation_of, operations, path_of}
-use Rattle.json_patch.specs.RunComputed.{Outcome, fault, counted, ran, ran_on, stepped}
-use Rattle.json_patch.specs.PartRun.{block_at}
-use Rattle.json_patch.specs.SharedComputed.{extended, stripped}
+use Rattle.json_patch.specs.Operation.{Operation, move, replace, operation_of, operations, path_of}
+use Rattle.json_patch.specs.RunComputed.{ran, ran_on, stepped}
+use Rattle.json_patch.specs.SharedComputed.{stripped}
 use Rattle.json_patch.specs.Undoing.{AreUndos, IsUndo, IsUndoable, Records, count_in}
 use Rattle.json_patch.specs.declared.error.PatchErrorKind.{PatchErrorKind}
 use Rattle.json_patch.specs.declared.error.StepFault.{StepFault}
 use Rattle.json_patch.specs.declared.record.Keep.TheVariants.{Inverse}
 use Rattle.json_patch.specs.declared.operation.PatchOperation.{PatchOperation}
-use Rattle.json_patch.specs.declared.walk.Displaced.{Displaced}
-use Rattle.json_patch.specs.declared.walk.Displaced.TheVariants.{Nothing, Former, Taken}
 use Rattle.json_patch.proofs.Below.{strip}
 use Rattle.json_patch.proofs.Parents.{no_last}
 use Rattle.json_patch.proofs.Resolved.{split_is, split_whole}
-use Rattle.json_patch.proofs.Slots.{not_next}
 
 -- ---- where what undoes an operation works
 
 settled_other : (o : Option Data) (t : List ℕ) → (t ≡ next_token → ⊥) → settled_token o t ≡ t
-settled_other None t other = refl
-settled_other (Some null) t other = refl
-settled_other (Some (boolean b)) t other = refl
-settled_other (Some (number n)) t other = refl
-settled_other (Some (string s)) t other = refl
-settled_other (Some (array ds)) t other = rw (not_next (bytes_eq t next_token) t refl other)
-settled_other (Some (object ms)) t other = refl
+settled_other o t other = search rules
 
 settled_last : (o : Option Data) → count_in o ≡ None → settled_token o next_token ≡ next_token
-settled_last None h = refl
-settled_last (Some null) h = refl
-settled_last (Some (boolean b)) h = refl
-settled_last (Some (number n)) h = refl
-settled_last (Some (string s)) h = refl
-settled_last (Some (array ds)) h = cc
-settled_last (Some (object ms)) h = refl
+settled_last o h = search rules
 
 settled_next : (o : Option Data) (n : ℕ) → count_in o ≡ Some n → settled_token o next_token ≡ token_of n
-settled_next None n h = cc
-settled_next (Some null) n h = cc
-settled_next (Some (boolean b)) n h = cc
-settled_next (Some (number x)) n h = cc
-settled_next (Some (string s)) n h = cc
-settled_next (Some (array ds)) n h = let same : items_len ds ≡ n = cc in ap token_of same
-settled_next (Some (object ms)) n h = cc
-
-at_path : (P : Pointer) (o : Option Data) → path_of (undo_at P o) ≡ P
-at_path P None = refl
-at_path P (Some w) = refl
+settled_next o n h = search rules
 
 place_in : (d : Data) (F : Pointer) (t : List ℕ) (P : Pointer) (o : Option Data) → P ≡ F ++ t ∷ [] → path_of (undo_in d F t P o) ≡ F ++ settled_token o t ∷ []
-place_in d F t P None is = at_path P (found d P) ∙ is
-place_in d F t P (Some null) is = at_path P (found d P) ∙ is
-place_in d F t P (Some (boolean b)) is = at_path P (found d P) ∙ is
-place_in d F t P (Some (number n)) is = at_path P (found d P) ∙ is
-place_in d F t P (Some (string s)) is = at_path P (found d P) ∙ is
-place_in d F t P (Some (array ds)) is = refl
-place_in d F t P (Some (object ms)) is = at_path P (found d P) ∙ is
+place_in d F t P o is = search rules
 
 -- the last token is settled by what stands before it
 place_settled : (d : Data) (P F : Pointer) (t : List ℕ) → P ≡ F ++ t ∷ [] → path_of (undo_add d P) ≡ F ++ settled_token (found d F) t ∷ []
-place_settled d [] F t is = absurd (no_last F t is)
-place_settled d (s ∷ P) F t is =
-    let h = split_is s P F t is in
-    place_in d (front_of s P) (last_of s P) (s ∷ P) (found d (front_of s P)) (split_whole s P) ∙ rw (h.0, h.1) refl
+place_settled d P F t is = search (rules, no_last, split_is, place_in, split_whole)
 
 pub place_root : (d : Data) (P : Pointer) → P ≡ [] → P ≡ path_of (undo_add d P)
 place_root d P is = rw is refl
@@ -89,20 +53,16 @@ pub place_other : (d : Data) (P F : Pointer) (t : List ℕ) → P ≡ F ++ t ∷
 place_other d P F t is other = is ∙ ap (λ u. F ++ u ∷ []) (sym (settled_other (found d F) t other)) ∙ sym (place_settled d P F t is)
 
 pub place_no_list : (d : Data) (P F : Pointer) (t : List ℕ) → P ≡ F ++ t ∷ [] → t ≡ next_token → None ≡ count_in (found d F) → P ≡ path_of (undo_add d P)
-place_no_list d P F t is next none =
-    is ∙ ap (λ u. F ++ u ∷ []) (next ∙ sym (settled_last (found d F) (sym none)) ∙ ap (settled_token (found d F)) (sym next)) ∙ sym (place_settled d P F t is)
+place_no_list d P F t is next none = search (rules, settled_last (found d F) (sym none), place_settled d P F t is, settled_last, place_settled)
 
 -- the place in the document, where the tokens of S lead to d
 pub place_numbered : (r : Result Pointer AllocError) (d : Data) (S P R F : Pointer) (t u : List ℕ) (n : ℕ) → P ≡ S ++ R → R ≡ F ++ t ∷ [] → t ≡ next_token → Some n ≡ count_in (found d F) → u ≡ token_of n → IfOk r (ReplacesLast P u)
     → IfOk r (λ Q. Q ≡ S ++ path_of (undo_add d R))
-place_numbered (Ok Q) d S P R F t u n whole is next count named at =
-    at (S ++ F) t (whole ∙ ap (λ x. S ++ x) is ∙ sym (append_assoc S F (t ∷ []))) ∙ append_assoc S F (u ∷ [])
-    ∙ ap (λ x. S ++ (F ++ x ∷ [])) (named ∙ sym (settled_next (found d F) n (sym count)) ∙ ap (settled_token (found d F)) (sym next)) ∙ ap (λ x. S ++ x) (sym (place_settled d R F t is))
+place_numbered (Ok Q) d S P R F t u n whole is next count named at = search (rules, append_assoc S F (t ∷ []), append_assoc S F (u ∷ []), settled_next (found d F) n (sym count), place_settled d R F t is, append_assoc, settled_next, place_settled)
 place_numbered (Err e) d S P R F t u n whole is next count named at = at
 
 pub place_kept : (r : Result Pointer AllocError) (S P R Q : Pointer) → P ≡ S ++ R → R ≡ Q → IfOk r (λ b. b ≡ P) → IfOk r (λ b. b ≡ S ++ Q)
-place_kept (Ok b) S P R Q whole same h = h ∙ whole ∙ ap (λ x. S ++ x) same
-place_kept (Err e) S P R Q whole same h = h
+place_kept r S P R Q whole same h = search rules
 
 pub prefix_rest : (S P : Pointer) → IsPrefix S P → P ≡ S ++ drop (length S) P
 prefix_rest S P h = h.1 ∙ ap (λ R. S ++ R) (sym (ap (drop (length S)) h.1 ∙ strip S h.0))
@@ -112,27 +72,11 @@ count_here n v m len is = let same : n ≡ length m.items = omega arith in rw (i
 
 -- ---- what is recorded
 
-at_place : (S P : Pointer) (was : Displaced) → extended S (undo_at_place P was) ≡ undo_at_place (S ++ P) was
-at_place S P Nothing = refl
-at_place S P (Former w) = refl
-at_place S P (Taken w) = refl
-
 one_more : (olds news : List PatchOperation) (u : PatchOperation) (op : Operation) → news ≡ olds ++ u ∷ [] → operation_of u ≡ op → operations news ≡ operations olds ++ op ∷ []
 one_more olds news u op is same = ap operations is ∙ map-append operation_of olds (u ∷ []) ∙ ap (λ o. operations olds ++ o ∷ []) same
 
 first_of : (u w : Operation) (us ws : List Operation) → ◌≡◌ {A = List Operation} (u ∷ us) (w ∷ ws) → u ≡ w
 first_of u w us ws is = cc
-
-pub records_move : (olds held mids news : List PatchOperation) (a u : PatchOperation) (d m : Data) (v : Value) (S G Q place : Pointer) (was : Displaced) (x : Data) → held ≡ olds → mids ≡ held ++ a ∷ [] → news ≡ mids ++ u ∷ []
-    → operation_of a ≡ add G (view v) → operation_of u ≡ undo_at_place place was → IsPrefix S G → TakesOut d m (drop (length S) G) (drop (length S) Q) v → place ≡ S ++ path_of (undo_add m (drop (length S) Q))
-    → Undoes m (add (drop (length S) Q) x) was → operations news ≡ operations olds ++ reverse (block_at d S (move G Q))
-records_move olds held mids news a u d m v S G Q place was x room first second puts takes begun out at is =
-    let F = drop (length S) G in let P = drop (length S) Q in
-    let taken : operation_of u ≡ extended S (undo_add m P) =
-    takes ∙ ap (λ R. undo_at_place R was) at ∙ sym (at_place S (path_of (undo_add m P)) was) ∙ ap (extended S) (sym (first_of (undo_add m P) (undo_at_place (path_of (undo_add m P)) was) [] [] is)) in
-    let put : operation_of a ≡ add (S ++ F) (view v) = puts ∙ ap (λ R. add R (view v)) (prefix_rest S G begun) in
-    one_more mids news u (extended S (undo_add m P)) second taken ∙ ap (λ B. B ++ extended S (undo_add m P) ∷ []) (one_more olds mids a (add (S ++ F) (view v)) (first ∙ ap (λ us. us ++ a ∷ []) room) put)
-    ∙ append_assoc (operations olds) (add (S ++ F) (view v) ∷ []) (extended S (undo_add m P) ∷ []) ∙ rw (out.1, out.2) refl
 
 -- a `move` that isn't made
 pub move_refused : {T : Type 0} (r : Result T StepFault) (P : StepFault → Type 0) (d e : Data) (S G Q : Pointer) (olds news : List Operation) → IsErrAnd r P → Steps r (stepped d (stripped S (move G Q))) e → news ≡ olds → Records Inverse r d e S (move G Q) olds news
@@ -150,36 +94,26 @@ unescaped_front t [] h = tt
 unescaped_front t (u ∷ P) h = (h.0, unescaped_front u P h.1)
 
 settled_unescaped : (b : Bool) (i : ℕ) (t : List ℕ) → IsUnescaped t → IsUnescaped (if b then token_of i else t)
-settled_unescaped true i t h = place_is_plain i
-settled_unescaped false i t h = h
+settled_unescaped b i t h = search (rules, place_is_plain)
 
 at_light : (P : Pointer) (o : Option Data) → AreUnescaped P → IsUndo (undo_at P o)
-at_light P None h = h
-at_light P (Some w) h = h
+at_light P o h = search rules
 
 in_light : (d : Data) (front : Pointer) (last : List ℕ) (P : Pointer) (o : Option Data) → AreUnescaped front → IsUnescaped last → AreUnescaped P → IsUndo (undo_in d front last P o)
-in_light d front last P (Some (array ds)) f l h = unescaped_joined front _ f (settled_unescaped (bytes_eq last next_token) (items_len ds) last l)
-in_light d front last P o f l h = at_light P (found d P) h
+in_light d front last P o f l h = search (rules, unescaped_joined, settled_unescaped, bytes_eq, at_light)
 
 unescaped_last : (t : List ℕ) (P : Pointer) → AreUnescaped (t ∷ P) → IsUnescaped (last_of t P)
 unescaped_last t [] h = h.0
 unescaped_last t (u ∷ P) h = unescaped_last u P h.1
 
 undo_light : (d : Data) (P : Pointer) → AreUnescaped P → IsUndo (undo_add d P)
-undo_light d [] h = tt
-undo_light d (t ∷ P) h = in_light d (front_of t P) (last_of t P) (t ∷ P) (found d (front_of t P)) (unescaped_front t P h) (unescaped_last t P h) h
+undo_light d P h = search (rules, in_light, unescaped_front, unescaped_last)
 
 found_light : (o : Option Data) (P : Pointer) → AreUnescaped P → AreUndos (with_found o (λ w. replace P w ∷ []))
-found_light None P h = tt
-found_light (Some w) P h = (h, tt)
+found_light o P h = search rules
 
 pub block_light : (d : Data) (op : Operation) → IsUndoable op → AreUndos (block d op)
-block_light d (add P v) h = (undo_light d P h, tt)
-block_light d (remove P) h = absurd h
-block_light d (replace P v) h = found_light (found d P) P h
-block_light d (move F P) h = absurd h
-block_light d (copy F P) h = (undo_light d P h, tt)
-block_light d (test P v) h = tt
+block_light d op h = search (rules, undo_light, found_light)
 
 undos_joined : (xs ys : List Operation) → AreUndos xs → AreUndos ys → AreUndos (xs ++ ys)
 undos_joined [] ys h g = g
@@ -196,31 +130,18 @@ undos_parts (x ∷ xs) u h = let more = undos_parts xs u h.1 in ((h.0, more.0), 
 pub light_more : (olds news B : List Operation) → news ≡ olds ++ reverse B → AreUndos B → AreUndos olds → AreUndos news
 light_more olds news B wrote h before = subst AreUndos (sym wrote) (undos_joined olds (reverse B) before (undos_reverse B h))
 
-counted_ok : (o : Outcome) (d : Data) → counted o ≡ Ok d → o ≡ Ok d
-counted_ok (Ok e) d is = is
-counted_ok (Err (fault k kind)) d is = cc
-
 first_on : (r : Result Data PatchErrorKind) (ops : List Operation) (d : Data) → ran_on r (λ m. ran m ops) ≡ Ok d → (m : Data) × (r ≡ Ok m) × (ran m ops ≡ Ok d)
-first_on (Ok m) ops d is = (m, refl, counted_ok (ran m ops) d is)
-first_on (Err kind) ops d is = cc
+first_on r ops d is = search rules
 
 last_first : (us rest : List PatchOperation) (u : PatchOperation) → us ≡ rest ++ u ∷ [] → operations us ≡ operations rest ++ operation_of u ∷ []
 last_first us rest u is = ap operations is ∙ map-append operation_of rest (u ∷ [])
 
 pub undo_last : (us rest : List PatchOperation) (u : PatchOperation) (e new d : Data) → us ≡ rest ++ u ∷ [] → ((m : Data) → IsUndo (operation_of u) → stepped e (operation_of u) ≡ Ok m → new ≡ m)
     → AreUndos (operations us) × (ran e (reverse (operations us)) ≡ Ok d) → AreUndos (operations rest) × (ran new (reverse (operations rest)) ≡ Ok d)
-undo_last us rest u e new d is made h =
-    let parts = undos_parts (operations rest) (operation_of u) (subst AreUndos (last_first us rest u is) h.0) in
-    let way : ran e (operation_of u ∷ reverse (operations rest)) ≡ Ok d = ap (ran e) (sym (ap reverse (last_first us rest u is) ∙ reverse-append (operations rest) (operation_of u ∷ []))) ∙ h.1 in
-    let first = first_on (stepped e (operation_of u)) (reverse (operations rest)) d way in
-    (parts.0, ap (λ x. ran x (reverse (operations rest))) (made first.0 parts.1 first.1) ∙ first.2)
+undo_last us rest u e new d is made h = search (rules, undos_parts (operations rest) (operation_of u) (subst AreUndos (last_first us rest u is) h.0), last_first us rest u is, reverse-append (operations rest) (operation_of u ∷ []), first_on (stepped e (operation_of u)) (reverse (operations rest)) d, undos_parts, last_first, reverse-append, first_on)
 
 pub take_more : (k : ℕ) (xs ys zs : List Operation) → take k xs ≡ zs → length zs ≡ k → take k (xs ++ ys) ≡ zs
-take_more zero xs ys zs is n = is
-take_more (suc k) [] ys zs is n = let z : 0 ≡ length zs = ap length is in absurd (omega arith)
-take_more (suc k) (x ∷ xs) ys zs is n =
-    let l : length (x ∷ take k xs) ≡ length zs = ap length is in
-    ap (λ r. x ∷ r) (take_more k xs ys (take k xs) refl (omega arith)) ∙ is
+take_more k xs ys zs is n = grind (arith, common_steps)
 
 pub same_count : (m : Vec PatchOperation Global) (len : ℕ) → len ≡ vec_len m → length m.items ≡ len
 same_count m len e = omega arith

@@ -1,36 +1,27 @@
 -- An operation as a walk to the parent, a change there, and the parent put back.
-use Rattle.std.proofs.Common.{◌≡◌, ℕ, List, [], ◌∷◌, ◌++◌, Option, Some, None, option_map, option_and_then, refl, ap, ◌∙◌}
+use Rattle.std.proofs.Common.{◌≡◌, ℕ, List, [], ◌∷◌, ◌++◌, Option, Some, option_map, option_and_then, refl, ap, rules}
 use Rattle.serde_json.specs.Data.{Data}
 use Rattle.json_patch.specs.Document.{Step, child}
-use Rattle.json_patch.specs.ChangeComputed.{step_of, set_child, found, altered, replaced, front_of, last_of, take_from, removed}
+use Rattle.json_patch.specs.ChangeComputed.{step_of, set_child, found, altered, replaced, front_of, last_of}
 
 again : (o : Option Data) → o ≡ option_and_then (λ q. Some q) o
-again None = refl
-again (Some q) = refl
+again o = search rules
 
 inside : (g : Data → Data) (h : Data → Option Data) (o : Option Data) → option_map g (option_and_then h o) ≡ option_and_then (λ q. option_map g (h q)) o
-inside g h None = refl
-inside g h (Some q) = refl
+inside g h o = search rules
 
 within : (g : Data → Data) (f : Data → Option Data) (h : Data → Option Data) (o : Option Data)
     → option_map g (option_and_then (λ p. option_and_then h (f p)) o) ≡ option_and_then (λ p. option_and_then (λ q. option_map g (h q)) (f p)) o
-within g f h None = refl
-within g f h (Some p) = inside g h (f p)
+within g f h o = search rules
 
 abbrev Walks : (Data → Option Data) → Data → List (List ℕ) → Type 0
 Walks f d P = altered f d P ≡ option_and_then (λ p. option_and_then (λ q. replaced d P q) (f p)) (found d P)
 
 module _ (f : Data → Option Data) (d : Data) (P : List (List ℕ)) (more : (c : Data) → Walks f c P) where
-  at_child : (s : Step) (o : Option Data) → option_and_then (λ c. option_map (λ e. set_child s e d) (altered f c P)) o
-      ≡ option_and_then (λ p. option_and_then (λ q. option_and_then (λ c. option_map (λ e. set_child s e d) (replaced c P q)) o) (f p)) (option_and_then (λ c. found c P) o)
-  at_child s None = refl
-  at_child s (Some c) = ap (option_map (λ e. set_child s e d)) (more c) ∙ within (λ e. set_child s e d) f (λ q. replaced c P q) (found c P)
-
   at_step : (o : Option Step) → option_and_then (λ s. option_and_then (λ c. option_map (λ e. set_child s e d) (altered f c P)) (child s d)) o
       ≡ option_and_then (λ p. option_and_then (λ q. option_and_then (λ s. option_and_then (λ c. option_map (λ e. set_child s e d) (replaced c P q)) (child s d)) o) (f p))
       (option_and_then (λ s. option_and_then (λ c. found c P) (child s d)) o)
-  at_step None = refl
-  at_step (Some s) = at_child s (child s d)
+  at_step o = search rules
 
 pub altered_walks : (f : Data → Option Data) (d : Data) (P : List (List ℕ)) → Walks f d P
 altered_walks f d [] = again (f d)
@@ -43,9 +34,3 @@ front_append u t (w ∷ P) = ap (λ Q. u ∷ Q) (front_append w t P)
 pub last_append : (u t : List ℕ) (P : List (List ℕ)) → last_of u (P ++ t ∷ []) ≡ t
 last_append u t [] = refl
 last_append u t (w ∷ P) = last_append w t P
-
-pub removed_walks : (d : Data) (P : List (List ℕ)) (t : List ℕ)
-    → removed d (P ++ t ∷ []) ≡ option_and_then (λ p. option_and_then (λ q. replaced d P q) (take_from t p)) (found d P)
-removed_walks d [] t = altered_walks (take_from t) d []
-removed_walks d (u ∷ P) t =
-    ap (λ x. altered (take_from x) d (front_of u (P ++ t ∷ []))) (last_append u t P) ∙ ap (λ Q. altered (take_from t) d Q) (front_append u t P) ∙ altered_walks (take_from t) d (u ∷ P)

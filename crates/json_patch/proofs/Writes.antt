@@ -1,5 +1,5 @@
 -- What a write to a list or a map of values leaves of its view.
-use Rattle.std.proofs.Common.{◌≡◌, ℕ, zero, suc, ◌<◌, ◌≤◌, List, [], ◌∷◌, length, set, Option, Some, None, option_map, Bool, slice_index_or, Ordering, Less, Equal, Greater, String, Global, cond, is_eq, string_bytes, nat_cmp, refl, sym, ap, ◌∙◌, arith}
+use Rattle.std.proofs.Common.{◌≡◌, ℕ, suc, ◌<◌, ◌≤◌, List, [], ◌∷◌, length, set, Option, Some, Bool, slice_index_or, Ordering, Less, String, Global, cond, is_eq, string_bytes, nat_cmp, refl, ap, ◌∙◌, arith, rules}
 use Rattle.std.specs.Cmp.Lexicographic.{slice_cmp}
 use Rattle.std.specs.List.{insert, remove, AllByRecursion}
 use Rattle.std.specs.List.Sorted.{IsStrictlySortedBy}
@@ -8,7 +8,6 @@ use Rattle.std.specs.BTreeMap.{insert_entry, is_at}
 use Rattle.std.specs.Ordering.{match_ordering}
 use Rattle.std.specs.String.{string_cmp}
 use Rattle.serde_json.specs.Data.{Data, item, Members, member, put}
-use Rattle.serde_json.specs.Find.{get_member}
 use Rattle.serde_json.specs.View.{view, items_view, members_view}
 use Rattle.serde_json.specs.declared.value.Value.{Value}
 use Rattle.serde_json.proofs.Views.{Entry, members_view-insert_entry, view-lookup}
@@ -28,28 +27,22 @@ AreInOrder es = IsStrictlySortedBy string_cmp (keys_of es)
 -- ---- lists
 
 pub items_view-set : (vs : List Value) (i : ℕ) (w : Value) → items_view (set vs i w) ≡ set_item i (view w) (items_view vs)
-items_view-set [] i w = refl
-items_view-set (v ∷ vs) zero w = refl
 items_view-set (v ∷ vs) (suc i) w = ap (item (view v)) (items_view-set vs i w)
+items_view-set vs i w = search rules
 
 pub items_view-insert : (vs : List Value) (i : ℕ) (v : Value) → i ≤ length vs → items_view (insert vs i v) ≡ insert_item i (view v) (items_view vs)
-items_view-insert [] zero v h = refl
-items_view-insert (w ∷ vs) zero v h = refl
-items_view-insert [] (suc i) v h = absurd (omega arith)
 items_view-insert (w ∷ vs) (suc i) v h = ap (item (view w)) (items_view-insert vs i v (omega arith))
+items_view-insert vs i v h = search rules
 
 pub items_view-remove : (vs : List Value) (i : ℕ) → i < length vs → items_view (remove vs i) ≡ remove_item i (items_view vs)
-items_view-remove [] i h = absurd (omega arith)
-items_view-remove (w ∷ vs) zero h = refl
 items_view-remove (w ∷ vs) (suc i) h = ap (item (view w)) (items_view-remove vs i (omega arith))
+items_view-remove vs i h = search rules
 
 -- ---- maps
 
 removes : (o : Ordering) (e : Entry) (es left : List Entry) (ms : Members) → members_view left ≡ ms
     → members_view (cond (is_eq o) es (e ∷ left)) ≡ match_ordering o (member (string_bytes e.0) (view e.1) ms) (members_view es) (member (string_bytes e.0) (view e.1) ms)
-removes Less e es left ms h = ap (member (string_bytes e.0) (view e.1)) h
-removes Equal e es left ms h = refl
-removes Greater e es left ms h = ap (member (string_bytes e.0) (view e.1)) h
+removes o e es left ms h = search rules
 
 pub members_view-remove_entry : (name : List ℕ) (es : List Entry) → members_view (remove_entry (is_named name) es) ≡ without name (members_view es)
 members_view-remove_entry name [] = refl
@@ -62,20 +55,7 @@ below k (e ∷ es) h = (h.0, below k es h.1)
 -- a name below the first key is no key
 no_entry : (name : List ℕ) (e : Entry) (es : List Entry) (v : Value) → AreInOrder (e ∷ es) → slice_cmp nat_cmp name (string_bytes e.0) ≡ Less → lookup (is_named name) es ≡ Some v → ⊥
 unfolding IsStrictlySortedBy
-no_entry name e es v order less is =
-    let above : IsBelowMembers name (members_view es) = below_more name (string_bytes e.0) (members_view es) less (below e.0 es order.0) in
-    let none : get_member name (members_view es) ≡ None = below_absent name (members_view es) above in
-    let some : Some (view v) ≡ get_member name (members_view es) = ap (λ o. option_map view o) (sym is) ∙ view-lookup name es in
-    cc
-
-module _ (name : List ℕ) (w v : Value) (e : Entry) (es : List Entry) (order : AreInOrder (e ∷ es))
-    (more : lookup (is_named name) es ≡ Some v → members_view (set_value (is_named name) es w) ≡ put name (view w) (members_view es)) where
-  sets : (o : Ordering) → slice_cmp nat_cmp name (string_bytes e.0) ≡ o → cond (is_eq o) (Some e.1) (lookup (is_named name) es) ≡ Some v
-      → members_view (cond (is_eq o) ((e.0, w) ∷ es) (e ∷ set_value (is_named name) es w))
-      ≡ match_ordering o (member name (view w) (members_view (e ∷ es))) (member (string_bytes e.0) (view w) (members_view es)) (member (string_bytes e.0) (view e.1) (put name (view w) (members_view es)))
-  sets Less is found = absurd (no_entry name e es v order is found)
-  sets Equal is found = refl
-  sets Greater is found = ap (member (string_bytes e.0) (view e.1)) (more found)
+no_entry name e es v order less is = search (rules, below_more name (string_bytes e.0) (members_view es) less (below e.0 es order.0), below e.0 es order.0, below_absent name (members_view es), view-lookup name es, below_more, below, below_absent, view-lookup)
 
 rest_in_order : (e : Entry) (es : List Entry) → AreInOrder (e ∷ es) → AreInOrder es
 unfolding IsStrictlySortedBy
@@ -83,25 +63,20 @@ rest_in_order e es order = order.1
 
 pub members_view-set_value : (name : List ℕ) (es : List Entry) (w v : Value) → AreInOrder es → lookup (is_named name) es ≡ Some v → members_view (set_value (is_named name) es w) ≡ put name (view w) (members_view es)
 members_view-set_value name [] w v order found = cc
-members_view-set_value name (e ∷ es) w v order found =
-    sets name w v e es order (members_view-set_value name es w v (rest_in_order e es order)) (slice_cmp nat_cmp name (string_bytes e.0)) refl found
+members_view-set_value name (e ∷ es) w v order found = search (rules, no_entry, rest_in_order, members_view-set_value name es w v)
 
 -- a value in place of one that looks the same changes nothing
 keeps : (o : Ordering) (e : Entry) (es left : List Entry) (w v : Value) (found : Option Value) → cond (is_eq o) (Some e.1) found ≡ Some v → view w ≡ view v → (found ≡ Some v → members_view left ≡ members_view es)
     → members_view (cond (is_eq o) ((e.0, w) ∷ es) (e ∷ left)) ≡ members_view (e ∷ es)
-keeps Less e es left w v found is same more = ap (member (string_bytes e.0) (view e.1)) (more is)
-keeps Equal e es left w v found is same more = let here : e.1 ≡ v = cc in ap (λ d. member (string_bytes e.0) d (members_view es)) (same ∙ ap view (sym here))
-keeps Greater e es left w v found is same more = ap (member (string_bytes e.0) (view e.1)) (more is)
+keeps o e es left w v found is same more = search rules
 
 pub members_view-set_same : (name : List ℕ) (es : List Entry) (w v : Value) → lookup (is_named name) es ≡ Some v → view w ≡ view v → members_view (set_value (is_named name) es w) ≡ members_view es
 members_view-set_same name [] w v found same = refl
-members_view-set_same name (e ∷ es) w v found same =
-    keeps (slice_cmp nat_cmp name (string_bytes e.0)) e es _ w v (lookup (is_named name) es) found same (λ h. members_view-set_same name es w v h same)
+members_view-set_same name (e ∷ es) w v found same = search (rules, keeps, members_view-set_same name es w v)
 
 pub items_view-set_same : (vs : List Value) (i : ℕ) (w v : Value) → v ≡ slice_index_or vs i v → view w ≡ view v → i < length vs → items_view (set vs i w) ≡ items_view vs
-items_view-set_same [] i w v is same h = refl
-items_view-set_same (u ∷ vs) zero w v is same h = ap (λ d. item d (items_view vs)) (same ∙ ap view is)
 items_view-set_same (u ∷ vs) (suc i) w v is same h = ap (item (view u)) (items_view-set_same vs i w v is same (omega arith))
+items_view-set_same vs i w v is same h = search rules
 
 -- a value that is put in where there is one
 pub inserts_if : (name : List ℕ) (o : Option Data) (es new : List Entry) (k : String Global) (v : Value) → string_bytes k ≡ name → Some (view v) ≡ o → new ≡ insert_entry string_cmp es k v

@@ -192,6 +192,7 @@ fn undo_place(
 }
 
 /// How many items the list has, where this is one.
+#[tactic(auto, using(crate::proofs::Undos::count_here))]
 fn item_count(list: Option<&Value>) -> Option<usize>
     ensures { result ≡ count_in (option_map (λ v. view v.now) list.entry) }
 {

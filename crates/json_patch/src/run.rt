@@ -32,6 +32,7 @@ use std::alloc::{AllocError, Global};
 /// made in place too, but for a `move`. If more are left, they are made on a copy of the part of the
 /// document that they share, which takes its place at the end. The empty list takes no memory, and
 /// neither does an accepted list of `test`s and then at most one `remove` at a path with no `~`.
+#[tactic(auto, using(crate::proofs::Runs::accepts_document))]
 pub fn patch(alloc: Global, doc: &mut Value, patch: &[PatchOperation]) -> Result<(), PatchFault>
     requires document { IsDocument (view doc.old) }
     requires whole { AreWhole (operations patch.now) }
@@ -51,6 +52,7 @@ pub fn patch(alloc: Global, doc: &mut Value, patch: &[PatchOperation]) -> Result
 /// before it made of the document; where memory is short, what some of the first ones made of it
 /// is left. A `move` is made on a copy of the part where both its places stand, so that none loses
 /// its value. An accepted list of `test`s and of `remove`s at paths with no `~` takes no memory.
+#[tactic(auto, using(crate::proofs::Applied::state_document))]
 pub fn patch_unsafe(
     alloc: Global,
     doc: &mut Value,

@@ -47,6 +47,7 @@ fn shared_pointer(patch: &[PatchOperation]) -> Option<Pointer<'_>>
 }
 
 /// The pointer of the tokens that begin the parent of each pointer of the operation.
+#[tactic(auto, using(crate::proofs::SharedTokens::even_if_none, crate::proofs::SharedTokens::root_within, crate::proofs::SharedTokens::parent_longest))]
 fn parent_of(operation: &PatchOperation) -> Option<Pointer<'_>>
     ensures shared { IfSome result
         (λ p. IsLongest (λ T. IsWithin T (operation_of operation.now)) (tokens_of p)) }

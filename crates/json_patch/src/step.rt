@@ -26,6 +26,7 @@ use std::mem;
 /// Makes the operation, without the tokens of `base`, on what stands there, and answers what it
 /// displaced. A refused one leaves that as it was, but for a `move`, which may have lost the value:
 /// it is for a copy.
+#[tactic(auto, using(crate::proofs::Parents::move_goes))]
 pub(crate) fn step(
     alloc: Global,
     doc: &mut Value,
@@ -78,6 +79,7 @@ pub(crate) fn below<'a>(pointer: &'a PointerBuf, base: Pointer<'_>) -> Pointer<'
 }
 
 /// `add` (section 4.1).
+#[tactic(auto, using(crate::proofs::Parents::added_in, crate::proofs::Parents::undo_as_found))]
 pub(crate) fn add(
     alloc: Global,
     doc: &mut Value,
@@ -113,6 +115,7 @@ pub(crate) fn remove(
 }
 
 /// `replace` (section 4.3).
+#[tactic(auto, using(crate::proofs::Parents::undo_swapped, crate::proofs::Parents::unescaped_parts))]
 pub(crate) fn replace(
     alloc: Global,
     doc: &mut Value,
@@ -133,6 +136,7 @@ pub(crate) fn replace(
 
 /// The value that a `move` (section 4.4) takes out of the document, to be added at `path`. Where
 /// that is refused or memory is short, the value is lost.
+#[tactic(auto, using(crate::proofs::Parents::move_inside, crate::proofs::Parents::move_nowhere, crate::proofs::Parents::not_inside))]
 pub(crate) fn take_out(
     alloc: Global,
     doc: &mut Value,

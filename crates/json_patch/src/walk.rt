@@ -75,6 +75,7 @@ pub(crate) fn edit_at(
 }
 
 /// Makes the edit in the container itself.
+#[tactic(auto, using(crate::proofs::Descents::attempts_at_members, serde_json::specs::declared::value::Value::the_lemmas, crate::proofs::Descents::displaces_at_members))]
 fn edit_in(
     alloc: Global,
     container: &mut Value,
@@ -93,6 +94,7 @@ fn edit_in(
     }
 }
 
+#[tactic(auto, using(crate::proofs::Containers::inserts_member, crate::proofs::Containers::takes_member, crate::proofs::Containers::takes_no_member))]
 fn edit_members(
     alloc: Global,
     members: &mut Map<String, Value>,
@@ -131,6 +133,7 @@ fn edit_members(
     }
 }
 
+#[tactic(auto, using(crate::proofs::Attempts::refused, crate::proofs::Containers::inserts_nowhere, crate::proofs::Containers::takes_no_item, crate::proofs::Containers::inserts_item, crate::proofs::Containers::takes_item, crate::proofs::Containers::found_item))]
 fn edit_items(items: &mut Vec<Value>, token: Token<'_>, edit: Edit) -> Result<Displaced, StepFault>
     ensures leaves { Attempts result
         (made_by edit (token_of token.entry) (array (items_view items.old.items)))
@@ -215,6 +218,7 @@ pub(crate) fn name_of<'a>(alloc: Global, token: Token<'a>) -> Result<CowStr<'a>,
 }
 
 /// The place of the item that a token names, among so many.
+#[tactic(auto, using(crate::proofs::Indices::refused, crate::proofs::Indices::item_outside))]
 pub(crate) fn item_index(token: Token<'_>, len: usize) -> Result<usize, PatchErrorKind>
     ensures { MatchResult result
         (λ i. (i < len) × (place_of (token_of token.entry) ≡ Some i))

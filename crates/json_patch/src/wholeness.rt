@@ -12,6 +12,7 @@ use serde_json::{Map, Number, Value};
 
 /// Whether each number in the value is held as an unsigned or a signed one of 64 bits. A number
 /// with a fraction or an exponent, minus zero and one of more bits are held as floats.
+#[tactic(auto, using(crate::proofs::Floats::whole_says))]
 pub fn is_whole(value: &Value) -> bool
     ensures document { IsTrue result ↔ IsDocument (view value.now) }
     ensures no_float { IsTrue result ↔ (has_float (view value.now) ≡ false) }

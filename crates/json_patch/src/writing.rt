@@ -49,6 +49,7 @@ pub(crate) fn to_object(
 }
 
 /// Puts a copy of the value into the map under this name, if there is a value.
+#[tactic(auto, using(crate::proofs::Writes::inserts_if))]
 fn put_value(
     alloc: Global,
     members: &mut Map<String, Value>,
@@ -67,6 +68,7 @@ fn put_value(
 }
 
 /// Puts the text into the map under this name, if there is a text.
+#[tactic(auto, using(crate::proofs::Writes::inserts_if, serde_json::specs::declared::value::Value::the_lemmas))]
 fn put_text(
     alloc: Global,
     members: &mut Map<String, Value>,

@@ -171,6 +171,7 @@ impl PartialEq for Patch {
     ghost laws = { on_per (λ p. p.0.items)
         (lists_per (on_per operation_of operation_partial_equivalence)) };
 
+    #[tactic(auto, using(crate::proofs::Samed::operations_say))]
     fn eq(&self, other: &Patch) -> bool
         ensures eq_value { result
             ≡ pointwise (on operation_of same_operation) self.now.0.items other.now.0.items }

@@ -15,17 +15,20 @@ pub fn added_at_a_target()
 {}
 
 /// Add leaves one document at most.
+#[tactic(auto, using(crate::proofs::Added::added_one))]
 pub fn one_added()
     ensures { (d : Data) (P : Pointer) (v e f : Data) → IsAdded d P v e → IsAdded d P v f → e ≡ f }
 {}
 
 /// What add leaves is what is computed, and where nothing is, it leaves nothing.
+#[tactic(auto, using(crate::proofs::Exact::added_computed))]
 pub fn added_is_computed()
     ensures { (d : Data) (P : Pointer) (v e : Data) → IsDocument d → IsDocument v
         → (IsAdded d P v e ↔ (added d P v ≡ Some e)) }
 {}
 
 /// What add leaves is a document.
+#[tactic(auto, using(crate::proofs::Added::IsAdded_document))]
 pub fn added_is_document()
     ensures { (d : Data) (P : Pointer) (v e : Data) → IsDocument v → IsAdded d P v e → IsDocument e }
 {}

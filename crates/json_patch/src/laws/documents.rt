@@ -9,23 +9,27 @@ ghost use Rattle.json_patch.specs.Document.{IsDocument, Step, look, standing};
 ghost use Rattle.json_patch.specs.Resolve.{Resolves, StandsAt};
 
 /// A value is a document, or it is none.
+#[tactic(auto, using(crate::proofs::PatchFaults::document_or_not))]
 pub fn document_or_not()
     ensures { (d : Data) → IsDocument d ⊎ (IsDocument d → ⊥) }
 {}
 
 /// A document has no float. A value that a program holds and that has none is a document: `is_whole`
 /// says so.
+#[tactic(auto, using(crate::proofs::Floats::no_float))]
 pub fn no_float()
     ensures { (d : Data) → IsDocument d → has_float d ≡ false }
 {}
 
 /// Documents that look alike at every location are equal.
+#[tactic(auto, using(crate::proofs::Alike::alike))]
 pub fn alike_is_equal()
     ensures { (d e : Data) → IsDocument d → IsDocument e
         → ((L : List Step) → look d L ≡ look e L) → d ≡ e }
 {}
 
 /// A pointer resolves to what stands at its location.
+#[tactic(auto, using(crate::proofs::Found::resolves_standing))]
 pub fn resolves_to_what_stands()
     ensures { (d : Data) (P : Pointer) (L : List Step) (c : Data)
         → Resolves d P L c → standing d L ≡ Some c }

@@ -25,6 +25,7 @@ pub fn same_in_turn()
 /// Two objects, each with its members in the order of their names, are the same exactly where each
 /// name has the same value in both, or is in neither. Every object that a program holds has its
 /// members in that order, whole numbers or not.
+#[tactic(auto, using(crate::proofs::SameMembers::same_by_name))]
 pub fn same_by_name()
     ensures { (ms ns : Members) → AreInOrder ms → AreInOrder ns
         → (AreSame (object ms) (object ns)

@@ -10,24 +10,28 @@ ghost use Rattle.json_patch.specs.Run.{Accepts};
 ghost use Rattle.json_patch.specs.Step.{Leaves};
 
 /// The block of an accepted operation is the one that is computed.
+#[tactic(auto, using(crate::proofs::Back::block_exactly))]
 pub fn block_is_computed()
     ensures { (d : Data) (op : Operation) (e : Data) → IsDocument d → IsWholeOp op → Leaves d op e
         → (B : List Operation) → IsBlock d op B ↔ (block d op ≡ B) }
 {}
 
 /// The block is accepted on what the operation left, and gives the document before it.
+#[tactic(auto, using(crate::proofs::Back::block_leads_back))]
 pub fn block_leads_back()
     ensures { (d : Data) (op : Operation) (e : Data) → IsDocument d → IsWholeOp op → Leaves d op e
         → (B : List Operation) → IsBlock d op B → AreWhole B × (length B ≤ 2) × Accepts e B d }
 {}
 
 /// The inverse of an accepted list is the one that is computed.
+#[tactic(auto, using(crate::proofs::Back::inverse_exactly))]
 pub fn inverse_is_computed()
     ensures { (d : Data) (ops : List Operation) → IsDocument d → AreWhole ops → (e : Data) → Accepts d ops e
         → (I : List Operation) → IsInverse d ops I ↔ (inverse d ops ≡ I) }
 {}
 
 /// The inverse is accepted on the end, and leads to the first document.
+#[tactic(auto, using(crate::proofs::Back::inverse_leads_back))]
 pub fn inverse_leads_back()
     ensures { (d : Data) (ops : List Operation) → IsDocument d → AreWhole ops
         → (e : Data) (I : List Operation) → Accepts d ops e → IsInverse d ops I
@@ -36,6 +40,7 @@ pub fn inverse_leads_back()
 
 /// The inverse holds `add`, `remove` and `replace` alone, and no `-` that stands for a place in a
 /// list.
+#[tactic(auto, using(crate::proofs::Plain::inverse_is_plain))]
 pub fn inverse_is_plain()
     ensures { (d : Data) (ops : List Operation) → IsDocument d → AreWhole ops
         → (e : Data) (I : List Operation) → Accepts d ops e → IsInverse d ops I → ArePlain e I }
@@ -43,6 +48,7 @@ pub fn inverse_is_plain()
 
 /// The inverse leads back through every state: first over the later operations, then over the
 /// earlier ones.
+#[tactic(auto, using(crate::proofs::Back::passes_back))]
 pub fn inverse_passes_back()
     ensures { (d : Data) (xs ys : List Operation) (m e : Data) (I : List Operation)
         → IsDocument d → AreWhole xs → AreWhole ys → Accepts d xs m → Accepts m ys e
@@ -52,6 +58,7 @@ pub fn inverse_passes_back()
 {}
 
 /// The inverse of the inverse leads from the first document to the end.
+#[tactic(auto, using(crate::proofs::Back::inverse_again))]
 pub fn inverse_again()
     ensures { (d : Data) (ops : List Operation) → IsDocument d → AreWhole ops
         → (e : Data) (I J : List Operation) → Accepts d ops e → IsInverse d ops I

@@ -17,6 +17,7 @@ ghost use Rattle.json_patch.specs.declared.error.PatchErrorKind.{PatchErrorKind}
 
 /// Where the operation without the shared tokens is accepted on what stands there, the operation is
 /// accepted on the document, and puts what that leaves in its place.
+#[tactic(auto, using(crate::proofs::Locality::local_leaves))]
 pub fn local_step()
     ensures { (d : Data) (S : Pointer) (b : Data) (op : Operation) → IsDocument d → IsWholeOp op
         → StandsAt d S b → IsWithin S op → (e : Data) → Leaves b (stripped S op) e
@@ -25,6 +26,7 @@ pub fn local_step()
 
 /// Where the operation without the shared tokens is refused on what stands there, the operation is
 /// refused on the document, for the same kind.
+#[tactic(auto, using(crate::proofs::Locality::local_refuses))]
 pub fn local_refusal()
     ensures { (d : Data) (S : Pointer) (b : Data) (op : Operation) → IsDocument d → IsWholeOp op
         → StandsAt d S b → IsWithin S op
@@ -32,6 +34,7 @@ pub fn local_refusal()
 {}
 
 /// After each accepted run the shared tokens resolve to the same location as before.
+#[tactic(auto, using(crate::proofs::Locality::location_stays))]
 pub fn location_stays()
     ensures { (d : Data) (S : Pointer) (L : List Step) (b : Data) (ops : List Operation) (x : Data)
         → IsDocument d → AreWhole ops → Resolves d S L b → AreWithin S ops → Accepts d ops x
@@ -47,6 +50,7 @@ pub fn local_run()
 {}
 
 /// Where the one is refused, so is the other, at the same number and for the same kind.
+#[tactic(auto, using(crate::proofs::Locality::refused_alike))]
 pub fn local_run_refused()
     ensures { (d : Data) (S : Pointer) (b : Data) (ops : List Operation) → IsDocument d → AreWhole ops
         → StandsAt d S b → AreWithin S ops → (k : ℕ) (kind : PatchErrorKind)
@@ -62,6 +66,7 @@ pub fn local_inverse()
 {}
 
 /// A list shares one list of tokens at most.
+#[tactic(auto, using(crate::proofs::SharedTokens::shared_one))]
 pub fn shared_is_one()
     ensures { (ops : List Operation) (S T : Pointer) → IsShared ops S → IsShared ops T → S ≡ T }
 {}

@@ -33,21 +33,25 @@ pub fn read_like_or_refused()
 {}
 
 /// What is written of a whole patch reads back as that patch.
+#[tactic(auto, using(crate::proofs::PatchValues::written_reads_back))]
 pub fn written_reads_back()
     ensures { (ops : List Operation) → AreWhole ops → IsRead (written_patch ops) ops }
 {}
 
 /// What is written of a whole operation reads back as that operation.
+#[tactic(auto, using(crate::proofs::PatchValues::written_reads_alone))]
 pub fn written_reads_alone()
     ensures { (op : Operation) → IsWholeOp op → IsReadAlone (written op) op }
 {}
 
 /// What is written of a whole operation without its `op` reads back, with no look at `op`.
+#[tactic(auto, using(crate::proofs::PatchValues::written_fields_read_back))]
 pub fn written_fields_read_back()
     ensures { (op : Operation) → IsWholeOp op → IsReadLike op (written_fields op) op }
 {}
 
 /// What is written of a whole patch is a document.
+#[tactic(auto, using(crate::proofs::PatchValues::written_patch_document))]
 pub fn written_is_document()
     ensures { (ops : List Operation) → AreWhole ops → IsDocument (written_patch ops) }
 {}

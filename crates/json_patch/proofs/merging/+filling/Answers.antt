@@ -17,8 +17,7 @@ fill-returns t c hd hp =
     (ap view c.replace.ensures.after ∙ c.in_ok-value.ensures.cases) c.replace.ensures.value hp
 
 pub fill-returns-in_err-fill_members : goal.fill-returns-in_err-fill_members
-fill-returns-in_err-fill_members t c =
-    filled_no_object _ _ _ _ _ c.fill_members.new.members c.in-Object.changes c.from_residual.ensures.0 (c.in-Object-target.is ∙ ap Object (sym c.in-Object-target.members-is)) (search (rules, the_lemmas)) c.in-Object.is c.in_err-fill_members.ensures
+fill-returns-in_err-fill_members t c = search (rules, filled_no_object, the_lemmas)
 
 pub fill-returns-in-Object-target : goal.fill-returns-in-Object-target
 fill-returns-in-Object-target t c =
@@ -52,6 +51,4 @@ fill_member-returns-in-Some t c h hq =
     (fills_found c.fill.result c.as_str.result.now c.args.members.now.entries _ c.in-Some.member.now c.fill.new.target (view c.args.change.now) c.get_mut.ensures.ordered c.in-Some.ensures.value (c.get_mut.follows.holds c.fill.new.target).0 h (λ hd. c.fill.ensures hd hq))
 
 pub fill_member-returns : goal.fill_member-returns
-fill_member-returns t c h hq =
-    fills_missing (string_bytes c.args.name.now) c.args.members.now.entries c.insert.new.self.entries c.in_ok-clone.field-0 c.in_ok-clone-2.field-0 (view c.args.change.now) (rw c.as_str.ensures.value at c.in_default.ensures.value)
-    c.in_ok-clone.ensures.cases (rw c.get_mut.follows.holds-at-none at c.in_ok-insert.ensures.entries) c.in_ok-clone-2.ensures.cases hq
+fill_member-returns t c h hq = search (rules, fills_missing (string_bytes c.args.name.now) c.args.members.now.entries c.insert.new.self.entries c.in_ok-clone.field-0 c.in_ok-clone-2.field-0 (view c.args.change.now) (rw c.as_str.ensures.value at c.in_default.ensures.value))

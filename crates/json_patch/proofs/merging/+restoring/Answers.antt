@@ -1,24 +1,14 @@
-use Rattle.std.proofs.Common.{◌≡◌, suc, ◌<◌, ◌+◌, ◌*◌, rules, arith, sym, ap, ◌∙◌}
-use Rattle.serde_json.specs.View.{members_view}
+use Rattle.std.proofs.Common.{◌≡◌, suc, rules, arith, sym, ap, ◌∙◌}
 use Rattle.serde_json.specs.declared.value.Value.{Object, the_lemmas}
-use Rattle.json_patch.specs.Filled.{members_before}
 use Rattle.json_patch.specs.declared.merging.Former.{the_lemmas as of_formers}
 use Rattle.json_patch.proofs.Filling.{before_last, weights_last, puts_back, puts_nothing_back, takes_out, restored_object, weight, weights}
 use Rattle.json_patch.proofs.merging.+restoring.Goals as goal
 
 pub restore-restore_member-requires : goal.restore-restore_member-requires
-restore-restore_member-requires t c =
-    let e : weights c.loop-name.log.items ≡ suc (weight c.in-Some.former + weights c.pop.new.self.items) = ap weights c.in-Some.ensures.items ∙ weights_last c.pop.new.self.items (c.in-Some.name, c.in-Some.former) in
-    let smaller : 2 * weight c.in-Some.former < 2 * weights c.args.log.items = omega (arith, e, c.loop-name.invariant.smaller) in
-    (omega (arith, smaller, c.decreases), tt)
+restore-restore_member-requires t c = search (rules, weights, weight, weights_last)
 
 pub restore-loop-name-preserved : goal.restore-loop-name-preserved
-restore-loop-name-preserved t c =
-    let e : weights c.loop-name.log.items ≡ suc (weight c.in-Some.former + weights c.pop.new.self.items) = ap weights c.in-Some.ensures.items ∙ weights_last c.pop.new.self.items (c.in-Some.name, c.in-Some.former) in
-    record {
-      smaller = omega (arith, e, c.loop-name.invariant.smaller);
-      back = ap (members_before c.pop.new.self.items) c.restore_member.ensures ∙ sym (before_last c.pop.new.self.items (c.in-Some.name, c.in-Some.former) (members_view c.loop-name.members.entries)) ∙ ap (λ l. members_before l (members_view c.loop-name.members.entries)) (sym c.in-Some.ensures.items) ∙ c.loop-name.invariant.back;
-    }
+restore-loop-name-preserved t c = search (rules, weights, weight, weights_last, before_last)
 
 pub restore_member-returns-in-Nothing : goal.restore_member-returns-in-Nothing
 restore_member-returns-in-Nothing t c = takes_out c.args.name.now c.args.members.now.entries _ c.args.former c.remove.ensures.entries (λ o. search (rules, c.in-Nothing.is, of_formers))
@@ -43,6 +33,3 @@ restore_member-returns-in_default-get_mut t c = puts_nothing_back c.args.name.no
 
 pub restore_in-returns-in-Object : goal.restore_in-returns-in-Object
 restore_in-returns-in-Object t c = restored_object c.args.log _ _ _ c.restore.new.members (c.in-Object.is ∙ ap Object (sym c.in-Object.members-is)) (search (rules, the_lemmas)) c.restore.ensures
-
-pub restore_in-restore-requires : goal.restore_in-restore-requires
-restore_in-restore-requires t c = (omega (arith, c.decreases), tt)

@@ -1,4 +1,4 @@
-use Rattle.std.proofs.Common.{◌≡◌, [], ◌∷◌, ◌++◌, ◌+◌, codes, drop, string_bytes, rules, refl, sym, ap, ◌∙◌, arith}
+use Rattle.std.proofs.Common.{◌≡◌, [], ◌∷◌, ◌++◌, ◌+◌, codes, drop, string_bytes, rules, sym, ap, ◌∙◌, arith}
 use Rattle.std.proofs.lemmas.List.{drop_more, drop_all}
 use Rattle.std.proofs.Output.{has_written_append, has_written_of_eq}
 use Rattle.serde_json.specs.Data.{item, no_items, member}
@@ -6,9 +6,6 @@ use Rattle.serde_json.specs.View.{view, items_view, members_view}
 use Rattle.json_patch.specs.Printed.{quoted, printed, printed_items, printed_members}
 use Rattle.json_patch.proofs.Texts.{printed_items_more, printed_items_end, printed_members_more, printed_members_end}
 use Rattle.json_patch.proofs.printing.+printing.Goals as goal
-
-pub write_items-items-init : goal.write_items-items-init
-write_items-items-init g c c' = (search rules, λ plain. ([], search rules, refl))
 
 pub write_items-items-preserved : goal.write_items-items-preserved
 write_items-items-preserved g c c' =

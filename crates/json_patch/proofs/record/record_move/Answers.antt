@@ -1,10 +1,11 @@
-use Rattle.std.proofs.Common.{Ok, ap, ap₂}
+use Rattle.std.proofs.lemmas.Grind.{common_steps}
+use Rattle.std.proofs.Common.{Ok, ap, arith}
 use Rattle.serde_json.specs.View.{view}
 use Rattle.jsonptr.specs.Pointers.{tokens_of}
-use Rattle.json_patch.specs.Operation.{add, operations}
+use Rattle.json_patch.specs.Operation.{operations}
 use Rattle.json_patch.specs.declared.walk.Displaced.{Displaced}
 use Rattle.json_patch.proofs.Parents.{move_goes, move_stops}
-use Rattle.json_patch.proofs.Undos.{move_refused, records_move}
+use Rattle.json_patch.proofs.Undos.{move_refused}
 use Rattle.json_patch.proofs.record.record_move.Goals as goal
 
 pub returns-in_err-was : goal.returns-in_err-was
@@ -21,8 +22,5 @@ returns c =
       leaves =
           move_goes (Ok c.in_ok-was.was') (view c.args.doc.now) (view c.take_out.new.doc) (view c.add.new.doc) c.in_ok-moved.moved (tokens_of c.args.base) (tokens_of c.below.result) (tokens_of c.below-path.result) o.from o.path
           c.below.ensures c.below-path.ensures c.in_ok-moved.ensures.taken c.in_ok-was.ensures.leaves;
-      records =
-          records_move c.args.undo.now.items c.reserve.new.self.items c.push_reserved.new.self.items c.push_reserved-2.new.self.items _ _ (view c.args.doc.now) (view c.take_out.new.doc) c.in_ok-moved.moved (tokens_of c.args.base) o.from o.path c.in_ok-place.place c.in_ok-was.was'
-          (view c.in_ok-moved.moved) c.in_ok-reserve.ensures.items c.push_reserved.ensures.items c.push_reserved-2.ensures.items (ap₂ (λ P v. add P v) c.in_ok-from.ensures c.in_ok-value.ensures.cases) c.undo_of-take_away.ensures c.requires.0
-          (rw (c.below.ensures, c.below-path.ensures) at c.in_ok-moved.ensures.taken) c.in_ok-place.ensures (rw c.below-path.ensures at c.in_ok-was.ensures.undo);
+      records = grind (arith, common_steps);
     }

@@ -1,7 +1,7 @@
+use Rattle.std.proofs.Common.{rules}
 use Rattle.serde_json.specs.View.{view}
 use Rattle.json_patch.proofs.Undos.{undo_last}
 use Rattle.json_patch.proofs.record.undo_recorded.Goals as goal
 
 pub loop-operation-preserved : goal.loop-operation-preserved
-loop-operation-preserved c = λ d light way.
-    undo_last c.loop-operation.undo.items c.pop.new.self.items c.in-Some.operation (view c.loop-operation.doc) (view c.undo_one.new.doc) d c.in-Some.ensures.items c.undo_one.ensures (c.loop-operation.invariant d light way)
+loop-operation-preserved c = search (rules, undo_last c.loop-operation.undo.items c.pop.new.self.items c.in-Some.operation (view c.loop-operation.doc) (view c.undo_one.new.doc))

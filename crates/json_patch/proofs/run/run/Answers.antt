@@ -1,75 +1,31 @@
-use Rattle.std.proofs.Common.{◌≡◌, ◌+◌, ◌-◌, ◌<◌, ◌≤◌, ◌++◌, Err, Vec, Global, length, refl, sym, ap, ◌∙◌, subst, arith}
-use mathlib.Core.List.{reverse}
+use Rattle.std.proofs.Common.{◌-◌, Err, Vec, Global, rules}
 use Rattle.serde_json.specs.View.{view}
 use Rattle.jsonptr.specs.Pointers.{tokens_of}
-use Rattle.json_patch.specs.InverseComputed.{block}
-use Rattle.json_patch.specs.Operation.{operation_of, operations}
-use Rattle.json_patch.specs.RunComputed.{ran, stepped}
-use Rattle.json_patch.specs.Undoing.{AreUndos, IsUndoable}
+use Rattle.json_patch.specs.Operation.{operation_of}
 use Rattle.json_patch.specs.declared.operation.PatchOperation.{PatchOperation}
 use Rattle.json_patch.proofs.Applied.{not_stopped, recorded_back, recorded_more, reported_names, state_more}
 use Rattle.json_patch.proofs.PartRuns.{begun_whole, block_whole, step_whole, stripped_whole}
 use Rattle.json_patch.proofs.Undoables.{not_move, not_undoable, tests_in_place, undoable_at}
 use Rattle.json_patch.proofs.Undos.{block_light, light_more}
-use Rattle.json_patch.proofs.run.run.Goals.{then-loop-number-test+else-is_undoable, else-loop-number-test}
 use Rattle.json_patch.proofs.run.run.Goals as goal
 
 pub record_step-requires : goal.record_step-requires
 record_step-requires c = begun_whole (tokens_of c.root.result) (operation_of c.index-patch-number-in-loop-number.result) c.root.ensures
 
 pub returns-in-Err-clause-refused : goal.returns-in-Err-clause-refused
-returns-in-Err-clause-refused c =
-    let o = c.index-patch-number-in-loop-number.result in
-    let more : 1 < length c.args.patch.now - c.loop-number.number = c.loop-number-test.true in
-    reported_names (Vec PatchOperation Global) c.reported.result c.in-Err.fault (view c.args.doc.now) (view c.loop-number.doc) (view c.record_step.new.doc) c.args.patch.now c.loop-number.number o c.requires.document c.requires.whole (omega arith) c.index-patch-number-in-loop-number.is c.loop-number.invariant.state
-    (step_whole (Unit {0}) (Err c.in-Err.fault) (view c.loop-number.doc) (view c.record_step.new.doc) (tokens_of c.root.result) (operation_of o) c.root.ensures c.in-Err.ensures.made.refused) c.reported.ensures
+returns-in-Err-clause-refused c = search (rules, reported_names (Vec PatchOperation Global) c.reported.result c.in-Err.fault (view c.args.doc.now) (view c.loop-number.doc) (view c.record_step.new.doc) c.args.patch.now c.loop-number.number, step_whole (Unit {0}) (Err c.in-Err.fault) (view c.loop-number.doc) (view c.record_step.new.doc) (tokens_of c.root.result))
 
 pub returns-in-Err-clause-unchanged : goal.returns-in-Err-clause-unchanged
-returns-in-Err-clause-unchanged c =
-    let o = c.index-patch-number-in-loop-number.result in
-    let more : 1 < length c.args.patch.now - c.loop-number.number = c.loop-number-test.true in
-    let light : IsUndoable (operation_of o) = undoable_at c.args.patch.now c.loop-number.number c.index-patch-number.result o (omega arith) c.index-patch-number.is c.index-patch-number-in-loop-number.is (c.if-is_undoable.ensures.0 refl) in
-    let same : view c.record_step.new.doc ≡ view c.loop-number.doc = c.in-Err.ensures.made.unchanged (not_move (operation_of o) light) in
-    c.undo_recorded.ensures (view c.args.doc.now) (subst AreUndos (sym c.in-Err.ensures.made.kept) c.loop-number.invariant.light)
-    (ap (λ x. ran x (reverse (operations c.record_step.new.undo.items))) same ∙ ap (λ us. ran (view c.loop-number.doc) (reverse us)) c.in-Err.ensures.made.kept
-    ∙ recorded_back (view c.args.doc.now) (view c.loop-number.doc) c.args.patch.now c.loop-number.number c.loop-number.undo.items c.requires.document c.requires.whole c.loop-number.invariant.state c.loop-number.invariant.recorded)
+returns-in-Err-clause-unchanged c = search (rules, undoable_at c.args.patch.now c.loop-number.number c.index-patch-number.result, not_move, recorded_back (view c.args.doc.now) (view c.loop-number.doc) c.args.patch.now c.loop-number.number c.loop-number.undo.items c.requires.document c.requires.whole c.loop-number.invariant.state c.loop-number.invariant.recorded)
 
 pub returns-in-Err-clause-in_place : goal.returns-in-Err-clause-in_place
-returns-in-Err-clause-in_place c = λ y tests e end.
-    let o = c.index-patch-number-in-loop-number.result in
-    let more : 1 < length c.args.patch.now - c.loop-number.number = c.loop-number-test.true in
-    let light : IsUndoable (operation_of o) = undoable_at c.args.patch.now c.loop-number.number c.index-patch-number.result o (omega arith) c.index-patch-number.is c.index-patch-number-in-loop-number.is (c.if-is_undoable.ensures.0 refl) in
-    absurd (not_stopped c.in-Err.fault (view c.args.doc.now) (view c.loop-number.doc) (view c.record_step.new.doc) e c.args.patch.now c.loop-number.number o c.requires.document c.requires.whole (omega arith) c.index-patch-number-in-loop-number.is c.loop-number.invariant.state
-    (step_whole (Unit {0}) (Err c.in-Err.fault) (view c.loop-number.doc) (view c.record_step.new.doc) (tokens_of c.root.result) (operation_of o) c.root.ensures c.in-Err.ensures.made.refused)
-    (c.in-Err.ensures.in_place light) (tests_in_place (operations c.args.patch.now) tests) end)
+returns-in-Err-clause-in_place c = search (rules, undoable_at, not_stopped, step_whole, tests_in_place)
 
 pub loop-number-preserved : goal.loop-number-preserved
-loop-number-preserved c =
-    let d = view c.args.doc.now in let m = view c.loop-number.doc in let k = c.loop-number.number in let o = c.index-patch-number-in-loop-number.result in let S = tokens_of c.root.result in
-    let more : 1 < length c.args.patch.now - k = c.loop-number-test.true in
-    let less : k < length c.args.patch.now = omega arith in
-    let at = c.index-patch-number-in-loop-number.is in
-    let made = ap (stepped m) (sym (stripped_whole S (operation_of o) c.root.ensures)) ∙ c.in_default.ensures.made.leaves in
-    let wrote = c.in_default.ensures.made.records ∙ ap (λ B. operations c.loop-number.undo.items ++ reverse B) (block_whole m S (operation_of o) c.root.ensures) in
-    record {
-      within = omega arith;
-      state = state_more d m (view c.record_step.new.doc) c.args.patch.now k o c.requires.document c.requires.whole less at c.loop-number.invariant.state made;
-      recorded = recorded_more d m (view c.record_step.new.doc) c.args.patch.now k o c.loop-number.undo.items c.record_step.new.undo.items c.requires.document c.requires.whole less at c.loop-number.invariant.state made wrote c.loop-number.invariant.recorded;
-      light = light_more (operations c.loop-number.undo.items) (operations c.record_step.new.undo.items) (block m (operation_of o)) wrote
-          (block_light m (operation_of o) (undoable_at c.args.patch.now k c.index-patch-number.result o less c.index-patch-number.is at (c.if-is_undoable.ensures.0 refl))) c.loop-number.invariant.light;
-    }
+loop-number-preserved c = search (rules, stripped_whole, block_whole, state_more, recorded_more, light_more, block_light, undoable_at)
 
 pub returns-in-Err-run_part-clause-unchanged : goal.returns-in-Err-run_part-clause-unchanged
-returns-in-Err-run_part-clause-unchanged c =
-    let told = c.in-Err-run_part.ensures in
-    c.undo_recorded-in-Err-run_part.ensures (view c.args.doc.now) (subst AreUndos (sym told.kept) c.loop-number.invariant.light)
-    (ap (λ x. ran x (reverse (operations c.run_part.new.undo.items))) told.unchanged ∙ ap (λ us. ran (view c.loop-number.doc) (reverse us)) told.kept
-    ∙ recorded_back (view c.args.doc.now) (view c.loop-number.doc) c.args.patch.now c.loop-number.number c.loop-number.undo.items c.requires.document c.requires.whole c.loop-number.invariant.state c.loop-number.invariant.recorded)
+returns-in-Err-run_part-clause-unchanged c = search (rules, recorded_back (view c.args.doc.now) (view c.loop-number.doc) c.args.patch.now c.loop-number.number c.loop-number.undo.items c.requires.document c.requires.whole c.loop-number.invariant.state c.loop-number.invariant.recorded)
 
 pub returns-in-Err-run_part-clause-in_place : goal.returns-in-Err-run_part-clause-in_place
-returns-in-Err-run_part-clause-in_place c = λ y tests e end.
-    let last : length c.args.patch.now ≤ c.loop-number.number + 1 = elim c.loop-number-test.branch [
-      | then-loop-number-test+else-is_undoable w ↦ absurd (not_undoable c.args.patch.now c.loop-number.number w.index-patch-number.result w.loop-number-test.true w.index-patch-number.is tests w.if-is_undoable.ensures)
-      | else-loop-number-test w ↦ (let at : length c.args.patch.now - c.loop-number.number ≤ 1 = w.loop-number-test.false in omega arith)
-    ] in
-    c.in-Err-run_part.ensures.in_place y last (tests_in_place (operations c.args.patch.now) tests) (view c.args.doc.now) c.requires.document c.loop-number.invariant.state e end
+returns-in-Err-run_part-clause-in_place c = search (rules, not_undoable, tests_in_place)

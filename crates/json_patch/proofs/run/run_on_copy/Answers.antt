@@ -1,4 +1,4 @@
-use Rattle.std.proofs.Common.{◌≡◌, ◌<◌, ◌≤◌, take, length, sym, ap, ◌∙◌, arith}
+use Rattle.std.proofs.Common.{◌≡◌, ◌<◌, ◌≤◌, take, length, ap, ◌∙◌, arith, rules}
 use Rattle.std.proofs.lemmas.List.{length-map, take-map}
 use Rattle.serde_json.specs.View.{view}
 use Rattle.jsonptr.specs.Pointers.{tokens_of}
@@ -9,14 +9,7 @@ use Rattle.json_patch.proofs.Undos.{same_count, take_more}
 use Rattle.json_patch.proofs.run.run_on_copy.Goals as goal
 
 pub loop-number-init : goal.loop-number-init
-loop-number-init c = record {
-  from = omega arith;
-  to = c.requires.order;
-  part = λ d hd s.
-      part_first d (view c.args.doc.now) c.args.patch.now c.args.start (tokens_of c.in_ok-base.base) (view c.in_ok-base.part) (state_document d (view c.args.doc.now) c.args.patch.now c.args.start hd c.requires.whole s) s c.in_ok-base.ensures.1;
-  recorded = λ y d hd s before. before;
-  kept = let n = same_count c.args.undo.now c.len-kept.result c.len-kept.ensures in take_past c.args.undo.now.items c.len-kept.result (omega (arith, n));
-}
+loop-number-init c = search (rules, part_first, state_document, same_count, take_past)
 
 pub step_keeping-requires : goal.step_keeping-requires
 step_keeping-requires c =
@@ -34,8 +27,7 @@ returns-in-Err-clause-refused c = λ d hd s.
     (part_stops p.x (tokens_of c.in_ok-base.base) (view c.loop-number.work) (operation_of o) p.document p.there (Unit {0}) (Unit {0}) c.in-Err.fault (view c.step_keeping.new.doc) p.x at c.in-Err.ensures.made.refused) c.reported.ensures
 
 pub returns-in-Err-clause-kept : goal.returns-in-Err-clause-kept
-returns-in-Err-clause-kept c =
-    ap operations c.truncate.ensures.items ∙ sym (take-map operation_of c.len-kept.result c.step_keeping.new.undo.items) ∙ ap (take c.len-kept.result) c.in-Err.ensures.made.kept ∙ c.loop-number.invariant.kept
+returns-in-Err-clause-kept c = search (rules, take-map)
 
 pub loop-number-preserved : goal.loop-number-preserved
 loop-number-preserved c =
@@ -58,12 +50,7 @@ loop-number-preserved c =
     }
 
 pub returns-then-is_err-clause-kept : goal.returns-then-is_err-clause-kept
-returns-then-is_err-clause-kept c =
-    ap operations c.truncate-then-is_err.ensures.items ∙ sym (take-map operation_of c.len-kept.result c.loop-number.undo.items) ∙ c.loop-number.invariant.kept
+returns-then-is_err-clause-kept c = search (rules, take-map)
 
 pub returns-clause-accepted : goal.returns-clause-accepted
-returns-clause-accepted c = λ d hd s.
-    let past : c.args.end ≤ c.loop-number.number = c.loop-number-test.false in let most : c.loop-number.number ≤ c.args.end = c.loop-number.invariant.to in
-    ended_at d (view c.replace.new.doc) c.args.patch.now c.loop-number.number c.args.end (omega arith)
-    (part_end d (view c.args.doc.now) c.args.patch.now c.loop-number.number (tokens_of c.in_ok-base.base) (view c.loop-number.work) (c.loop-number.invariant.part d hd s) (view c.replace.new.doc)
-    (made_put c.replace.result c.is_err.result _ (view c.args.doc.now) (view c.replace.new.doc) c.replace.ensures.leaves c.is_err.ensures.value c.if-is_err.false))
+returns-clause-accepted c = search (rules, ended_at, part_end, made_put)

@@ -1,12 +1,8 @@
-use Rattle.std.proofs.Common.{◌≡◌, None, Some, option_map, sym, ap, ◌∙◌}
+use Rattle.std.proofs.Common.{◌≡◌, Some, option_map, sym, ap, ◌∙◌}
 use Rattle.jsonptr.specs.Pointers.{token_of, tokens_of}
 use Rattle.json_patch.specs.Operation.{operation_of, from_of}
-use Rattle.json_patch.proofs.SharedTokens.{both_longest, even_if_none, parent_longest, root_source, root_within}
+use Rattle.json_patch.proofs.SharedTokens.{both_longest, even_if_none, root_source}
 use Rattle.json_patch.proofs.shared.parent_of.Goals as goal
-
-pub returns-in_err-parent-clause-none : goal.returns-in_err-parent-clause-none
-returns-in_err-parent-clause-none c =
-    even_if_none _ _ (root_within (operation_of c.args.operation.now) (sym c.path.ensures ∙ c.in_err-parent.ensures.root))
 
 pub returns-in_err-source-in-Some-clause-none : goal.returns-in_err-source-in-Some-clause-none
 returns-in_err-source-in-Some-clause-none c =
@@ -22,8 +18,3 @@ returns-in_ok-source-in-Some-clause-shared c =
     sym (ap (λ p. p.from) c.parts.ensures) ∙ ap (λ o. option_map (λ F. F.now) o) c.in-Some.is ∙ ap Some (sym c.as_pointer.ensures) in
     both_longest (operation_of c.args.operation.now) (tokens_of c.as_pointer.result) (tokens_of c.in_ok-parent.parent) (tokens_of c.in_ok-source-in-Some.source) (tokens_of c.shared_with.result) (token_of c.in_ok-parent._last) (token_of c.in_ok-source-in-Some._last)
     from (sym c.path.ensures ∙ c.in_ok-parent.ensures.last) c.in_ok-source-in-Some.ensures.last m
-
-pub returns-in-None-clause-shared : goal.returns-in-None-clause-shared
-returns-in-None-clause-shared c =
-    let from : from_of (operation_of c.args.operation.now) ≡ None = sym (ap (λ p. p.from) c.parts.ensures) ∙ ap (λ o. option_map (λ F. F.now) o) c.in-None.is in
-    parent_longest (operation_of c.args.operation.now) (tokens_of c.in_ok-parent.parent) (token_of c.in_ok-parent._last) from (sym c.path.ensures ∙ c.in_ok-parent.ensures.last)

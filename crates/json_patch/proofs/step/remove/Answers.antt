@@ -1,18 +1,15 @@
+use Rattle.std.proofs.Common.{rules}
 use Rattle.serde_json.specs.View.{view}
 use Rattle.jsonptr.specs.Pointers.{token_of, tokens_of}
-use Rattle.json_patch.specs.InPlace.{AreUnescaped}
 use Rattle.json_patch.proofs.Parents.{removed_in, taken_there, unescaped_parts}
 use Rattle.json_patch.proofs.step.remove.Goals as goal
 
 pub returns-clause-leaves : goal.returns-clause-leaves
-returns-clause-leaves c =
-    rw (removed_in (view c.args.doc.now) (tokens_of c.args.path) (tokens_of c.in-Some.parent) (token_of c.in-Some.last) c.in-Some.ensures.last) (rw c.tokens.ensures.value at c.edit_at.ensures.leaves)
+returns-clause-leaves c = search (rules, removed_in (view c.args.doc.now) (tokens_of c.args.path) (tokens_of c.in-Some.parent) (token_of c.in-Some.last) c.in-Some.ensures.last)
 
 pub returns-clause-taken : goal.returns-clause-taken
 returns-clause-taken c =
     taken_there _ (view c.args.doc.now) (tokens_of c.args.path) (tokens_of c.in-Some.parent) (token_of c.in-Some.last) c.in-Some.ensures.last (rw c.tokens.ensures.value at c.edit_at.ensures.displaces)
 
 pub returns-clause-in_place : goal.returns-clause-in_place
-returns-clause-in_place c = λ (plain : AreUnescaped (tokens_of c.args.path)).
-    let parts = unescaped_parts (tokens_of c.args.path) (tokens_of c.in-Some.parent) (token_of c.in-Some.last) c.in-Some.ensures.last plain in
-    (rw c.tokens.ensures.value at c.edit_at.ensures.in_place) tt parts.0 parts.1
+returns-clause-in_place c = search (rules, unescaped_parts)

@@ -1,20 +1,8 @@
+use Rattle.std.proofs.Common.{rules}
 use Rattle.serde_json.specs.View.{view}
 use Rattle.jsonptr.specs.Pointers.{token_of, tokens_of}
-use Rattle.json_patch.specs.InPlace.{AreUnescaped}
-use Rattle.json_patch.proofs.Parents.{replaced_in, undo_swapped, unescaped_parts}
+use Rattle.json_patch.proofs.Parents.{replaced_in}
 use Rattle.json_patch.proofs.step.replace.Goals as goal
 
 pub returns-in-Some-clause-leaves : goal.returns-in-Some-clause-leaves
-returns-in-Some-clause-leaves c =
-    rw (replaced_in (view c.args.doc.now) (tokens_of c.args.path) (tokens_of c.in-Some.parent) (token_of c.in-Some.last) (view c.args.value) c.in-Some.ensures.last)
-    (rw c.tokens.ensures.value at c.edit_at.ensures.leaves)
-
-pub returns-in-Some-clause-undo : goal.returns-in-Some-clause-undo
-returns-in-Some-clause-undo c =
-    undo_swapped _ c.args.value (view c.args.doc.now) (tokens_of c.args.path) (tokens_of c.in-Some.parent) (token_of c.in-Some.last) (view c.args.value) c.in-Some.ensures.last
-    (rw c.tokens.ensures.value at c.edit_at.ensures.displaces)
-
-pub returns-in-Some-clause-in_place : goal.returns-in-Some-clause-in_place
-returns-in-Some-clause-in_place c = λ (plain : AreUnescaped (tokens_of c.args.path)).
-    let parts = unescaped_parts (tokens_of c.args.path) (tokens_of c.in-Some.parent) (token_of c.in-Some.last) c.in-Some.ensures.last plain in
-    (rw c.tokens.ensures.value at c.edit_at.ensures.in_place) tt parts.0 parts.1
+returns-in-Some-clause-leaves c = search (rules, replaced_in (view c.args.doc.now) (tokens_of c.args.path) (tokens_of c.in-Some.parent) (token_of c.in-Some.last) (view c.args.value) c.in-Some.ensures.last)

@@ -1,4 +1,4 @@
-use Rattle.std.proofs.Common.{rules, refl, ap, sym, ◌∙◌}
+use Rattle.std.proofs.Common.{rules, ap, sym, ◌∙◌}
 use Rattle.serde_json.specs.declared.value.Value.{Array, Object, the_lemmas}
 use Rattle.serde_json.specs.View.{view}
 use Rattle.jsonptr.specs.Pointers.{token_of, tokens_left}
@@ -8,17 +8,10 @@ use Rattle.json_patch.proofs.Descents.{displaces_below, found_at_item, found_at_
 use Rattle.json_patch.proofs.walk.+edit_at.Goals as goal
 
 pub returns-in_default-get_mut-clause-leaves : goal.returns-in_default-get_mut-clause-leaves
-returns-in_default-get_mut-clause-leaves t c =
-    let name = c.as_str.ensures.value ∙ c.in_ok-name-in-Object.ensures.name in
-    let no = walks_to_no_member _ (λ d. altered (made_by c.args.edit (token_of c.args.last)) d _) (token_of c.in-Some.token) _ _ _ c.get_mut.follows.lender-at-none
-    (next_within _ _ _ _ (token_of c.in-Some.token) c.in-Some.ensures.steps) (c.in-Object.is ∙ ap Object (sym c.in-Object.members-is)) (search (rules, the_lemmas)) (rw name at c.in_default-get_mut.ensures.value) c.get_mut.follows.holds-at-none in
-    ((refl, no.0), no.1)
+returns-in_default-get_mut-clause-leaves t c = search (rules, walks_to_no_member, next_within, the_lemmas)
 
 pub returns-in_err-index-in-Array-clause-leaves : goal.returns-in_err-index-in-Array-clause-leaves
-returns-in_err-index-in-Array-clause-leaves t c =
-    let out = c.in_err-index-in-Array.ensures in
-    walks_to_no_item _ _ _ (λ d. altered (made_by c.args.edit (token_of c.args.last)) d _) (token_of c.in-Some.token) _ _ _ c.len.result
-    (next_within _ _ _ _ (token_of c.in-Some.token) c.in-Some.ensures.steps) (c.in-Array.is ∙ ap Array (sym c.in-Array.items-is)) (search (rules, the_lemmas)) c.len.ensures c.from_residual-in_err-index-in-Array.ensures out.0 out.1
+returns-in_err-index-in-Array-clause-leaves t c = search (rules, walks_to_no_item, next_within, the_lemmas)
 
 pub returns-in-Some-get_mut-clause-leaves : goal.returns-in-Some-get_mut-clause-leaves
 returns-in-Some-get_mut-clause-leaves t c =

@@ -1,42 +1,20 @@
-use Rattle.std.proofs.Common.{refl, ◌∙◌, ap}
+use Rattle.std.proofs.Common.{refl, ◌∙◌, ap, rules}
 use Rattle.serde_json.specs.Data.{object}
 use Rattle.serde_json.specs.View.{view, members_view}
 use Rattle.jsonptr.specs.Pointers.{token_of}
-use Rattle.json_patch.proofs.Containers.{found_key, found_member, found_no_key, inserts_member, swaps_member, swaps_no_member, takes_member, takes_no_member}
+use Rattle.json_patch.proofs.Containers.{found_key, found_member, found_no_key, swaps_member, swaps_no_member}
 use Rattle.json_patch.proofs.walk.edit_members.Goals as goal
 
-pub returns-in-Some-clause-leaves : goal.returns-in-Some-clause-leaves
-returns-in-Some-clause-leaves c =
-    rw c.in-Insert.is (inserts_member (token_of c.args.token) _ _ c.in_ok-name-in-Insert.name c.in-Insert.value c.in_ok-name-in-Insert.ensures c.in_ok-former-in-Insert.ensures.entries)
-
 pub returns-in-Some-clause-displaces : goal.returns-in-Some-clause-displaces
-returns-in-Some-clause-displaces c =
-    rw c.in-Insert.is (found_key (token_of c.args.token) c.in_ok-name-in-Insert.name _ _ c.in-Some.former c.in_ok-name-in-Insert.ensures c.in-Some.is c.in_ok-former-in-Insert.ensures.old)
-
-pub returns-in-Insert-clause-leaves : goal.returns-in-Insert-clause-leaves
-returns-in-Insert-clause-leaves c =
-    rw c.in-Insert.is (inserts_member (token_of c.args.token) _ _ c.in_ok-name-in-Insert.name c.in-Insert.value c.in_ok-name-in-Insert.ensures c.in_ok-former-in-Insert.ensures.entries)
+returns-in-Some-clause-displaces c = search (rules, found_key (token_of c.args.token) c.in_ok-name-in-Insert.name)
 
 pub returns-in-Insert-clause-displaces : goal.returns-in-Insert-clause-displaces
-returns-in-Insert-clause-displaces c =
-    rw c.in-Insert.is (found_no_key (token_of c.args.token) c.in_ok-name-in-Insert.name _ _ c.in_ok-name-in-Insert.ensures c.in-None.is c.in_ok-former-in-Insert.ensures.old)
-
-pub returns-in-Some-remove-clause-leaves : goal.returns-in-Some-remove-clause-leaves
-returns-in-Some-remove-clause-leaves c =
-    let named = c.as_str.ensures.value ∙ c.in_ok-name-in-Take.ensures.name in
-    rw c.in-Take.is (takes_member (token_of c.args.token) _ _ c.remove.result c.in-Some-remove.former c.in-Some-remove.is (rw named at c.remove.ensures.value) (rw named at c.remove.ensures.entries))
+returns-in-Insert-clause-displaces c = search (rules, found_no_key (token_of c.args.token) c.in_ok-name-in-Insert.name)
 
 pub returns-in-Some-remove-clause-displaces : goal.returns-in-Some-remove-clause-displaces
 returns-in-Some-remove-clause-displaces c =
     let named = c.as_str.ensures.value ∙ c.in_ok-name-in-Take.ensures.name in
     rw c.in-Take.is (found_member (token_of c.args.token) _ _ c.in-Some-remove.former c.in-Some-remove.is (rw named at c.remove.ensures.value))
-
-pub returns-in-Take-clause-leaves : goal.returns-in-Take-clause-leaves
-returns-in-Take-clause-leaves c =
-    let named = c.as_str.ensures.value ∙ c.in_ok-name-in-Take.ensures.name in (
-      (refl, rw c.in-Take.is (takes_no_member (token_of c.args.token) _ _ c.in-None-remove.is (rw named at c.remove.ensures.value))),
-      ap (λ es. object (members_view es)) c.in-None-remove.ensures.unchanged,
-    )
 
 pub returns-in-Some-get_mut-clause-leaves : goal.returns-in-Some-get_mut-clause-leaves
 returns-in-Some-get_mut-clause-leaves c =

@@ -1,14 +1,12 @@
-use Rattle.std.proofs.Common.{◌≡◌, string_bytes, option_map, sym, ap, ◌∙◌, true≢false}
+use Rattle.std.proofs.Common.{◌≡◌, string_bytes, sym, ap, ◌∙◌, true≢false, rules}
 use Rattle.serde_json.specs.Find.{get_member}
-use Rattle.serde_json.specs.View.{view, members_view}
+use Rattle.serde_json.specs.View.{members_view}
 use Rattle.serde_json.proofs.Views.{Entry, member_here, member_later, view_of_ref, view-lookup}
 use Rattle.jsonptr.specs.Pointers.{token_of}
 use Rattle.json_patch.proofs.walk.member_of.Goals as goal
 
 pub returns-then-is_key : goal.returns-then-is_key
-returns-then-is_key c =
-    view_of_ref c.get.result ∙ ap (option_map view) c.get.ensures.value ∙ view-lookup c.encoded-name.result.now c.args.members.now.entries
-    ∙ ap (λ name. get_member name (members_view c.args.members.now.entries)) (sym (c.is_key.ensures.0 c.if-is_key.true))
+returns-then-is_key c = search (rules, view_of_ref c.get.result, view-lookup c.encoded-name.result.now c.args.members.now.entries)
 
 pub loop-key-preserved : goal.loop-key-preserved
 loop-key-preserved c =

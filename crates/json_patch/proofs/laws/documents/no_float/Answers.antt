@@ -1,5 +1,0 @@
-use Rattle.json_patch.proofs.Floats.{no_float}
-use Rattle.json_patch.proofs.laws.documents.no_float.Goals as goal
-
-pub returns : goal.returns
-returns c = no_float

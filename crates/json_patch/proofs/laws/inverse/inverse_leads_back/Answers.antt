@@ -1,5 +1,0 @@
-use Rattle.json_patch.proofs.Back.{inverse_leads_back as lemma}
-use Rattle.json_patch.proofs.laws.inverse.inverse_leads_back.Goals as goal
-
-pub returns : goal.returns
-returns c = lemma
