@@ -1,7 +1,6 @@
 use Rattle.std.proofs.Common.{Ok, rules}
 use Rattle.serde_json.specs.View.{view}
 use Rattle.jsonptr.specs.Pointers.{tokens_of}
-use Rattle.json_patch.specs.Operation.{add}
 use Rattle.json_patch.specs.declared.walk.Displaced.{Displaced}
 use Rattle.json_patch.proofs.Parents.{move_goes, move_stops}
 use Rattle.json_patch.proofs.record.record_move.Goals as goal
