@@ -45,7 +45,7 @@ walks_to_no_item r kind wanted f t old new m len q o n e gives at past = search 
 
 pub walks_to_no_member : (wanted : Option Data) (f : Data → Option Data) (t : List ℕ) (old new : Value) (m n : BTreeMap (String Global) Value)
     → wanted ≡ within f t (view old) → old ≡ Object m → new ≡ Object n → None ≡ lookup (is_named t) m.entries → n ≡ m → (wanted ≡ None) × (view new ≡ view old)
-walks_to_no_member wanted f t old new m n q o p none same = (rw (q, o, view-Object m) ((search (rules, no_member t m.entries None, goes_none (object (members_view m.entries)), no_member, goes_none))), rw (o, p, same))
+walks_to_no_member wanted f t old new m n q o p none same = (rw (q, o, view-Object m) ((search (rules, no_member t m.entries None, goes_none (object (members_view m.entries)), no_member))), rw (o, p, same))
 
 -- the next token of the way
 pub next_within : (f : Data → Option Data) (d : Data) (P rest : Pointer) (t : List ℕ) → P ≡ t ∷ rest → altered f d P ≡ within (λ c. altered f c rest) t d
