@@ -113,7 +113,7 @@ take_past os k le = grind (arith, common_steps)
 
 operations-reverse : (os : List PatchOperation) → operations (reverse os) ≡ reverse (operations os)
 operations-reverse [] = refl
-operations-reverse (x ∷ os) = search (rules, reverse-append (x ∷ []) os, map-append operation_of (reverse os) (x ∷ []), reverse-append (operation_of x ∷ []) (operations os), operations-reverse os, reverse-append, map-append)
+operations-reverse (x ∷ os) = search (rules, reverse-append (x ∷ []) os, map-append operation_of (reverse os) (x ∷ []), reverse-append (operation_of x ∷ []) (operations os), operations-reverse os)
 
 pub record Records (d e : Data) (ops undo : List Operation) : Type 0 where
   pub inverse : IsInverse d ops undo

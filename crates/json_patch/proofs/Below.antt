@@ -12,7 +12,6 @@ use Rattle.json_patch.specs.declared.error.PatchErrorKind.{PatchErrorKind}
 use Rattle.json_patch.specs.declared.error.PatchErrorKind.TheVariants.{TestFailed, InvalidPointer, CannotMoveInsideItself}
 use Rattle.json_patch.specs.Shared.{IsWithin, AreWithin}
 use Rattle.json_patch.specs.ChangeComputed.{step_of, set_child, found, altered, added, removed, replaced, front_of, last_of, put_in, take_from}
-use Rattle.json_patch.specs.SameComputed.{same}
 use Rattle.json_patch.specs.RunComputed.{begins, or_refused, moved, copied, tested, stepped, Outcome, fault, counted, ran_on, ran}
 use Rattle.json_patch.specs.SharedComputed.{stripped, stripped_all}
 use Rattle.json_patch.proofs.Children.{child_document, child_set, child_set_other, sight_set, set_document, step_cases}

@@ -38,7 +38,7 @@ module _ (d : Data) (P : Pointer) where
 
 module _ (d : Data) (t : List ℕ) (P : Pointer) where
   takes_back : (p : Data) (s : Step) → Aims p (last_of t P) s → TakesBack d (t ∷ P) s (undo_in d (front_of t P) (last_of t P) (t ∷ P) (Some p))
-  takes_back (array ds) (place i) aims = search (rules, split_whole t P, settled (last_of t P) ds i aims, split_whole, settled)
+  takes_back (array ds) (place i) aims = search (rules, split_whole t P, settled (last_of t P) ds i aims)
   takes_back (object ms) (key k) aims = member_back d (t ∷ P) k (found d (t ∷ P)) refl
   takes_back p s aims = absurd aims
 

@@ -39,19 +39,13 @@ pub walks_to_member : {T : Type 0} (r : Result T StepFault) (wanted : Option Dat
     → Attempts r wanted (view old) (view new)
 walks_to_member r wanted f t old new m n v w q o p order is wrote h = rw (q, o, p, view-Object m, view-Object n) (search (rules, member_child, members_view-set_value, members_view-set_same))
 
-within_no_item : (f : Data → Option Data) (t : List ℕ) (m : Vec Value Global) (len : ℕ) → len ≡ vec_len m → IsNoItem t len → within f t (array (items_view m.items)) ≡ None
-within_no_item f t m len e past = search (rules, no_item t m len, goes_none (array (items_view m.items)), no_item, goes_none)
-
-within_no_member : (f : Data → Option Data) (t : List ℕ) (m : BTreeMap (String Global) Value) → None ≡ lookup (is_named t) m.entries → within f t (object (members_view m.entries)) ≡ None
-within_no_member f t m none = search (rules, no_member t m.entries None, goes_none (object (members_view m.entries)), no_member, goes_none)
-
 pub walks_to_no_item : {T : Type 0} (r : Result T StepFault) (kind : PatchErrorKind) (wanted : Option Data) (f : Data → Option Data) (t : List ℕ) (old new : Value) (m : Vec Value Global) (len : ℕ)
     → wanted ≡ within f t (view old) → old ≡ Array m → new ≡ Array m → len ≡ vec_len m → IsErr r × IsErrAnd r (λ x. x ≡ Refused kind) → kind ≡ InvalidPointer → IsNoItem t len → Attempts r wanted (view old) (view new)
-walks_to_no_item r kind wanted f t old new m len q o n e gives at past = search (rules, refused, view-Array, within_no_item)
+walks_to_no_item r kind wanted f t old new m len q o n e gives at past = search (rules, refused, view-Array, no_item t m len, goes_none (array (items_view m.items)), no_item, goes_none)
 
 pub walks_to_no_member : (wanted : Option Data) (f : Data → Option Data) (t : List ℕ) (old new : Value) (m n : BTreeMap (String Global) Value)
     → wanted ≡ within f t (view old) → old ≡ Object m → new ≡ Object n → None ≡ lookup (is_named t) m.entries → n ≡ m → (wanted ≡ None) × (view new ≡ view old)
-walks_to_no_member wanted f t old new m n q o p none same = (rw (q, o, view-Object m) (within_no_member f t m none), rw (o, p, same))
+walks_to_no_member wanted f t old new m n q o p none same = (rw (q, o, view-Object m) ((search (rules, no_member t m.entries None, goes_none (object (members_view m.entries)), no_member))), rw (o, p, same))
 
 -- the next token of the way
 pub next_within : (f : Data → Option Data) (d : Data) (P rest : Pointer) (t : List ℕ) → P ≡ t ∷ rest → altered f d P ≡ within (λ c. altered f c rest) t d

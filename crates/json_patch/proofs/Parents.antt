@@ -68,7 +68,7 @@ undo_found was v d c P F t is at h = search rules
 
 pub undo_as_found : (r : Result Displaced StepFault) (v : Value) (d : Data) (P F : Pointer) (t : List ℕ) (x : Data) → P ≡ F ++ t ∷ [] → IfOk r (DisplacesAt (Insert v) d F t) → IfOk r (Undoes d (add P x))
 undo_as_found (Err e) v d P F t x is h = h
-undo_as_found (Ok was) v d P F t x is h = search (rules, undo_add_in d P F t is, undo_found was v d h.0 P F t is h.1 h.2, undo_add_in, undo_found)
+undo_as_found (Ok was) v d P F t x is h = search (rules, undo_add_in d P F t is, undo_found was v d h.0 P F t is h.1 h.2)
 
 pub undo_swapped : (r : Result Displaced StepFault) (v : Value) (d : Data) (P F : Pointer) (t : List ℕ) (x : Data) → P ≡ F ++ t ∷ [] → IfOk r (DisplacesAt (Swap v) d F t) → IfOk r (Undoes d (replace P x))
 undo_swapped r v d P F t x is h = search (rules, found_in)

@@ -1,5 +1,5 @@
 -- A value reads as one patch, or is refused with one number and kind; what is written reads back.
-use Rattle.std.proofs.Common.{◌≡◌, ℕ, zero, suc, List, [], ◌∷◌, map, ◌⊎◌, Option, Some, None, refl, sym, ◌∙◌, inl, inr, ⊎_elim, codes, Bool, true, false, true≢false, rules, ap, subst}
+use Rattle.std.proofs.Common.{◌≡◌, ℕ, zero, suc, List, [], ◌∷◌, map, ◌⊎◌, Option, Some, None, refl, sym, ◌∙◌, inl, inr, ⊎_elim, codes, Bool, false, true≢false, rules, ap, subst}
 use Rattle.std.specs.Str.{bytes_eq}
 use Rattle.std.proofs.lemmas.Slice.Eq.{bytes_eq-Decides}
 use Rattle.serde_json.specs.Data.{Data, null, string, array, Items, no_items, item}
@@ -45,25 +45,17 @@ apart a b differs e = true≢false (sym ((bytes_eq-Decides a b).1 e) ∙ differs
 same_field_names : (op other : Operation) → name_of op ≡ name_of other → field_names op ≡ field_names other
 same_field_names op other e = search rules
 
--- what is at fault by its `op` is at fault by the members of any operation of that name
-field_fault : (v : Data) (op other : Operation) (kind : ReadKind) → get (codes "op") v ≡ Some (string (name_of op)) → get (codes "op") v ≡ Some (string (name_of other))
-    → IsFieldFault (field_names other) v kind → IsFieldFault (field_names op) v kind
-field_fault v op other kind e g f = search rules
-
 reads_no_fault : (v : Data) (op : Operation) → ReadsOperation v op → (kind : ReadKind) → IsOperationFault v kind → ⊥
 reads_no_fault v op h NotAnObject f = f (search rules)
 reads_no_fault v op h MissingOp f = found_lacks v (codes "op") _ h.0.0 f
 reads_no_fault v op h OpNotText f = found_text v (codes "op") _ h.0.0 f
 reads_no_fault v op h UnknownOp f = f.2 op (search rules)
-reads_no_fault v op h kind f = reads_no_field_fault v op (h.0.1, h.1) kind (field_fault v op f.0 kind h.0.0 f.1 f.2)
+reads_no_fault v op h kind f = reads_no_field_fault v op (h.0.1, h.1) kind (search rules)
 
 -- ---- one operation is read
 
-same_fields : (v : Data) (op other : Operation) → name_of op ≡ name_of other → ReadsFields v op → ReadsFields v other → other ≡ op
-same_fields v op other e h g = search (rules, same_pointer, apart)
-
 same_operation : (v : Data) (op other : Operation) → ReadsOperation v op → ReadsOperation v other → other ≡ op
-same_operation v op other h g = search (rules, same_fields v op other, same_fields)
+same_operation v op other h g = search (rules, same_pointer, apart)
 
 -- ---- the members are read, or there is a first fault
 
@@ -143,7 +135,7 @@ reads_no_like_fault v op like e h kind f =
 
 -- a value reads as one operation like this one, or is refused for one kind
 pub read_like_or_refused : (like : Operation) (v : Data) → ((op : Operation) × IsReadLike like v op) ⊎ ((kind : ReadKind) × IsUnreadLike like v kind)
-read_like_or_refused like v = search (rules, same_fields v, reads_no_like_fault v, fields_fault_one (field_names like) v, fields_read_or_refused v like, same_fields, reads_no_like_fault, fields_fault_one, fields_read_or_refused)
+read_like_or_refused like v = search (rules, same_pointer, apart, reads_no_like_fault v, fields_fault_one (field_names like) v, fields_read_or_refused v like, reads_no_like_fault, fields_fault_one, fields_read_or_refused)
 
 -- ---- by the name in `op`
 

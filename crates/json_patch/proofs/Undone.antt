@@ -93,7 +93,7 @@ set_one t v w ms = rw (get_member-put t v ms) refl
 
 put_over_back : (t : List ℕ) (v w : Data) (ms : Members) (q : Data) → IsDocument (object ms) → IsDocument v → get_member t ms ≡ Some w → put_in v t (object ms) ≡ Some q
     → altered (λ c. Some w) q (t ∷ []) ≡ Some (object ms)
-put_over_back t v w ms q h hv was is = search (rules, set_one t v w ms, set_back (key t) (object ms) w v h hv was, set_one, set_back)
+put_over_back t v w ms q h hv was is = search (rules, set_one t v w ms, set_back (key t) (object ms) w v h hv was)
 
 pub found_last : (d : Data) (t : List ℕ) (P : Pointer) (p : Data) → found d (front_of t P) ≡ Some p → found d (t ∷ P) ≡ found p (last_of t P ∷ [])
 found_last d t P p at = ap (found d) (split_whole t P) ∙ found_append d (front_of t P) (last_of t P ∷ []) ∙ ap (option_and_then (λ x. found x (last_of t P ∷ []))) at

@@ -1,4 +1,4 @@
-use Rattle.std.proofs.Common.{◌-◌, Err, Vec, Global, rules}
+use Rattle.std.proofs.Common.{Err, Vec, Global, rules}
 use Rattle.serde_json.specs.View.{view}
 use Rattle.jsonptr.specs.Pointers.{tokens_of}
 use Rattle.json_patch.specs.Operation.{operation_of}
