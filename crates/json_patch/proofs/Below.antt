@@ -7,7 +7,7 @@ use Rattle.serde_json.specs.Data.{Data}
 use Rattle.jsonptr.specs.Text.{Pointer, IsProperPrefix}
 use Rattle.json_patch.specs.Document.{IsDocument, Step, child}
 use Rattle.json_patch.specs.Resolve.{Resolves}
-use Rattle.json_patch.specs.Operation.{Operation, add, remove, replace, move, copy, test, IsWholeOp, AreWhole}
+use Rattle.json_patch.specs.Operation.{Operation, remove, replace, move, IsWholeOp, AreWhole}
 use Rattle.json_patch.specs.declared.error.PatchErrorKind.{PatchErrorKind}
 use Rattle.json_patch.specs.declared.error.PatchErrorKind.TheVariants.{TestFailed, InvalidPointer, CannotMoveInsideItself}
 use Rattle.json_patch.specs.Shared.{IsWithin, AreWithin}
@@ -172,17 +172,12 @@ module _ (d : Data) (S : Pointer) (b : Data) (hd : IsDocument d) (at : found d S
       (moved_under u P (found b (t ∷ F)) (removed b (t ∷ F)) (λ v is. found_document b (t ∷ F) v there is) (λ m is. (removed_is b (t ∷ F) m there is).4)))
 
   pub stepped_under : (op : Operation) → IsWithin S op → stepped d op ≡ lifted d S (stepped b (stripped S op))
-  stepped_under (add P v) h =
-      with_one S (λ Q R. stepped d (add Q v) ≡ lifted d S (stepped b (add R v))) (λ t Q. ap (or_refused InvalidPointer) (added_under d S t Q v b at) ∙ lifted_or d S (added b (t ∷ Q) v)) P h
   stepped_under (remove P) h =
       with_one S (λ Q R. stepped d (remove Q) ≡ lifted d S (stepped b (remove R))) (λ t Q. ap (or_refused InvalidPointer) (removed_under d S t Q b at) ∙ lifted_or d S (removed b (t ∷ Q))) P h
   stepped_under (replace P v) h =
       with_one S (λ Q R. stepped d (replace Q v) ≡ lifted d S (stepped b (replace R v)))
       (λ t Q. ap (or_refused InvalidPointer) (altered_under (λ c. Some v) d S (t ∷ Q) b at) ∙ lifted_or d S (replaced b (t ∷ Q) v)) P h
-  stepped_under (move F P) h = with_two S (λ G H Q R. stepped d (move G Q) ≡ lifted d S (stepped b (move H R))) (λ t G u Q. move_under t G u Q) F P h.0 h.1
-  stepped_under (copy F P) h = grind (arith, common_steps, with_two S, found_under d S, copied_under)
-  stepped_under (test P v) h =
-      with_one S (λ Q R. stepped d (test Q v) ≡ lifted d S (stepped b (test R v))) (λ t Q. ap (tested d v) (found_under d S (t ∷ Q) b at) ∙ tested_under v (found b (t ∷ Q))) P h
+  stepped_under op h = search (rules, with_one, added_under, lifted_or, with_two, move_under, common_steps, found_under, copied_under, tested_under)
 
 -- ---- runs
 

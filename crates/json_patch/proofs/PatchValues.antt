@@ -1,5 +1,5 @@
 -- A value reads as one patch, or is refused with one number and kind; what is written reads back.
-use Rattle.std.proofs.Common.{◌≡◌, ℕ, zero, suc, List, [], ◌∷◌, map, ◌⊎◌, Option, Some, None, refl, sym, ◌∙◌, inl, inr, ⊎_elim, codes, Bool, false, true≢false, rules, ap, subst}
+use Rattle.std.proofs.Common.{◌≡◌, ℕ, zero, suc, List, [], ◌∷◌, map, ◌⊎◌, Option, Some, None, refl, sym, ◌∙◌, inl, inr, ⊎_elim, codes, Bool, false, true≢false, rules, subst}
 use Rattle.std.specs.Str.{bytes_eq}
 use Rattle.std.proofs.lemmas.Slice.Eq.{bytes_eq-Decides}
 use Rattle.serde_json.specs.Data.{Data, null, string, array, Items, no_items, item}
@@ -111,8 +111,7 @@ read_path_and_value v =
     of_object path_and_value v (λ is. then (read_path path_and_value v is (λ h. cc) (text_at v (codes "path") is)) (λ P. read_value v P (held_at v (codes "value") is)))
 
 read_from_and_path : (v : Data) → (FoundText v (codes "from") × FoundText v (codes "path")) ⊎ Unread from_and_path v
-read_from_and_path v =
-    of_object from_and_path v (λ is. then (read_from from_and_path v is refl (text_at v (codes "from") is)) (λ F. read_path from_and_path v is (λ h. F) (text_at v (codes "path") is)))
+read_from_and_path v = search (rules, of_object, then, read_from, text_at, read_path)
 
 -- the members of an operation like this one are read, or there is a first fault
 abbrev FieldsOutcome : Data → Operation → Type 0
@@ -203,8 +202,7 @@ same_items_read ds ops others h g = search rules
 same_item_refused : (ds : Items) (k j : ℕ) (kind other : ReadKind) → RefusesItem ds k kind → RefusesItem ds j other → (j ≡ k) × (other ≡ kind)
 same_item_refused (item d ds) zero (suc j) kind other h g = absurd (reads_no_fault d g.0 g.1 kind h.here)
 same_item_refused (item d ds) (suc k) zero kind other h g = absurd (reads_no_fault d h.0 h.1 other g.here)
-same_item_refused (item d ds) (suc k) (suc j) kind other h g =
-    let rest = same_item_refused ds k j kind other h.2 g.2 in (ap suc rest.0, rest.1)
+same_item_refused (item d ds) (suc k) (suc j) kind other h g = search (rules, same_item_refused ds k j kind other)
 same_item_refused ds k j kind other h g = search (rules, operation_fault_one)
 
 -- a list reads as one patch, or is refused at one item for one kind

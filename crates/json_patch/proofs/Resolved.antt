@@ -31,11 +31,9 @@ split_whole t [] = refl
 split_whole t (u ∷ P) = ap (λ Q. t ∷ Q) (split_whole u P)
 
 pub split_is : (t : List ℕ) (P A : List (List ℕ)) (b : List ℕ) → t ∷ P ≡ A ++ b ∷ [] → (A ≡ front_of t P) × (b ≡ last_of t P)
-split_is t [] [] b h = (refl, cc)
-split_is t [] (a ∷ []) b h = cc
 split_is t [] (a ∷ c ∷ A) b h = cc
-split_is t (u ∷ P) [] b h = cc
 split_is t (u ∷ P) (a ∷ A) b h = search (rules, split_is u P A b)
+split_is t P A b h = search rules
 
 -- ---- the last step
 

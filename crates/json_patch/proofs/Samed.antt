@@ -10,7 +10,7 @@ use Rattle.json_patch.specs.Operation.{Operation, Parts, parts_of, operation_of,
 use Rattle.json_patch.specs.declared.operation.PatchOperation.{PatchOperation}
 use Rattle.json_patch.specs.Same.{AreSame, AreSameItems, AreSameMembers, AreSameAt, AreSameParts, AreSameOperations, AreSameLists}
 use Rattle.json_patch.specs.SameComputed.{same, same_parts, same_operation}
-use Rattle.json_patch.specs.SameLaws.{AreSame-refl, AreSame-sym, same-Decides, parts-refl, parts-Decides}
+use Rattle.json_patch.specs.SameLaws.{AreSame-refl, AreSame-sym, AreSame-trans, same-Decides, parts-refl, parts-Decides}
 
 mutual
   pub AreSame-is : (d e : Data) → IsDocument d → AreSame d e → d ≡ e
@@ -74,3 +74,6 @@ tests-Decide xs ys = search rules
 pub operations_say : (r : Bool) (xs ys : List PatchOperation) → r ≡ pointwise (on operation_of same_operation) xs ys
     → IsTrue r ↔ AreSameLists (operations xs) (operations ys)
 operations_say r xs ys is = Decides-at r (pointwise (on operation_of same_operation) xs ys) is (tests-Decide xs ys)
+
+-- what the laws of equality follow from
+pub ruleset laws_of_equality = (AreSame-refl, AreSame-sym, AreSame-trans, AreSame-document, AreSameLists-whole)

@@ -111,10 +111,9 @@ pub not_shared : (ops : List Operation) (S : Pointer) → shared ops ≡ None �
 not_shared ops S is h = shared_none (all_pointers ops) S (some_pointers ops h.some) is (within_begun S ops h.within)
 
 prefix_same : (P Q : Pointer) → IsPrefix P Q → IsPrefix Q P → P ≡ Q
-prefix_same [] [] h g = refl
 prefix_same [] (u ∷ Q) h g = let e : [] ≡ u ∷ (Q ++ g.0) = g.1 in cc
-prefix_same (t ∷ P) [] h g = let e : [] ≡ t ∷ (P ++ h.0) = h.1 in cc
 prefix_same (t ∷ P) (u ∷ Q) h g = search (rules, prefix_same P Q)
+prefix_same P Q h g = search rules
 
 pub shared_one : (ops : List Operation) (S T : Pointer) → IsShared ops S → IsShared ops T → S ≡ T
 shared_one ops S T h g = prefix_same S T (g.longest S h.within) (h.longest T g.within)
