@@ -4,24 +4,25 @@ use Rattle.std.proofs.Common.{◌≡◌, ℕ, suc, List, [], ◌∷◌, Option, 
 use Rattle.std.specs.Cmp.Lexicographic.{slice_cmp}
 use Rattle.serde_json.specs.Data.{Data, null, boolean, number, string, array, object, Items, no_items, item, Members, no_members, member}
 use Rattle.serde_json.specs.Find.{get_member}
-use Rattle.json_patch.specs.Document.{IsDocument, AreDocuments, AreMembers, IsBelowMembers, Step, key, place, look, sight, sight_of, standing, nothing, Sight}
+use Rattle.json_patch.specs.Document.{IsDocument, AreDocuments, AreMembers, IsBelowMembers, Segment, key, place, look, sight, sight_of, value_at}
+use Rattle.json_patch.specs.Sight.{Sight}
 use Rattle.json_patch.proofs.Members.{tied_same, less_back, below_more, below_absent, found_first}
 
-pub something : (d : Data) → sight_of d ≡ nothing → ⊥
+pub something : (d : Data) → sight_of d ≡ Sight.nothing → ⊥
 something d h = search rules
 
 -- what is seen from what stands below a step
-abbrev pub seen : Option Data → List Step → Sight
-seen o R = sight (option_and_then (λ e. standing e R) o)
+abbrev pub seen : Option Data → List Segment → Sight
+seen o R = sight (option_and_then (λ e. value_at e R) o)
 
 abbrev AreAlike : Members → Members → Type 0
-AreAlike ms ns = (q : List ℕ) (R : List Step) → seen (get_member q ms) R ≡ seen (get_member q ns) R
+AreAlike ms ns = (q : List ℕ) (R : List Segment) → seen (get_member q ms) R ≡ seen (get_member q ns) R
 
 module _ (k : List ℕ) (d e : Data) (ms ns : Members) (below : IsBelowMembers k ms) (under : IsBelowMembers k ns) (same : AreAlike (member k d ms) (member k e ns)) where
-  value_same : (R : List Step) → look d R ≡ look e R
+  value_same : (R : List Segment) → look d R ≡ look e R
   value_same R = rw (found_first k d ms, found_first k e ns) at (same k R)
 
-  rest_at : (q : List ℕ) (R : List Step) (o : Ordering) → slice_cmp nat_cmp q k ≡ o → seen (get_member q ms) R ≡ seen (get_member q ns) R
+  rest_at : (q : List ℕ) (R : List Segment) (o : Ordering) → slice_cmp nat_cmp q k ≡ o → seen (get_member q ms) R ≡ seen (get_member q ns) R
   rest_at q R Less is = rw is at (same q R)
   rest_at q R Equal is = let e : q ≡ k = tied_same q k is in rw (e, below_absent k ms below, below_absent k ns under)
   rest_at q R Greater is = rw is at (same q R)
@@ -31,13 +32,13 @@ apart : (k : List ℕ) (d : Data) (ms ns : Members) → IsBelowMembers k ns → 
 apart k d ms ns h same = something d (rw (found_first k d ms, below_absent k ns h) at same)
 
 members_step : (o : Ordering) (k l : List ℕ) (d e : Data) (ms ns : Members) → slice_cmp nat_cmp k l ≡ o → IsBelowMembers k ms → IsBelowMembers l ns
-    → AreAlike (member k d ms) (member l e ns) → (((R : List Step) → look d R ≡ look e R) → d ≡ e) → (AreAlike ms ns → ms ≡ ns) → member k d ms ≡ member l e ns
+    → AreAlike (member k d ms) (member l e ns) → (((R : List Segment) → look d R ≡ look e R) → d ≡ e) → (AreAlike ms ns → ms ≡ ns) → member k d ms ≡ member l e ns
 members_step Less k l d e ms ns is below under same value rest = grind (arith, common_steps, apart k d ms (member l e ns) (is, below_more k l ns is under) (same k []), below_more k l ns is under)
 members_step Equal k l d e ms ns is below under same value rest = grind (arith, common_steps, value_same k d e ms ns below, rest_at k d e ms ns below, tied_same k l is)
 members_step Greater k l d e ms ns is below under same value rest = grind (arith, common_steps, less_back k l is, apart l e ns (member k d ms), below_more l k ms)
 
 mutual
-  pub alike : (d e : Data) → IsDocument d → IsDocument e → ((L : List Step) → look d L ≡ look e L) → d ≡ e
+  pub alike : (d e : Data) → IsDocument d → IsDocument e → ((L : List Segment) → look d L ≡ look e L) → d ≡ e
   alike (array ds) (array es) hd he same = ap array (items_alike ds es hd he (λ i R. same (place i ∷ R)))
   alike (object ms) (object ns) hd he same = ap object (members_alike ms ns hd he (λ k R. same (key k ∷ R)))
   alike null null hd he same = refl
@@ -46,7 +47,7 @@ mutual
   alike (string s) (string t) hd he same = let h = same [] in cc
   alike d e hd he same = let h = same [] in cc
 
-  items_alike : (ds es : Items) → AreDocuments ds → AreDocuments es → ((i : ℕ) (R : List Step) → look (array ds) (place i ∷ R) ≡ look (array es) (place i ∷ R)) → ds ≡ es
+  items_alike : (ds es : Items) → AreDocuments ds → AreDocuments es → ((i : ℕ) (R : List Segment) → look (array ds) (place i ∷ R) ≡ look (array es) (place i ∷ R)) → ds ≡ es
   items_alike no_items no_items hd he same = refl
   items_alike no_items (item e es) hd he same = absurd (something e (sym (same 0 [])))
   items_alike (item d ds) no_items hd he same = absurd (something d (same 0 []))

@@ -3,23 +3,23 @@ use Rattle.std.proofs.Common.{◌≡◌, inl, inr, ⊎_elim, ℕ, List, [], ◌�
 use Rattle.serde_json.specs.Data.{Data, array, object, Items}
 use Rattle.jsonptr.specs.Text.{Pointer}
 use Rattle.jsonptr.specs.Places.{place_of, next_token}
-use Rattle.json_patch.specs.Document.{IsDocument, Step, key, place}
+use Rattle.json_patch.specs.Document.{IsDocument, Segment, key, place}
 use Rattle.json_patch.specs.Resolve.{Aims}
 use Rattle.json_patch.specs.Operation.{Operation, add, remove, replace, move, copy, test, IsWholeOp, AreWhole}
 use Rattle.json_patch.specs.Step.{Leaves}
 use Rattle.json_patch.specs.Run.{Accepts}
 use Rattle.json_patch.specs.Inverse.{TakesBack, UndoesAdd, IsBlock, IsInverse}
-use Rattle.json_patch.specs.ChangeComputed.{found, added, front_of, last_of, put_in}
+use Rattle.json_patch.specs.ChangeComputed.{pointee, after_add, front_of, last_of, put_in}
 use Rattle.json_patch.specs.InverseComputed.{settled_token, undo_at, undo_in, undo_add, block, inverse}
-use Rattle.json_patch.proofs.Found.{found_resolves, resolves_found}
-use Rattle.json_patch.proofs.Resolved.{split_whole, split_is}
-use Rattle.json_patch.proofs.Altered.{IsAltered, altered_is}
+use Rattle.json_patch.proofs.Pointees.{found_resolves, resolves_found}
+use Rattle.json_patch.proofs.Locations.{split_whole, split_is}
+use Rattle.json_patch.proofs.Alterations.{IsAltered, altered_is}
 use Rattle.json_patch.proofs.Slots.{PutsIn, put_in_puts}
-use Rattle.json_patch.proofs.Exact.{added_exact, removed_exact}
-use Rattle.json_patch.proofs.Stepped.{stands_found, stands_document, removed_document, found_never, never_found, leaves_document}
-use Rattle.json_patch.proofs.Undone.{settled_place}
+use Rattle.json_patch.proofs.OneResult.{added_exact, removed_exact}
+use Rattle.json_patch.proofs.StepOutcomes.{stands_found, stands_document, removed_document, found_never, never_found, leaves_document}
+use Rattle.json_patch.proofs.BlocksLeadBack.{settled_place}
 use Rattle.jsonptr.specs.PlaceLaws.{place_is_token}
-use Rattle.json_patch.proofs.Inverted.{inverse_step}
+use Rattle.json_patch.proofs.InverseRuns.{inverse_step}
 
 -- ---- a last token as a number
 
@@ -32,33 +32,33 @@ settled_only t ds i u h is = (place_is_token u i).0 is ∙ sym ((place_is_token 
 -- ---- what undoes an add
 
 module _ (d : Data) (P : Pointer) where
-  member_back : (k : List ℕ) (o : Option Data) → found d P ≡ o → TakesBack d P (key k) (undo_at P o)
+  member_back : (k : List ℕ) (o : Option Data) → pointee d P ≡ o → TakesBack d P (key k) (undo_at P o)
   member_back k None is = inl (found_never d P is, refl)
   member_back k (Some w) is = inr (w, found_resolves d P w is, refl)
 
 module _ (d : Data) (t : List ℕ) (P : Pointer) where
-  takes_back : (p : Data) (s : Step) → Aims p (last_of t P) s → TakesBack d (t ∷ P) s (undo_in d (front_of t P) (last_of t P) (t ∷ P) (Some p))
+  takes_back : (p : Data) (s : Segment) → Aims p (last_of t P) s → TakesBack d (t ∷ P) s (undo_in d (front_of t P) (last_of t P) (t ∷ P) (Some p))
   takes_back (array ds) (place i) aims = search (rules, split_whole t P, settled (last_of t P) ds i aims)
-  takes_back (object ms) (key k) aims = member_back d (t ∷ P) k (found d (t ∷ P)) refl
+  takes_back (object ms) (key k) aims = member_back d (t ∷ P) k (pointee d (t ∷ P)) refl
   takes_back p s aims = absurd aims
 
-  back_only : (p : Data) (s : Step) (u : Operation) → Aims p (last_of t P) s → TakesBack d (t ∷ P) s u → u ≡ undo_in d (front_of t P) (last_of t P) (t ∷ P) (Some p)
+  back_only : (p : Data) (s : Segment) (u : Operation) → Aims p (last_of t P) s → TakesBack d (t ∷ P) s u → u ≡ undo_in d (front_of t P) (last_of t P) (t ∷ P) (Some p)
   back_only (object ms) (key k) u aims h =
       ⊎_elim (λ n. n.1 ∙ ap (undo_at (t ∷ P)) (sym (never_found d (t ∷ P) n.0))) (λ w. w.2 ∙ ap (undo_at (t ∷ P)) (sym (stands_found d (t ∷ P) w.0 w.1))) h
   back_only p s u aims h = search (rules, split_is, settled_only)
 
-undoes_beyond : (d : Data) (t : List ℕ) (P : Pointer) (v e : Data) → added d (t ∷ P) v ≡ Some e → UndoesAdd d (t ∷ P) (undo_add d (t ∷ P))
+undoes_beyond : (d : Data) (t : List ℕ) (P : Pointer) (v e : Data) → after_add d (t ∷ P) v ≡ Some e → UndoesAdd d (t ∷ P) (undo_add d (t ∷ P))
 undoes_beyond d t P v e is =
     let a : IsAltered (put_in v (last_of t P)) d (front_of t P) e = altered_is (put_in v (last_of t P)) d (front_of t P) e is in
     let i : PutsIn v (last_of t P) a.p a.q = put_in_puts v (last_of t P) a.p a.q a.result in
-    let at : found d (front_of t P) ≡ Some a.p = resolves_found d (front_of t P) a.L a.p a.resolves in (
+    let at : pointee d (front_of t P) ≡ Some a.p = resolves_found d (front_of t P) a.L a.p a.resolves in (
       a.L,
       i.s,
       record { front = front_of t P; last = last_of t P; whole = split_whole t P; parent = a.p; resolves = a.resolves; aims = i.aims },
       subst (λ o. TakesBack d (t ∷ P) i.s (undo_in d (front_of t P) (last_of t P) (t ∷ P) o)) (sym at) (takes_back d t P a.p i.s i.aims),
     )
 
-undoes_is : (d : Data) (P : Pointer) (v e : Data) → added d P v ≡ Some e → UndoesAdd d P (undo_add d P)
+undoes_is : (d : Data) (P : Pointer) (v e : Data) → after_add d P v ≡ Some e → UndoesAdd d P (undo_add d P)
 undoes_is d [] v e is = refl
 undoes_is d (t ∷ P) v e is = undoes_beyond d t P v e is
 

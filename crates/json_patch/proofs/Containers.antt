@@ -9,8 +9,8 @@ use Rattle.serde_json.specs.View.{view, items_view, members_view}
 use Rattle.serde_json.specs.declared.value.Value.{Value}
 use Rattle.serde_json.proofs.Views.{Entry, view-lookup, get_item_within, get_item_past, items_len-items_view, members_view-insert_entry}
 use Rattle.jsonptr.specs.Places.{place_of}
-use Rattle.json_patch.specs.Document.{Step, key, place, child}
-use Rattle.json_patch.specs.ChangeComputed.{slot_in, step_of, put_in, take_from, set_child, drop_child, found, altered}
+use Rattle.json_patch.specs.Document.{Segment, key, place, child}
+use Rattle.json_patch.specs.ChangeComputed.{slot_in, segment_of, put_in, take_from, set_child, drop_child, pointee, after_change}
 use Rattle.json_patch.proofs.Writes.{is_named, AreInOrder, items_view-set, items_view-insert, items_view-remove, members_view-remove_entry, members_view-set_value}
 
 -- the token names the item at i, among so many
@@ -29,36 +29,36 @@ item_child t m len i v e at is = sym (ap (λ x. Some (view x)) is ∙ get_item_w
 pub member_child : (t : List ℕ) (es : List Entry) (o : Option Value) (v : Value) → o ≡ Some v → o ≡ lookup (is_named t) es → child (key t) (object (members_view es)) ≡ Some (view v)
 member_child t es o v some is = sym (view-lookup t es) ∙ ap (option_map view) (sym is ∙ some)
 
-no_item_at : (o : Option ℕ) (vs : List Value) (h : Step → Option Data) → ((s : Step) → child s (array (items_view vs)) ≡ None → h s ≡ None) → ((i : ℕ) → o ≡ Some i → length vs ≤ i)
+no_item_at : (o : Option ℕ) (vs : List Value) (h : Segment → Option Data) → ((s : Segment) → child s (array (items_view vs)) ≡ None → h s ≡ None) → ((i : ℕ) → o ≡ Some i → length vs ≤ i)
     → option_and_then h (option_map place o) ≡ None
 no_item_at None vs h none past = refl
 no_item_at (Some i) vs h none past = none (place i) (sym (get_item_past vs i (past i refl)))
 
 -- where the token names no item, nothing comes of what needs one
-pub no_item : (t : List ℕ) (m : Vec Value Global) (len : ℕ) (h : Step → Option Data) → ((s : Step) → child s (array (items_view m.items)) ≡ None → h s ≡ None) → len ≡ vec_len m → IsNoItem t len
-    → option_and_then h (step_of (array (items_view m.items)) t) ≡ None
+pub no_item : (t : List ℕ) (m : Vec Value Global) (len : ℕ) (h : Segment → Option Data) → ((s : Segment) → child s (array (items_view m.items)) ≡ None → h s ≡ None) → len ≡ vec_len m → IsNoItem t len
+    → option_and_then h (segment_of (array (items_view m.items)) t) ≡ None
 no_item t m len h none e past = no_item_at (place_of t) m.items h none (λ i is. (let over : len ≤ i = past i is in omega arith))
 
-pub no_member : (t : List ℕ) (es : List Entry) (o : Option Value) (h : Step → Option Data) → ((s : Step) → child s (object (members_view es)) ≡ None → h s ≡ None) → o ≡ None → o ≡ lookup (is_named t) es
-    → option_and_then h (step_of (object (members_view es)) t) ≡ None
+pub no_member : (t : List ℕ) (es : List Entry) (o : Option Value) (h : Segment → Option Data) → ((s : Segment) → child s (object (members_view es)) ≡ None → h s ≡ None) → o ≡ None → o ≡ lookup (is_named t) es
+    → option_and_then h (segment_of (object (members_view es)) t) ≡ None
 no_member t es o h none is got = none (key t) (sym (view-lookup t es) ∙ ap (option_map view) (sym got ∙ is))
 
-pub takes_none : (d : Data) (f : Step → Data → Data) (s : Step) → child s d ≡ None → option_map (f s) (child s d) ≡ None
+pub takes_none : (d : Data) (f : Segment → Data → Data) (s : Segment) → child s d ≡ None → option_map (f s) (child s d) ≡ None
 takes_none d f s is = ap (option_map (f s)) is
 
-pub goes_none : (d : Data) (f : Step → Data → Option Data) (s : Step) → child s d ≡ None → option_and_then (f s) (child s d) ≡ None
+pub goes_none : (d : Data) (f : Segment → Data → Option Data) (s : Segment) → child s d ≡ None → option_and_then (f s) (child s d) ≡ None
 goes_none d f s is = ap (option_and_then (f s)) is
 
-pub found_here : (t : List ℕ) (d : Data) (s : Step) (e : Data) → step_of d t ≡ Some s → child s d ≡ Some e → found d (t ∷ []) ≡ Some e
+pub found_here : (t : List ℕ) (d : Data) (s : Segment) (e : Data) → segment_of d t ≡ Some s → child s d ≡ Some e → pointee d (t ∷ []) ≡ Some e
 found_here t d s e named is = rw (named, is)
 
-pub found_item : (t : List ℕ) (m : Vec Value Global) (len i : ℕ) (v : Value) → len ≡ vec_len m → IsItem t len i → v ≡ get_or m.items i v → found (array (items_view m.items)) (t ∷ []) ≡ Some (view v)
+pub found_item : (t : List ℕ) (m : Vec Value Global) (len i : ℕ) (v : Value) → len ≡ vec_len m → IsItem t len i → v ≡ get_or m.items i v → pointee (array (items_view m.items)) (t ∷ []) ≡ Some (view v)
 found_item t m len i v e at is = found_here t (array (items_view m.items)) (place i) (view v) (ap (option_map place) at.1) (item_child t m len i v e at is)
 
-pub found_member : (t : List ℕ) (es : List Entry) (o : Option Value) (v : Value) → o ≡ Some v → o ≡ lookup (is_named t) es → found (object (members_view es)) (t ∷ []) ≡ Some (view v)
+pub found_member : (t : List ℕ) (es : List Entry) (o : Option Value) (v : Value) → o ≡ Some v → o ≡ lookup (is_named t) es → pointee (object (members_view es)) (t ∷ []) ≡ Some (view v)
 found_member t es o v some is = found_here t (object (members_view es)) (key t) (view v) refl (member_child t es o v some is)
 
-pub found_no_member : (t : List ℕ) (es : List Entry) (o : Option Value) → o ≡ None → o ≡ lookup (is_named t) es → found (object (members_view es)) (t ∷ []) ≡ None
+pub found_no_member : (t : List ℕ) (es : List Entry) (o : Option Value) → o ≡ None → o ≡ lookup (is_named t) es → pointee (object (members_view es)) (t ∷ []) ≡ None
 found_no_member t es o none is = no_member t es o (λ s. option_and_then (λ c. Some c) (child s (object (members_view es)))) (λ s h. goes_none (object (members_view es)) (λ r c. Some c) s h) none is
 
 -- ---- lists
@@ -79,10 +79,10 @@ pub takes_no_item : (t : List ℕ) (m : Vec Value Global) (len : ℕ) → len �
 takes_no_item t m len e past = no_item t m len (λ s. option_map (λ c. drop_child s (array (items_view m.items))) (child s (array (items_view m.items)))) (λ s h. takes_none (array (items_view m.items)) (λ r c. drop_child r (array (items_view m.items))) s h) e past
 
 pub swaps_item : (t : List ℕ) (m : Vec Value Global) (len i : ℕ) (v w x : Value) → len ≡ vec_len m → IsItem t len i → x ≡ get_or m.items i x → w ≡ v
-    → altered (λ c. Some (view v)) (array (items_view m.items)) (t ∷ []) ≡ Some (array (items_view (set m.items i w)))
+    → after_change (λ c. Some (view v)) (array (items_view m.items)) (t ∷ []) ≡ Some (array (items_view (set m.items i w)))
 swaps_item t m len i v w x e at is same = rw (at.1, item_child t m len i x e at is, ← same) (ap (λ ds. Some (array ds)) (sym (items_view-set m.items i w)))
 
-pub swaps_no_item : (t : List ℕ) (m : Vec Value Global) (len : ℕ) (d : Data) → len ≡ vec_len m → IsNoItem t len → altered (λ c. Some d) (array (items_view m.items)) (t ∷ []) ≡ None
+pub swaps_no_item : (t : List ℕ) (m : Vec Value Global) (len : ℕ) (d : Data) → len ≡ vec_len m → IsNoItem t len → after_change (λ c. Some d) (array (items_view m.items)) (t ∷ []) ≡ None
 swaps_no_item t m len d e past = no_item t m len (λ s. option_and_then (λ c. Some (set_child s d (array (items_view m.items)))) (child s (array (items_view m.items)))) (λ s h. goes_none (array (items_view m.items)) (λ r c. Some (set_child r d (array (items_view m.items)))) s h) e past
 
 -- ---- maps
@@ -97,14 +97,14 @@ pub takes_no_member : (t : List ℕ) (es : List Entry) (o : Option Value) → o 
 takes_no_member t es o none got = no_member t es o (λ s. option_map (λ c. drop_child s (object (members_view es))) (child s (object (members_view es)))) (λ s h. takes_none (object (members_view es)) (λ r c. drop_child r (object (members_view es))) s h) none got
 
 pub swaps_member : (t : List ℕ) (es new : List Entry) (o : Option Value) (x v w : Value) → AreInOrder es → o ≡ Some x → o ≡ lookup (is_named t) es → new ≡ set_value (is_named t) es w → w ≡ v
-    → altered (λ c. Some (view v)) (object (members_view es)) (t ∷ []) ≡ Some (object (members_view new))
+    → after_change (λ c. Some (view v)) (object (members_view es)) (t ∷ []) ≡ Some (object (members_view new))
 swaps_member t es new o x v w order some got is same = search (rules, member_child, members_view-set_value)
 
-pub swaps_no_member : (t : List ℕ) (es : List Entry) (o : Option Value) (d : Data) → o ≡ None → o ≡ lookup (is_named t) es → altered (λ c. Some d) (object (members_view es)) (t ∷ []) ≡ None
+pub swaps_no_member : (t : List ℕ) (es : List Entry) (o : Option Value) (d : Data) → o ≡ None → o ≡ lookup (is_named t) es → after_change (λ c. Some d) (object (members_view es)) (t ∷ []) ≡ None
 swaps_no_member t es o d none got = no_member t es o (λ s. option_and_then (λ c. Some (set_child s d (object (members_view es)))) (child s (object (members_view es)))) (λ s h. goes_none (object (members_view es)) (λ r c. Some (set_child r d (object (members_view es)))) s h) none got
 
-pub found_key : (t : List ℕ) (k : String Global) (es : List Entry) (o : Option Value) (v : Value) → string_bytes k ≡ t → o ≡ Some v → o ≡ lookup (is_named (string_bytes k)) es → found (object (members_view es)) (t ∷ []) ≡ Some (view v)
+pub found_key : (t : List ℕ) (k : String Global) (es : List Entry) (o : Option Value) (v : Value) → string_bytes k ≡ t → o ≡ Some v → o ≡ lookup (is_named (string_bytes k)) es → pointee (object (members_view es)) (t ∷ []) ≡ Some (view v)
 found_key t k es o v name some is = found_member t es o v some (is ∙ ap (λ n. lookup (is_named n) es) name)
 
-pub found_no_key : (t : List ℕ) (k : String Global) (es : List Entry) (o : Option Value) → string_bytes k ≡ t → o ≡ None → o ≡ lookup (is_named (string_bytes k)) es → found (object (members_view es)) (t ∷ []) ≡ None
+pub found_no_key : (t : List ℕ) (k : String Global) (es : List Entry) (o : Option Value) → string_bytes k ≡ t → o ≡ None → o ≡ lookup (is_named (string_bytes k)) es → pointee (object (members_view es)) (t ∷ []) ≡ None
 found_no_key t k es o name none is = found_no_member t es o none (is ∙ ap (λ n. lookup (is_named n) es) name)

@@ -9,7 +9,7 @@ use Rattle.serde_json.specs.declared.value.Value.{Value, Array, Object}
 use Rattle.serde_json.proofs.Views.{view-Array, view-Object}
 use Rattle.jsonptr.specs.Text.{Pointer}
 use Rattle.json_patch.specs.Attempt.{Attempts}
-use Rattle.json_patch.specs.ChangeComputed.{step_of, set_child, found, altered}
+use Rattle.json_patch.specs.ChangeComputed.{segment_of, set_child, pointee, after_change}
 use Rattle.json_patch.specs.Document.{child}
 use Rattle.json_patch.specs.Edits.{Displaces, DisplacesAt}
 use Rattle.json_patch.specs.declared.error.PatchErrorKind.{PatchErrorKind}
@@ -24,7 +24,7 @@ use Rattle.json_patch.proofs.Writes.{is_named, AreInOrder, items_view-set, items
 
 -- what comes of a change of the child at a token
 abbrev pub within : (Data → Option Data) → List ℕ → Data → Option Data
-within f t d = option_and_then (λ s. option_and_then (λ c. option_map (λ e. set_child s e d) (f c)) (child s d)) (step_of d t)
+within f t d = option_and_then (λ s. option_and_then (λ c. option_map (λ e. set_child s e d) (f c)) (child s d)) (segment_of d t)
 
 -- ---- at a child that is there
 
@@ -48,18 +48,18 @@ pub walks_to_no_member : (wanted : Option Data) (f : Data → Option Data) (t : 
 walks_to_no_member wanted f t old new m n q o p none same = (rw (q, o, view-Object m) ((search (rules, no_member t m.entries None, goes_none (object (members_view m.entries)), no_member))), rw (o, p, same))
 
 -- the next token of the way
-pub next_within : (f : Data → Option Data) (d : Data) (P rest : Pointer) (t : List ℕ) → P ≡ t ∷ rest → altered f d P ≡ within (λ c. altered f c rest) t d
+pub next_within : (f : Data → Option Data) (d : Data) (P rest : Pointer) (t : List ℕ) → P ≡ t ∷ rest → after_change f d P ≡ within (λ c. after_change f c rest) t d
 next_within f d P rest t is = rw is
 
 -- ---- what stands there
 
-pub found_at_item : (t : List ℕ) (P rest : Pointer) (old : Value) (m : Vec Value Global) (len i : ℕ) (v : Value) → P ≡ t ∷ rest → old ≡ Array m → len ≡ vec_len m → IsItem t len i → v ≡ get_or m.items i v → found (view old) P ≡ found (view v) rest
+pub found_at_item : (t : List ℕ) (P rest : Pointer) (old : Value) (m : Vec Value Global) (len i : ℕ) (v : Value) → P ≡ t ∷ rest → old ≡ Array m → len ≡ vec_len m → IsItem t len i → v ≡ get_or m.items i v → pointee (view old) P ≡ pointee (view v) rest
 found_at_item t P rest old m len i v way o e at is = search (rules, view-Array, item_child)
 
-pub found_at_member : (t : List ℕ) (P rest : Pointer) (old : Value) (m : BTreeMap (String Global) Value) (v : Value) → P ≡ t ∷ rest → old ≡ Object m → Some v ≡ lookup (is_named t) m.entries → found (view old) P ≡ found (view v) rest
+pub found_at_member : (t : List ℕ) (P rest : Pointer) (old : Value) (m : BTreeMap (String Global) Value) (v : Value) → P ≡ t ∷ rest → old ≡ Object m → Some v ≡ lookup (is_named t) m.entries → pointee (view old) P ≡ pointee (view v) rest
 found_at_member t P rest old m v way o is = search (rules, view-Object, member_child)
 
-pub displaces_below : (r : Result Displaced StepFault) (edit : Edit) (d c : Data) (P rest : Pointer) (last : List ℕ) → found d P ≡ found c rest → IfOk r (DisplacesAt edit c rest last) → IfOk r (DisplacesAt edit d P last)
+pub displaces_below : (r : Result Displaced StepFault) (edit : Edit) (d c : Data) (P rest : Pointer) (last : List ℕ) → pointee d P ≡ pointee c rest → IfOk r (DisplacesAt edit c rest last) → IfOk r (DisplacesAt edit d P last)
 displaces_below r edit d c P rest last same h = search rules
 
 -- ---- an edit of the members
@@ -73,5 +73,5 @@ displaces_at_members r edit t old m o h = rw (o, view-Object m) h
 
 -- ---- where nothing stands
 
-pub found_no_item : (t : List ℕ) (P rest : Pointer) (old : Value) (m : Vec Value Global) (len : ℕ) → P ≡ t ∷ rest → old ≡ Array m → len ≡ vec_len m → IsNoItem t len → None ≡ found (view old) P
+pub found_no_item : (t : List ℕ) (P rest : Pointer) (old : Value) (m : Vec Value Global) (len : ℕ) → P ≡ t ∷ rest → old ≡ Array m → len ≡ vec_len m → IsNoItem t len → None ≡ pointee (view old) P
 found_no_item t P rest old m len way o e past = search (rules, view-Array m, no_item t m len, goes_none (array (items_view m.items)), view-Array, no_item, goes_none)

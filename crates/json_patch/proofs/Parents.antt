@@ -9,58 +9,58 @@ use Rattle.serde_json.specs.Data.{Data, object}
 use Rattle.serde_json.specs.View.{view}
 use Rattle.serde_json.specs.declared.value.Value.{Value}
 use Rattle.jsonptr.specs.Text.{Pointer, IsProperPrefix}
-use Rattle.jsonptr.specs.Places.{token_of}
+use Rattle.jsonptr.specs.Places.{decimal_token}
 use Rattle.jsonptr.specs.PlaceLaws.{token_is_decimal}
-use Rattle.json_patch.specs.Attempt.{Attempts, Steps, TakesOut}
+use Rattle.json_patch.specs.Attempt.{Attempts, ComesTo, TakesOut}
 use Rattle.json_patch.specs.Document.{child}
 use Rattle.json_patch.specs.Operation.{add, move, replace, path_of}
-use Rattle.json_patch.specs.ChangeComputed.{step_of, set_child, put_in, take_from, found, altered, added, removed, replaced}
+use Rattle.json_patch.specs.ChangeComputed.{segment_of, set_child, put_in, take_from, pointee, after_change, after_add, after_remove, after_replace}
 use Rattle.json_patch.specs.Edits.{Displaces, DisplacesAt, IsTaken, Undoes, undo_at_place}
 use Rattle.json_patch.specs.InPlace.{AreUnescaped, IsUnescaped}
 use Rattle.json_patch.specs.InverseComputed.{undo_in, undo_add}
-use Rattle.json_patch.specs.RunComputed.{stepped}
-use Rattle.json_patch.specs.SharedComputed.{stripped}
+use Rattle.json_patch.specs.RunComputed.{after_step}
+use Rattle.json_patch.specs.SharedComputed.{strip}
 use Rattle.json_patch.specs.declared.error.PatchErrorKind.TheVariants.{InvalidFromPointer, CannotMoveInsideItself}
 use Rattle.json_patch.specs.declared.walk.Displaced.{Displaced}
 use Rattle.json_patch.specs.declared.walk.Displaced.TheVariants.{Nothing, Former}
 use Rattle.json_patch.specs.declared.walk.Edit.TheVariants.{Insert, Take, Swap}
 use Rattle.json_patch.specs.declared.error.StepFault.{StepFault}
-use Rattle.json_patch.proofs.Resolved.{split_is}
-use Rattle.json_patch.proofs.Stepped.{prefix_begins, not_begins}
-use Rattle.json_patch.proofs.Undone.{found_append}
+use Rattle.json_patch.proofs.Locations.{split_is}
+use Rattle.json_patch.proofs.StepOutcomes.{prefix_begins, not_begins}
+use Rattle.json_patch.proofs.BlocksLeadBack.{found_append}
 
 -- ---- what is computed of the container
 
 pub no_last : (F : Pointer) (t : List ℕ) → [] ≡ F ++ t ∷ [] → ⊥
 no_last F t is = grind (arith, common_steps)
 
-pub added_in : (d : Data) (P F : Pointer) (t : List ℕ) (v : Data) → P ≡ F ++ t ∷ [] → added d P v ≡ altered (put_in v t) d F
+pub added_in : (d : Data) (P F : Pointer) (t : List ℕ) (v : Data) → P ≡ F ++ t ∷ [] → after_add d P v ≡ after_change (put_in v t) d F
 added_in d P F t v is = search (rules, no_last, split_is)
 
-pub removed_in : (d : Data) (P F : Pointer) (t : List ℕ) → P ≡ F ++ t ∷ [] → removed d P ≡ altered (take_from t) d F
+pub removed_in : (d : Data) (P F : Pointer) (t : List ℕ) → P ≡ F ++ t ∷ [] → after_remove d P ≡ after_change (take_from t) d F
 removed_in d P F t is = search (rules, no_last, split_is)
 
-altered-append : (g : Data → Option Data) (d : Data) (F Q : Pointer) → altered (λ c. altered g c Q) d F ≡ altered g d (F ++ Q)
+altered-append : (g : Data → Option Data) (d : Data) (F Q : Pointer) → after_change (λ c. after_change g c Q) d F ≡ after_change g d (F ++ Q)
 altered-append g d [] Q = refl
-altered-append g d (s ∷ F) Q = λ i. option_and_then (λ r. option_and_then (λ c. option_map (λ e. set_child r e d) (altered-append g c F Q i)) (child r d)) (step_of d s)
+altered-append g d (s ∷ F) Q = λ i. option_and_then (λ r. option_and_then (λ c. option_map (λ e. set_child r e d) (altered-append g c F Q i)) (child r d)) (segment_of d s)
 
-pub replaced_in : (d : Data) (P F : Pointer) (t : List ℕ) (v : Data) → P ≡ F ++ t ∷ [] → replaced d P v ≡ altered (λ c. altered (λ x. Some v) c (t ∷ [])) d F
-replaced_in d P F t v is = ap (altered (λ x. Some v) d) is ∙ sym (altered-append (λ x. Some v) d F (t ∷ []))
+pub replaced_in : (d : Data) (P F : Pointer) (t : List ℕ) (v : Data) → P ≡ F ++ t ∷ [] → after_replace d P v ≡ after_change (λ c. after_change (λ x. Some v) c (t ∷ [])) d F
+replaced_in d P F t v is = ap (after_change (λ x. Some v) d) is ∙ sym (altered-append (λ x. Some v) d F (t ∷ []))
 
 -- ---- what stands there
 
-pub found_in : (d : Data) (P F : Pointer) (t : List ℕ) (c e : Data) → P ≡ F ++ t ∷ [] → found d F ≡ Some c → found c (t ∷ []) ≡ Some e → found d P ≡ Some e
-found_in d P F t c e is at here = ap (found d) is ∙ found_append d F (t ∷ []) ∙ ap (option_and_then (λ p. found p (t ∷ []))) at ∙ here
+pub found_in : (d : Data) (P F : Pointer) (t : List ℕ) (c e : Data) → P ≡ F ++ t ∷ [] → pointee d F ≡ Some c → pointee c (t ∷ []) ≡ Some e → pointee d P ≡ Some e
+found_in d P F t c e is at here = ap (pointee d) is ∙ found_append d F (t ∷ []) ∙ ap (option_and_then (λ p. pointee p (t ∷ []))) at ∙ here
 
-found_none : (d : Data) (P F : Pointer) (t : List ℕ) (c : Data) → P ≡ F ++ t ∷ [] → found d F ≡ Some c → found c (t ∷ []) ≡ None → found d P ≡ None
-found_none d P F t c is at here = ap (found d) is ∙ found_append d F (t ∷ []) ∙ ap (option_and_then (λ p. found p (t ∷ []))) at ∙ here
+found_none : (d : Data) (P F : Pointer) (t : List ℕ) (c : Data) → P ≡ F ++ t ∷ [] → pointee d F ≡ Some c → pointee c (t ∷ []) ≡ None → pointee d P ≡ None
+found_none d P F t c is at here = ap (pointee d) is ∙ found_append d F (t ∷ []) ∙ ap (option_and_then (λ p. pointee p (t ∷ []))) at ∙ here
 
 -- ---- what undoes an add
 
-pub undo_add_in : (d : Data) (P F : Pointer) (t : List ℕ) → P ≡ F ++ t ∷ [] → undo_add d P ≡ undo_in d F t P (found d F)
+pub undo_add_in : (d : Data) (P F : Pointer) (t : List ℕ) → P ≡ F ++ t ∷ [] → undo_add d P ≡ undo_in d F t P (pointee d F)
 undo_add_in d P F t is = search (rules, no_last, split_is)
 
-undo_found : (was : Displaced) (v : Value) (d c : Data) (P F : Pointer) (t : List ℕ) → P ≡ F ++ t ∷ [] → found d F ≡ Some c → Displaces (Insert v) t c was
+undo_found : (was : Displaced) (v : Value) (d c : Data) (P F : Pointer) (t : List ℕ) → P ≡ F ++ t ∷ [] → pointee d F ≡ Some c → Displaces (Insert v) t c was
     → undo_in d F t P (Some c) ≡ undo_at_place (path_of (undo_in d F t P (Some c))) was
 undo_found Nothing v d (object ms) P F t is at h = rw (found_none d P F t (object ms) is at h) refl
 undo_found (Former w) v d (object ms) P F t is at h = rw (found_in d P F t (object ms) (view w) is at h) refl
@@ -82,26 +82,26 @@ pub inside : (b : Bool) (F P R : Pointer) → P ≡ F ++ R → (IsTrue b ↔ (R 
 inside false F P (t ∷ R) is h = (λ yes. (t, R, is), λ p. refl)
 inside b F P R is h = search (rules, append_cancel_left)
 
-pub move_inside : (d : Data) (F P : Pointer) → IsProperPrefix F P → stepped d (move F P) ≡ Err CannotMoveInsideItself
+pub move_inside : (d : Data) (F P : Pointer) → IsProperPrefix F P → after_step d (move F P) ≡ Err CannotMoveInsideItself
 move_inside d F P h = rw (prefix_begins F P h)
 
-pub moves : {T : Type 0} (r : Result T StepFault) (d m e v : Data) (F P : Pointer) → (IsProperPrefix F P → ⊥) → removed d F ≡ Some m → found d F ≡ Some v → Attempts r (added m P v) m e → Steps r (stepped d (move F P)) e
+pub moves : {T : Type 0} (r : Result T StepFault) (d m e v : Data) (F P : Pointer) → (IsProperPrefix F P → ⊥) → after_remove d F ≡ Some m → pointee d F ≡ Some v → Attempts r (after_add m P v) m e → ComesTo r (after_step d (move F P)) e
 moves r d m e v F P out gone stood h = search (rules, not_begins)
 
-pub move_nowhere : (d : Data) (F P : Pointer) → (IsProperPrefix F P → ⊥) → removed d F ≡ None → stepped d (move F P) ≡ Err InvalidFromPointer
+pub move_nowhere : (d : Data) (F P : Pointer) → (IsProperPrefix F P → ⊥) → after_remove d F ≡ None → after_step d (move F P) ≡ Err InvalidFromPointer
 move_nowhere d F P out none = rw (not_begins F P out, none) (search rules)
 
 pub not_inside : (F P : Pointer) → (IsTrue false ↔ IsProperPrefix F P) → IsProperPrefix F P → ⊥
 not_inside F P h p = let yes : false ≡ true = h.1 p in cc
 
--- the value is out, and is added or not
-pub move_goes : {T : Type 0} (r : Result T StepFault) (d m e : Data) (v : Value) (S F P G Q : Pointer) → F ≡ drop (length S) G → P ≡ drop (length S) Q → TakesOut d m F P v → Attempts r (added m P (view v)) m e
-    → Steps r (stepped d (stripped S (move G Q))) e
+-- the value is out, and is after_add or not
+pub move_goes : {T : Type 0} (r : Result T StepFault) (d m e : Data) (v : Value) (S F P G Q : Pointer) → F ≡ drop (length S) G → P ≡ drop (length S) Q → TakesOut d m F P v → Attempts r (after_add m P (view v)) m e
+    → ComesTo r (after_step d (strip S (move G Q))) e
 move_goes r d m e v S F P G Q from path out h = search (rules, not_begins)
 
 -- what `?` passed on
 pub move_stops : {T : Type 0} (U : Type 0) (r : Result T StepFault) (fault : StepFault) (d m e : Data) (v : Value) (S F P G Q : Pointer) → F ≡ drop (length S) G → P ≡ drop (length S) Q → IsErr r × IsErrAnd r (λ f. f ≡ fault) → TakesOut d m F P v
-    → Attempts {T = U} (Err fault) (added m P (view v)) m e → Steps r (stepped d (stripped S (move G Q))) e
+    → Attempts {T = U} (Err fault) (after_add m P (view v)) m e → ComesTo r (after_step d (strip S (move G Q))) e
 move_stops U (Ok x) fault d m e v S F P G Q from path gives out h = absurd gives.1
 move_stops {T} U (Err f) fault d m e v S F P G Q from path gives out h = search (rules, move_goes {T = T} (Err f) d m e v S F P G Q from path out, move_goes)
 

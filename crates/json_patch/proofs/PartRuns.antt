@@ -4,35 +4,35 @@ use mathlib.Core.List.{reverse}
 use Rattle.std.specs.Result.{is_err}
 use Rattle.serde_json.specs.Data.{Data}
 use Rattle.jsonptr.specs.Text.{Pointer, IsPrefix, IsProperPrefix}
-use Rattle.json_patch.specs.Attempt.{Attempts, Steps}
-use Rattle.json_patch.specs.ChangeComputed.{found, replaced}
+use Rattle.json_patch.specs.Attempt.{Attempts, ComesTo}
+use Rattle.json_patch.specs.ChangeComputed.{pointee, after_replace}
 use Rattle.json_patch.specs.Document.{IsDocument}
 use Rattle.json_patch.specs.InverseComputed.{block}
 use Rattle.json_patch.specs.Operation.{Operation, add, remove, replace, move, copy, test, AreWhole, IsWholeOp, operation_of, operations}
 use Rattle.json_patch.specs.PartRun.{AreAt, IsBegun, block_at}
 use Rattle.json_patch.specs.Run.{Accepts}
-use Rattle.json_patch.specs.RunComputed.{or_refused, stepped}
+use Rattle.json_patch.specs.RunComputed.{or_refused, after_step}
 use Rattle.json_patch.specs.Shared.{IsWithin, AreWithin}
-use Rattle.json_patch.specs.SharedComputed.{stripped, extended_all}
-use Rattle.json_patch.specs.Undoing.{AreRecorded, recorded}
+use Rattle.json_patch.specs.SharedComputed.{strip, extend_all}
+use Rattle.json_patch.specs.Undoing.{AreRecorded, log_of}
 use Rattle.json_patch.specs.declared.error.PatchErrorKind.{PatchErrorKind}
 use Rattle.json_patch.specs.declared.error.PatchErrorKind.TheVariants.{InvalidPointer}
 use Rattle.json_patch.specs.declared.operation.PatchOperation.{PatchOperation}
 use Rattle.json_patch.specs.declared.error.StepFault.{StepFault}
 use Rattle.json_patch.specs.declared.record.Keep.{Keep}
 use Rattle.json_patch.specs.declared.record.Keep.TheVariants.{Inverse}
-use Rattle.json_patch.proofs.Applied.{IsAt, IsState, recorded_more, state_more, whole_at}
+use Rattle.json_patch.proofs.ProgramRuns.{IsAt, IsState, recorded_more, state_more, whole_at}
 use Rattle.json_patch.proofs.Below.{Replaces, replaced_itself, replaces, lifted, some_replaced, stepped_under}
 use Rattle.json_patch.proofs.InversesBelow.{block_under}
-use Rattle.json_patch.proofs.Stepped.{leaves_document, stepped_leaves}
-use Rattle.json_patch.proofs.Undone.{found_document}
+use Rattle.json_patch.proofs.StepOutcomes.{leaves_document, stepped_leaves}
+use Rattle.json_patch.proofs.BlocksLeadBack.{found_document}
 
 -- ---- an operation at the root
 
-pub stripped_whole : (S : Pointer) (op : Operation) → S ≡ [] → stripped S op ≡ op
-stripped_whole S op root = ap (λ X. stripped X op) root ∙ (search rules)
+pub stripped_whole : (S : Pointer) (op : Operation) → S ≡ [] → strip S op ≡ op
+stripped_whole S op root = ap (λ X. strip X op) root ∙ (search rules)
 
-extended_root : (ops : List Operation) → extended_all [] ops ≡ ops
+extended_root : (ops : List Operation) → extend_all [] ops ≡ ops
 extended_root [] = refl
 extended_root (add P v ∷ ops) = ap (λ r. add P v ∷ r) (extended_root ops)
 extended_root (remove P ∷ ops) = ap (λ r. remove P ∷ r) (extended_root ops)
@@ -42,10 +42,10 @@ extended_root (copy F P ∷ ops) = ap (λ r. copy F P ∷ r) (extended_root ops)
 extended_root (test P v ∷ ops) = ap (λ r. test P v ∷ r) (extended_root ops)
 
 pub block_whole : (d : Data) (S : Pointer) (op : Operation) → S ≡ [] → block_at d S op ≡ block d op
-block_whole d S op root = ap (λ o. extended_all S (block d o)) (stripped_whole S op root) ∙ ap (λ X. extended_all X (block d op)) root ∙ extended_root (block d op)
+block_whole d S op root = ap (λ o. extend_all S (block d o)) (stripped_whole S op root) ∙ ap (λ X. extend_all X (block d op)) root ∙ extended_root (block d op)
 
-pub step_whole : (T : Type 0) (r : Result T StepFault) (d new : Data) (S : Pointer) (op : Operation) → S ≡ [] → Steps r (stepped d (stripped S op)) new → Steps r (stepped d op) new
-step_whole T r d new S op root h = subst (λ o. Steps r (stepped d o) new) (stripped_whole S op root) h
+pub step_whole : (T : Type 0) (r : Result T StepFault) (d new : Data) (S : Pointer) (op : Operation) → S ≡ [] → ComesTo r (after_step d (strip S op)) new → ComesTo r (after_step d op) new
+step_whole T r d new S op root h = subst (λ o. ComesTo r (after_step d o) new) (stripped_whole S op root) h
 
 begins : (S P : Pointer) → IsProperPrefix S P → IsPrefix S P
 begins S P h = (h.0 ∷ h.1, h.2)
@@ -72,31 +72,31 @@ part_at S os start end k o from to most is h =
 
 -- ---- a step there is that step of the document
 
-module _ (x : Data) (S : Pointer) (b : Data) (op : Operation) (hx : IsDocument x) (there : found x S ≡ Some b) where
+module _ (x : Data) (S : Pointer) (b : Data) (op : Operation) (hx : IsDocument x) (there : pointee x S ≡ Some b) where
   unfolding_root : (r : Result Data PatchErrorKind) → r ≡ lifted x [] r
   unfolding lifted
   unfolding_root r = search rules
 
   at_root : S ≡ [] → x ≡ b
-  at_root root = let same : Some x ≡ Some b = ap (found x) (sym root) ∙ there in cc
+  at_root root = let same : Some x ≡ Some b = ap (pointee x) (sym root) ∙ there in cc
 
-  stepped_part : IsAtPart S op → stepped x op ≡ lifted x S (stepped b (stripped S op))
+  stepped_part : IsAtPart S op → after_step x op ≡ lifted x S (after_step b (strip S op))
   stepped_part h = search (rules, unfolding_root, lifted, at_root, stripped_whole, stepped_under)
 
   pub block_part : IsAtPart S op → block x op ≡ block_at b S op
   block_part h = search (rules, at_root, block_whole, block_under)
 
   -- where the step fails there, so does that of the document
-  pub part_stops : (T U : Type 0) (f : StepFault) (e new : Data) → IsAtPart S op → Steps {T = T} (Err f) (stepped b (stripped S op)) e → Steps {T = U} (Err f) (stepped x op) new
+  pub part_stops : (T U : Type 0) (f : StepFault) (e new : Data) → IsAtPart S op → ComesTo {T = T} (Err f) (after_step b (strip S op)) e → ComesTo {T = U} (Err f) (after_step x op) new
   unfolding lifted
   part_stops T U f e new at h = search (rules, stepped_part, lifted)
 
-  pub part_steps : (e : Data) → IsAtPart S op → IsWholeOp op → stepped b (stripped S op) ≡ Ok e → (y : Data) × (stepped x op ≡ Ok y) × Replaces x S e y
+  pub part_steps : (e : Data) → IsAtPart S op → IsWholeOp op → after_step b (strip S op) ≡ Ok e → (y : Data) × (after_step x op ≡ Ok y) × Replaces x S e y
   unfolding lifted
   part_steps e at whole h =
-      let hs : IsWholeOp (stripped S op) = (search rules) in
-      let he : IsDocument e = leaves_document b (stripped S op) e hb hs (stepped_leaves b (stripped S op) e hb hs h) in
-      let y : (y : Data) × (replaced x S e ≡ Some y) = some_replaced x S b hx there e in
+      let hs : IsWholeOp (strip S op) = (search rules) in
+      let he : IsDocument e = leaves_document b (strip S op) e hb hs (stepped_leaves b (strip S op) e hb hs h) in
+      let y : (y : Data) × (after_replace x S e ≡ Some y) = some_replaced x S b hx there e in
       (y.0, stepped_part at ∙ ap (lifted x S) h ∙ ap (or_refused InvalidPointer) y.1, replaces x S e y.0 hx he y.1)
     where
       hb : IsDocument b
@@ -109,28 +109,28 @@ pub record Part (d m : Data) (os : List PatchOperation) (k : ℕ) (S : Pointer) 
   pub x : Data
   pub state : IsState d os k x
   pub document : IsDocument x
-  pub there : found x S ≡ Some w
-  pub again : (f : Data) → IsDocument f → replaced x S f ≡ replaced m S f
+  pub there : pointee x S ≡ Some w
+  pub again : (f : Data) → IsDocument f → after_replace x S f ≡ after_replace m S f
 
-pub part_first : (d m : Data) (os : List PatchOperation) (k : ℕ) (S : Pointer) (w : Data) → IsDocument m → IsState d os k m → found m S ≡ Some w → Part d m os k S w
+pub part_first : (d m : Data) (os : List PatchOperation) (k : ℕ) (S : Pointer) (w : Data) → IsDocument m → IsState d os k m → pointee m S ≡ Some w → Part d m os k S w
 part_first d m os k S w hm s there = record { x = m; state = s; document = hm; there = there; again = λ f hf. refl }
 
 module _ (d m : Data) (os : List PatchOperation) (k : ℕ) (S : Pointer) (w : Data) (p : Part d m os k S w) where
-  pub part_end : (new : Data) → replaced m S w ≡ Some new → IsState d os k new
+  pub part_end : (new : Data) → after_replace m S w ≡ Some new → IsState d os k new
   part_end new is = search (rules, replaced_itself, found_document, IsState)
 
-  module _ (o : PatchOperation) (e : Data) (hd : IsDocument d) (hv : AreWhole (operations os)) (less : k < length os) (is : IsAt os k o) (at : IsAtPart S (operation_of o)) (made : stepped w (stripped S (operation_of o)) ≡ Ok e) where
-    made_whole : (y : Data) × (stepped p.x (operation_of o) ≡ Ok y) × Replaces p.x S e y
+  module _ (o : PatchOperation) (e : Data) (hd : IsDocument d) (hv : AreWhole (operations os)) (less : k < length os) (is : IsAt os k o) (at : IsAtPart S (operation_of o)) (made : after_step w (strip S (operation_of o)) ≡ Ok e) where
+    made_whole : (y : Data) × (after_step p.x (operation_of o) ≡ Ok y) × Replaces p.x S e y
     made_whole = part_steps p.x S w (operation_of o) p.document p.there e at (whole_at os k o less is hv) made
 
     pub part_more : Part d m os (k + 1) S e
     part_more = search (rules, made_whole, state_more)
 
-    pub part_recorded : (keep : Keep) (undo more : List PatchOperation) → keep ≡ Inverse → operations more ≡ operations undo ++ recorded keep (block_at w S (operation_of o))
+    pub part_recorded : (keep : Keep) (undo more : List PatchOperation) → keep ≡ Inverse → operations more ≡ operations undo ++ log_of keep (block_at w S (operation_of o))
         → AreRecorded d (operations os) k (operations undo) → AreRecorded d (operations os) (k + 1) (operations more)
     part_recorded keep undo more kept wrote so_far =
         recorded_more d p.x made_whole.0 os k o undo more hd hv less is p.state made_whole.1
-        (wrote ∙ ap (λ B. operations undo ++ B) (ap (λ x. recorded x (block_at w S (operation_of o))) kept ∙ ap reverse (sym (block_part p.x S w (operation_of o) p.document p.there at)))) so_far
+        (wrote ∙ ap (λ B. operations undo ++ B) (ap (λ x. log_of x (block_at w S (operation_of o))) kept ∙ ap reverse (sym (block_part p.x S w (operation_of o) p.document p.there at)))) so_far
 
 pub ended_at : (d new : Data) (os : List PatchOperation) (k end : ℕ) → k ≡ end → IsState d os k new → Accepts d (take end (operations os)) new
 ended_at d new os k end is h = subst (λ n. Accepts d (take n (operations os)) new) is h
@@ -140,9 +140,9 @@ made_put r b wanted old new h told never = search rules
 
 -- a step made on the document itself
 pub recorded_at : (d m e : Data) (os : List PatchOperation) (k end : ℕ) (S : Pointer) (o : PatchOperation) (keep : Keep) (undo more : List PatchOperation) → k + 1 ≡ end → IsDocument d → AreWhole (operations os) → k < length os → IsAt os k o → IsState d os k m
-    → S ≡ [] → stepped m (stripped S (operation_of o)) ≡ Ok e → keep ≡ Inverse → operations more ≡ operations undo ++ recorded keep (block_at m S (operation_of o))
+    → S ≡ [] → after_step m (strip S (operation_of o)) ≡ Ok e → keep ≡ Inverse → operations more ≡ operations undo ++ log_of keep (block_at m S (operation_of o))
     → AreRecorded d (operations os) k (operations undo) → AreRecorded d (operations os) end (operations more)
 recorded_at d m e os k end S o keep undo more last hd hv less is s root made kept wrote so_far =
     subst (λ n. AreRecorded d (operations os) n (operations more)) last
-    (recorded_more d m e os k o undo more hd hv less is s (ap (stepped m) (sym (stripped_whole S (operation_of o) root)) ∙ made)
-    (wrote ∙ ap (λ B. operations undo ++ B) (ap (λ x. recorded x (block_at m S (operation_of o))) kept ∙ ap reverse (block_whole m S (operation_of o) root))) so_far)
+    (recorded_more d m e os k o undo more hd hv less is s (ap (after_step m) (sym (stripped_whole S (operation_of o) root)) ∙ made)
+    (wrote ∙ ap (λ B. operations undo ++ B) (ap (λ x. log_of x (block_at m S (operation_of o))) kept ∙ ap reverse (block_whole m S (operation_of o) root))) so_far)

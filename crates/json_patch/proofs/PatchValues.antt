@@ -1,4 +1,4 @@
--- A value reads as one patch, or is refused with one number and kind; what is written reads back.
+-- A value reads as one patch, or is refused with one number and kind; what is written_value reads back.
 use Rattle.std.proofs.Common.{◌≡◌, ℕ, zero, suc, List, [], ◌∷◌, map, ◌⊎◌, Option, Some, None, refl, sym, ◌∙◌, inl, inr, ⊎_elim, codes, Bool, false, true≢false, rules, subst}
 use Rattle.std.specs.Str.{bytes_eq}
 use Rattle.std.proofs.lemmas.Slice.Eq.{bytes_eq-Decides}
@@ -8,9 +8,9 @@ use Rattle.serde_json.specs.View.{items_of}
 use Rattle.jsonptr.specs.Text.{Pointer, text_of}
 use Rattle.json_patch.specs.Document.{IsDocument, AreDocuments}
 use Rattle.json_patch.specs.Operation.{Operation, add, remove, replace, move, copy, test, IsWholeOp, AreWhole}
-use Rattle.json_patch.specs.PatchValue.{name_of, field_names, ReadsFields, ReadsOperation, ReadsItems, ReadsPatch, IsObject, IsOneOf, IsFieldFault, IsOperationFault, RefusesFields, RefusesOperation, RefusesItem, written, written_fields, written_patch}
+use Rattle.json_patch.specs.PatchValue.{name_of, field_names, ReadsFields, ReadsOperation, ReadsItems, ReadsPatch, IsObject, IsOneOf, IsFieldFault, IsOperationFault, RefusesFields, RefusesOperation, RefusesItem, written_value, written_fields, written_patch}
 use Rattle.json_patch.specs.ReadSteps.{HasAnyFrom}
-use Rattle.json_patch.specs.ReadLaws.{IsRead, IsUnread, IsReadAlone, IsUnreadAlone, IsReadLike, IsUnreadLike}
+use Rattle.json_patch.specs.ReadLaws.{IsRead, HasReadFault, IsReadAlone, HasReadFaultAlone, IsReadLike, HasReadFaultLike}
 use Rattle.json_patch.specs.declared.error.ReadKind.{ReadKind}
 use Rattle.json_patch.specs.declared.error.ReadKind.TheVariants.{NotAList, NotAnObject, MissingOp, OpNotText, UnknownOp, MissingFrom, FromNotText, BadFrom, MissingPath, PathNotText, BadPath, MissingValue, ValueNotWhole}
 use Rattle.jsonptr.specs.TextLaws.{one_pointer}
@@ -133,7 +133,7 @@ reads_no_like_fault v op like e h kind f =
     reads_no_field_fault v op h kind (subst (λ names. IsFieldFault names v kind) (same_field_names like op (sym e)) f.here)
 
 -- a value reads as one operation like this one, or is refused for one kind
-pub read_like_or_refused : (like : Operation) (v : Data) → ((op : Operation) × IsReadLike like v op) ⊎ ((kind : ReadKind) × IsUnreadLike like v kind)
+pub read_like_or_refused : (like : Operation) (v : Data) → ((op : Operation) × IsReadLike like v op) ⊎ ((kind : ReadKind) × HasReadFaultLike like v kind)
 read_like_or_refused like v = search (rules, same_pointer, apart, reads_no_like_fault v, fields_fault_one (field_names like) v, fields_read_or_refused v like, reads_no_like_fault, fields_fault_one, fields_read_or_refused)
 
 -- ---- by the name in `op`
@@ -176,7 +176,7 @@ operation_fault_one : (v : Data) (kind other : ReadKind) → RefusesOperation v 
 operation_fault_one v = first_one (At v) (λ e f h g. no_pointer_one v (codes "from") e f h.2.1 g.2.1) (λ e f h g. no_pointer_one v (codes "path") e f h.2 g.2)
 
 -- a value reads as one operation, or is refused for one kind
-pub read_alone_or_refused : (v : Data) → ((op : Operation) × IsReadAlone v op) ⊎ ((kind : ReadKind) × IsUnreadAlone v kind)
+pub read_alone_or_refused : (v : Data) → ((op : Operation) × IsReadAlone v op) ⊎ ((kind : ReadKind) × HasReadFaultAlone v kind)
 read_alone_or_refused v =
     ⊎_elim (λ h. inl (h.0, record { reads = h.1; alone = λ other g. same_operation v h.0 other h.1 g; nowhere = λ kind g. reads_no_fault v h.0 h.1 kind g.here }))
     (λ h. inr (h.0, record { refuses = h.1; alone = λ other g. operation_fault_one v h.0 other h.1 g; never = λ op g. reads_no_fault v op g h.0 h.1.here }))
@@ -206,27 +206,27 @@ same_item_refused (item d ds) (suc k) (suc j) kind other h g = search (rules, sa
 same_item_refused ds k j kind other h g = search (rules, operation_fault_one)
 
 -- a list reads as one patch, or is refused at one item for one kind
-list_read_or_refused : (ds : Items) → ((ops : List Operation) × IsRead (array ds) ops) ⊎ ((k : Option ℕ) × (kind : ReadKind) × IsUnread (array ds) k kind)
+list_read_or_refused : (ds : Items) → ((ops : List Operation) × IsRead (array ds) ops) ⊎ ((k : Option ℕ) × (kind : ReadKind) × HasReadFault (array ds) k kind)
 list_read_or_refused ds =
     ⊎_elim (λ h. inl (h.0, search (rules, same_items_read, items_exclude))) (λ h. inr (Some h.0, h.1, search (rules, same_item_refused, items_exclude)))
     (items_read_or_refused ds)
 
 -- a value reads as one patch, or is refused with one number and kind
-pub read_or_refused : (v : Data) → ((ops : List Operation) × IsRead v ops) ⊎ ((k : Option ℕ) × (kind : ReadKind) × IsUnread v k kind)
+pub read_or_refused : (v : Data) → ((ops : List Operation) × IsRead v ops) ⊎ ((k : Option ℕ) × (kind : ReadKind) × HasReadFault v k kind)
 read_or_refused (array ds) = list_read_or_refused ds
 read_or_refused v = inr (None, NotAList, search rules)
 
--- ---- what is written reads back
+-- ---- what is written_value reads back
 
-written_items_read : (ops : List Operation) → AreWhole ops → ReadsItems (items_of (map written ops)) ops
+written_items_read : (ops : List Operation) → AreWhole ops → ReadsItems (items_of (map written_value ops)) ops
 written_items_read [] w = tt
 written_items_read (op ∷ ops) w = ((search rules), written_items_read ops w.1)
 
--- what is written of an operation is a document, where its value is one
-written_document : (op : Operation) → IsWholeOp op → IsDocument (written op)
+-- what is written_value of an operation is a document, where its value is one
+written_document : (op : Operation) → IsWholeOp op → IsDocument (written_value op)
 written_document op w = search rules
 
-written_items_documents : (ops : List Operation) → AreWhole ops → AreDocuments (items_of (map written ops))
+written_items_documents : (ops : List Operation) → AreWhole ops → AreDocuments (items_of (map written_value ops))
 written_items_documents [] w = tt
 written_items_documents (op ∷ ops) w = ((search rules), written_items_documents ops w.1)
 
@@ -243,8 +243,8 @@ written_reads_back ops w = read_is (written_patch ops) ops (written_items_read o
 read_alone_is : (v : Data) (op : Operation) → ReadsOperation v op → IsReadAlone v op
 read_alone_is v op h = search (rules, IsReadAlone v, read_alone_or_refused v, IsReadAlone, read_alone_or_refused)
 
-pub written_reads_alone : (op : Operation) → IsWholeOp op → IsReadAlone (written op) op
-written_reads_alone op w = read_alone_is (written op) op (search rules)
+pub written_reads_alone : (op : Operation) → IsWholeOp op → IsReadAlone (written_value op) op
+written_reads_alone op w = read_alone_is (written_value op) op (search rules)
 
 pub written_fields_read_back : (op : Operation) → IsWholeOp op → IsReadLike op (written_fields op) op
 written_fields_read_back op w = search (rules, IsReadLike op (written_fields op), read_like_or_refused op (written_fields op), IsReadLike, read_like_or_refused)

@@ -9,39 +9,39 @@ use Rattle.json_patch.specs.Operation.{Operation, add, remove, replace, move, co
 use Rattle.json_patch.specs.Step.{Leaves}
 use Rattle.json_patch.specs.Run.{Accepts}
 use Rattle.json_patch.specs.Inverse.{NamesNoNext, IsPlain, ArePlain, IsInverse}
-use Rattle.json_patch.specs.ChangeComputed.{step_of, set_child, take_from, found, altered, removed, front_of, last_of}
-use Rattle.json_patch.specs.RunComputed.{stepped}
+use Rattle.json_patch.specs.ChangeComputed.{segment_of, set_child, take_from, pointee, after_change, after_remove, front_of, last_of}
+use Rattle.json_patch.specs.RunComputed.{after_step}
 use Rattle.json_patch.specs.InverseComputed.{undo_at, undo_in, undo_add, block, inverse}
 use Rattle.json_patch.proofs.Blocks.{inverse_only}
 use Rattle.json_patch.proofs.Children.{child_set}
-use Rattle.json_patch.proofs.Exact.{added_exact, removed_exact}
-use Rattle.json_patch.proofs.Inverted.{block_back, block_whole, inverse_back, inverse_step, inverse_whole}
-use Rattle.json_patch.proofs.Level.{step_of_set}
+use Rattle.json_patch.proofs.OneResult.{added_exact, removed_exact}
+use Rattle.json_patch.proofs.InverseRuns.{block_back, block_whole, inverse_back, inverse_step, inverse_whole}
+use Rattle.json_patch.proofs.ChildChanges.{step_of_set}
 use Rattle.json_patch.proofs.Parents.{removed_in}
-use Rattle.json_patch.proofs.Resolved.{option_map_some, split_whole}
+use Rattle.json_patch.proofs.Locations.{option_map_some, split_whole}
 use Rattle.json_patch.proofs.Runs.{accepted, accepts_document, accepts_ran}
 use Rattle.jsonptr.specs.PlaceLaws.{next_is_no_place}
-use Rattle.json_patch.proofs.Stepped.{leaves_document, leaves_stepped, removed_document, stands_document, stands_found}
-use Rattle.json_patch.proofs.Undone.{found_append, undo_added}
+use Rattle.json_patch.proofs.StepOutcomes.{leaves_document, leaves_stepped, removed_document, stands_document, stands_found}
+use Rattle.json_patch.proofs.BlocksLeadBack.{found_append, undo_added}
 
--- ---- what is found after a change
+-- ---- what is pointee after a change
 
--- what the change makes is found where it was made
-found_changed : (f : Data → Option Data) (d : Data) (P : Pointer) (e : Data) → altered f d P ≡ Some e → (p q : Data) × (f p ≡ Some q) × (found e P ≡ Some q)
+-- what the change makes is pointee where it was made
+found_changed : (f : Data → Option Data) (d : Data) (P : Pointer) (e : Data) → after_change f d P ≡ Some e → (p q : Data) × (f p ≡ Some q) × (pointee e P ≡ Some q)
 found_changed f d [] e is = (d, e, is, refl)
 found_changed f d (t ∷ P) e is =
-    option_and_then_some _ (step_of d t) e is (λ s named more.
+    option_and_then_some _ (segment_of d t) e is (λ s named more.
     option_and_then_some _ (child s d) e more (λ c stands rest.
-    option_map_some _ (altered f c P) e rest (λ b inner whole.
-    (let i : (p q : Data) × (f p ≡ Some q) × (found b P ≡ Some q) = found_changed f c P b inner in
-    let named_still : step_of (set_child s b d) t ≡ Some s = step_of_set s d b t ∙ named in
-    let there : found (set_child s b d) (t ∷ P) ≡ Some i.1 = rw (named_still, child_set s d c b stands) i.3 in
-    (i.0, i.1, i.2, subst (λ x. found x (t ∷ P) ≡ Some i.1) whole there)))))
+    option_map_some _ (after_change f c P) e rest (λ b inner whole.
+    (let i : (p q : Data) × (f p ≡ Some q) × (pointee b P ≡ Some q) = found_changed f c P b inner in
+    let named_still : segment_of (set_child s b d) t ≡ Some s = step_of_set s d b t ∙ named in
+    let there : pointee (set_child s b d) (t ∷ P) ≡ Some i.1 = rw (named_still, child_set s d c b stands) i.3 in
+    (i.0, i.1, i.2, subst (λ x. pointee x (t ∷ P) ≡ Some i.1) whole there)))))
 
 -- ---- `-` in a list
 
 -- in a list nothing stands at `-`
-next_nowhere : (d : Data) (F R : Pointer) (ds : Items) → found d F ≡ Some (array ds) → found d (F ++ next_token ∷ R) ≡ None
+next_nowhere : (d : Data) (F R : Pointer) (ds : Items) → pointee d F ≡ Some (array ds) → pointee d (F ++ next_token ∷ R) ≡ None
 next_nowhere d F R ds at = search (rules, found_append, option_and_then, next_is_no_place)
 
 -- and nothing is taken there
@@ -49,11 +49,11 @@ next_untaken : (p : Data) (ds : Items) → take_from next_token p ≡ Some (arra
 next_untaken p ds is = search (rules, next_is_no_place, option_map_some)
 
 -- a pointer that resolves holds no such `-`
-plain_found : (d : Data) (P : Pointer) (c : Data) → found d P ≡ Some c → NamesNoNext d P
+plain_found : (d : Data) (P : Pointer) (c : Data) → pointee d P ≡ Some c → NamesNoNext d P
 plain_found d P c is F R ds whole stands = search (rules, next_nowhere d F R ds (stands_found d F (array ds) stands), stands_found d F (array ds) stands, next_nowhere, stands_found)
 
--- nor does one from which a value was removed
-plain_removed : (d : Data) (P : Pointer) (m : Data) → removed d P ≡ Some m → NamesNoNext m P
+-- nor does one from which a value was after_remove
+plain_removed : (d : Data) (P : Pointer) (m : Data) → after_remove d P ≡ Some m → NamesNoNext m P
 plain_removed d P m is F [] ds whole stands =
     let i = found_changed (take_from next_token) d F m (sym (removed_in d P F next_token whole) ∙ is) in
     next_untaken i.0 ds (i.2 ∙ sym i.3 ∙ stands_found m F (array ds) stands)
@@ -73,12 +73,12 @@ undo_at_plain m P (Some w) e h = plain_found m P h.1 (stands_found m P h.1 (h.0,
 
 undo_in_plain : (m d : Data) (F : Pointer) (t : List ℕ) (P : Pointer) (o : Option Data) (e : Data) → Leaves m (undo_in d F t P o) e → IsPlain m (undo_in d F t P o)
 undo_in_plain m d F t P (Some (array ds)) e h = undo_at_plain m _ None e h
-undo_in_plain m d F t P o e h = undo_at_plain m P (found d P) e h
+undo_in_plain m d F t P o e h = undo_at_plain m P (pointee d P) e h
 
 -- what undoes an add is plain where it is accepted
 undo_add_plain : (m d : Data) (P : Pointer) (e : Data) → Leaves m (undo_add d P) e → IsPlain m (undo_add d P)
 undo_add_plain m d [] e h = undo_at_plain m [] (Some d) e h
-undo_add_plain m d (t ∷ P) e h = undo_in_plain m d (front_of t P) (last_of t P) (t ∷ P) (found d (front_of t P)) e h
+undo_add_plain m d (t ∷ P) e h = undo_in_plain m d (front_of t P) (last_of t P) (t ∷ P) (pointee d (front_of t P)) e h
 
 undo_one : (e d : Data) (P : Pointer) → Accepts e (undo_add d P ∷ []) d → ArePlain e (undo_add d P ∷ [])
 undo_one e d P h = (h.0, undo_add_plain e d P h.0 h.1, h.1, tt)
@@ -98,12 +98,12 @@ block_plain d (move F P) e hd hv h =
     let v = h.1.0 in let m = h.1.1 in
     let hw : IsDocument v = stands_document d F v hd h.1.2 in
     let hm : IsDocument m = removed_document d F m h.1.3 in
-    let gone : removed d F ≡ Some m = removed_exact d F m hd h.1.3 in
+    let gone : after_remove d F ≡ Some m = removed_exact d F m hd h.1.3 in
     let same : block d (move F P) ≡ undo_add m P ∷ add F v ∷ [] = rw (stands_found d F v h.1.2, gone) refl in
     let back : Accepts e (undo_add m P ∷ add F v ∷ []) d = subst (λ B. Accepts e B d) same (block_back d (move F P) e hd hv h) in
     let whole : AreWhole (undo_add m P ∷ add F v ∷ []) = subst AreWhole same (block_whole d (move F P) e hd hv h) in
-    let to_m : stepped e (undo_add m P) ≡ Ok m = undo_added m P v e hm hw (added_exact m P v e hm hw h.1.4) in
-    let to_state : stepped e (undo_add m P) ≡ Ok back.0 = leaves_stepped e (undo_add m P) back.0 (leaves_document d (move F P) e hd hv h) whole.0 back.1 in
+    let to_m : after_step e (undo_add m P) ≡ Ok m = undo_added m P v e hm hw (added_exact m P v e hm hw h.1.4) in
+    let to_state : after_step e (undo_add m P) ≡ Ok back.0 = leaves_stepped e (undo_add m P) back.0 (leaves_document d (move F P) e hd hv h) whole.0 back.1 in
     let state : m ≡ back.0 = cc in
     subst (ArePlain e) (sym same)
     (back.0, undo_add_plain e m P back.0 back.1, back.1, (back.2.0, subst (λ x. NamesNoNext x F) state (plain_removed d F m gone), back.2.1, tt))

@@ -6,58 +6,58 @@ use Rattle.json_patch.specs.Document.{IsDocument}
 use Rattle.json_patch.specs.Operation.{Operation, test, IsWholeOp, AreWhole}
 use Rattle.json_patch.specs.declared.error.PatchErrorKind.{PatchErrorKind}
 use Rattle.json_patch.specs.Run.{Accepts, RefusesAt, IsAccepted, IsRefused, Ends, AreTests}
-use Rattle.json_patch.specs.RunComputed.{Outcome, fault, counted, ran_on, stepped, ran}
-use Rattle.json_patch.proofs.Stepped.{leaves_stepped, refuses_stepped, stepped_leaves, stepped_refuses, leaves_document}
+use Rattle.json_patch.specs.RunComputed.{Outcome, fault, one_later, then_run, after_step, after_run}
+use Rattle.json_patch.proofs.StepOutcomes.{leaves_stepped, refuses_stepped, stepped_leaves, stepped_refuses, leaves_document}
 
-pub accepts_ran : (d : Data) (ops : List Operation) (e : Data) → IsDocument d → AreWhole ops → Accepts d ops e → ran d ops ≡ Ok e
+pub accepts_ran : (d : Data) (ops : List Operation) (e : Data) → IsDocument d → AreWhole ops → Accepts d ops e → after_run d ops ≡ Ok e
 accepts_ran d [] e hd hv h = ap Ok h
 accepts_ran d (op ∷ ops) e hd hv h =
     rw (leaves_stepped d op h.0 hd hv.0 h.1, accepts_ran h.0 ops e (leaves_document d op h.0 hd hv.0 h.1) hv.1 h.2) refl
 
-pub refuses_ran : (d : Data) (ops : List Operation) (k : ℕ) (kind : PatchErrorKind) → IsDocument d → AreWhole ops → RefusesAt d ops k kind → ran d ops ≡ Err (fault k kind)
+pub refuses_ran : (d : Data) (ops : List Operation) (k : ℕ) (kind : PatchErrorKind) → IsDocument d → AreWhole ops → RefusesAt d ops k kind → after_run d ops ≡ Err (fault k kind)
 refuses_ran d (op ∷ ops) (suc k) kind hd hv h =
     rw (leaves_stepped d op h.0 hd hv.0 h.1, refuses_ran h.0 ops k kind (leaves_document d op h.0 hd hv.0 h.1) hv.1 h.2) refl
 refuses_ran d ops k kind hd hv h = search (rules, refuses_stepped)
 
 -- ---- where a run ends, found out
 
-counted_err : (o : Outcome) (k : ℕ) (kind : PatchErrorKind) → counted o ≡ Err (fault k kind) → (j : ℕ) × (k ≡ suc j) × (o ≡ Err (fault j kind))
+counted_err : (o : Outcome) (k : ℕ) (kind : PatchErrorKind) → one_later o ≡ Err (fault k kind) → (j : ℕ) × (k ≡ suc j) × (o ≡ Err (fault j kind))
 counted_err o k kind h = search rules
 
 module _ (d : Data) (op : Operation) (ops : List Operation) (hd : IsDocument d) (hv : IsWholeOp op) where
-  accepts_on : (r : Result Data PatchErrorKind) (e : Data) → stepped d op ≡ r → ((m : Data) → IsDocument m → ran m ops ≡ Ok e → Accepts m ops e)
-      → ran_on r (λ m. ran m ops) ≡ Ok e → Accepts d (op ∷ ops) e
+  accepts_on : (r : Result Data PatchErrorKind) (e : Data) → after_step d op ≡ r → ((m : Data) → IsDocument m → after_run m ops ≡ Ok e → Accepts m ops e)
+      → then_run r (λ m. after_run m ops) ≡ Ok e → Accepts d (op ∷ ops) e
   accepts_on (Ok m) e is more h = search (rules, stepped_leaves d op m hd hv is, leaves_document d op m hd hv, stepped_leaves, leaves_document)
   accepts_on (Err kind) e is more h = cc
 
-  refuses_on : (r : Result Data PatchErrorKind) (k : ℕ) (kind : PatchErrorKind) → stepped d op ≡ r → ((m : Data) (j : ℕ) → IsDocument m → ran m ops ≡ Err (fault j kind) → RefusesAt m ops j kind)
-      → ran_on r (λ m. ran m ops) ≡ Err (fault k kind) → RefusesAt d (op ∷ ops) k kind
-  refuses_on (Ok m) k kind is more h = search (rules, stepped_leaves d op m hd hv is, counted_err (ran m ops) k kind h, leaves_document d op m hd hv, stepped_leaves, counted_err, leaves_document)
+  refuses_on : (r : Result Data PatchErrorKind) (k : ℕ) (kind : PatchErrorKind) → after_step d op ≡ r → ((m : Data) (j : ℕ) → IsDocument m → after_run m ops ≡ Err (fault j kind) → RefusesAt m ops j kind)
+      → then_run r (λ m. after_run m ops) ≡ Err (fault k kind) → RefusesAt d (op ∷ ops) k kind
+  refuses_on (Ok m) k kind is more h = search (rules, stepped_leaves d op m hd hv is, counted_err (after_run m ops) k kind h, leaves_document d op m hd hv, stepped_leaves, counted_err, leaves_document)
   refuses_on r k kind is more h = search (rules, stepped_refuses)
 
-pub ran_accepts : (d : Data) (ops : List Operation) (e : Data) → IsDocument d → AreWhole ops → ran d ops ≡ Ok e → Accepts d ops e
+pub ran_accepts : (d : Data) (ops : List Operation) (e : Data) → IsDocument d → AreWhole ops → after_run d ops ≡ Ok e → Accepts d ops e
 ran_accepts d [] e hd hv is = cc
-ran_accepts d (op ∷ ops) e hd hv is = accepts_on d op ops hd hv.0 (stepped d op) e refl (λ m hm at. ran_accepts m ops e hm hv.1 at) is
+ran_accepts d (op ∷ ops) e hd hv is = accepts_on d op ops hd hv.0 (after_step d op) e refl (λ m hm at. ran_accepts m ops e hm hv.1 at) is
 
-pub ran_refuses : (d : Data) (ops : List Operation) (k : ℕ) (kind : PatchErrorKind) → IsDocument d → AreWhole ops → ran d ops ≡ Err (fault k kind) → RefusesAt d ops k kind
+pub ran_refuses : (d : Data) (ops : List Operation) (k : ℕ) (kind : PatchErrorKind) → IsDocument d → AreWhole ops → after_run d ops ≡ Err (fault k kind) → RefusesAt d ops k kind
 ran_refuses d [] k kind hd hv is = cc
-ran_refuses d (op ∷ ops) k kind hd hv is = refuses_on d op ops hd hv.0 (stepped d op) k kind refl (λ m j hm at. ran_refuses m ops j kind hm hv.1 at) is
+ran_refuses d (op ∷ ops) k kind hd hv is = refuses_on d op ops hd hv.0 (after_step d op) k kind refl (λ m j hm at. ran_refuses m ops j kind hm hv.1 at) is
 
 -- ---- one end alone
 
 module _ (d : Data) (ops : List Operation) (hd : IsDocument d) (hv : AreWhole ops) where
-  pub accepted : (e : Data) → ran d ops ≡ Ok e → IsAccepted d ops e
+  pub accepted : (e : Data) → after_run d ops ≡ Ok e → IsAccepted d ops e
   accepted e is = search (rules, ran_accepts, accepts_ran, refuses_ran)
 
-  refused : (k : ℕ) (kind : PatchErrorKind) → ran d ops ≡ Err (fault k kind) → IsRefused d ops k kind
+  refused : (k : ℕ) (kind : PatchErrorKind) → after_run d ops ≡ Err (fault k kind) → IsRefused d ops k kind
   refused k kind is = search (rules, ran_refuses, refuses_ran, accepts_ran)
 
-  on_outcome : (o : Outcome) → ran d ops ≡ o → Ends d ops
+  on_outcome : (o : Outcome) → after_run d ops ≡ o → Ends d ops
   on_outcome (Ok e) is = inl (e, accepted e is)
   on_outcome (Err (fault k kind)) is = inr (k, kind, refused k kind is)
 
 pub ends : (d : Data) (ops : List Operation) → IsDocument d → AreWhole ops → Ends d ops
-ends d ops hd hv = on_outcome d ops hd hv (ran d ops) refl
+ends d ops hd hv = on_outcome d ops hd hv (after_run d ops) refl
 
 pub accepts_document : (d : Data) (ops : List Operation) (e : Data) → IsDocument d → AreWhole ops → Accepts d ops e → IsDocument e
 accepts_document d [] e hd hv h = subst IsDocument h hd

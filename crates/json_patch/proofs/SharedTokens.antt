@@ -8,11 +8,11 @@ use Rattle.json_patch.specs.PartRun.{IsLongest}
 use Rattle.json_patch.specs.declared.operation.PatchOperation.{PatchOperation}
 use Rattle.json_patch.specs.Shared.{IsWithin, AreWithin, IsNotEmpty, IsShared}
 use Rattle.json_patch.specs.ChangeComputed.{front_of, last_of}
-use Rattle.json_patch.specs.SharedComputed.{common, all_pointers, parents_of, shared_of, shared}
-use Rattle.json_patch.proofs.Applied.{IsAt}
-use Rattle.json_patch.proofs.Resolved.{split_whole, split_is}
+use Rattle.json_patch.specs.SharedComputed.{common_prefix, all_pointers, parents_of, shared_of, shared_tokens}
+use Rattle.json_patch.proofs.ProgramRuns.{IsAt}
+use Rattle.json_patch.proofs.Locations.{split_whole, split_is}
 
--- ---- the longest shared beginning
+-- ---- the longest shared_tokens beginning
 
 prefix_trans : (P Q R : Pointer) → IsPrefix P Q → IsPrefix Q R → IsPrefix P R
 prefix_trans P Q R h g = (h.0 ++ g.0, g.1 ∙ ap (λ X. X ++ g.0) h.1 ∙ append_assoc P h.0 g.0)
@@ -23,17 +23,17 @@ prefix_more t P Q h = (h.0, ap (λ X. t ∷ X) h.1)
 either : (b : Bool) (X : Pointer → Type 0) (P : Pointer) → (b ≡ true → X P) → X [] → X (if b then P else [])
 either b X P h g = search rules
 
-common_left : (P Q : Pointer) → IsPrefix (common P Q) P
-common_left (t ∷ P) (u ∷ Q) = either (bytes_eq t u) (λ X. IsPrefix X (t ∷ P)) (t ∷ common P Q) (λ e. prefix_more t (common P Q) P (common_left P Q)) (t ∷ P, refl)
+common_left : (P Q : Pointer) → IsPrefix (common_prefix P Q) P
+common_left (t ∷ P) (u ∷ Q) = either (bytes_eq t u) (λ X. IsPrefix X (t ∷ P)) (t ∷ common_prefix P Q) (λ e. prefix_more t (common_prefix P Q) P (common_left P Q)) (t ∷ P, refl)
 common_left P Q = search rules
 
-common_right : (P Q : Pointer) → IsPrefix (common P Q) Q
+common_right : (P Q : Pointer) → IsPrefix (common_prefix P Q) Q
 common_right (t ∷ P) (u ∷ Q) =
-    either (bytes_eq t u) (λ X. IsPrefix X (u ∷ Q)) (t ∷ common P Q)
-    (λ e. subst (λ x. IsPrefix (x ∷ common P Q) (u ∷ Q)) (sym ((bytes_eq-Decides t u).0 e)) (prefix_more u (common P Q) Q (common_right P Q))) (u ∷ Q, refl)
+    either (bytes_eq t u) (λ X. IsPrefix X (u ∷ Q)) (t ∷ common_prefix P Q)
+    (λ e. subst (λ x. IsPrefix (x ∷ common_prefix P Q) (u ∷ Q)) (sym ((bytes_eq-Decides t u).0 e)) (prefix_more u (common_prefix P Q) Q (common_right P Q))) (u ∷ Q, refl)
 common_right P Q = search rules
 
-common_longest : (T P Q : Pointer) → IsPrefix T P → IsPrefix T Q → IsPrefix T (common P Q)
+common_longest : (T P Q : Pointer) → IsPrefix T P → IsPrefix T Q → IsPrefix T (common_prefix P Q)
 common_longest (t ∷ T) (u ∷ P) (w ∷ Q) h g = search (rules, bytes_eq, bytes_eq-Decides, common_longest T P Q)
 common_longest T P Q h g = search rules
 
@@ -62,16 +62,16 @@ record Longest (S : Pointer) (Ps : List Pointer) (R : Pointer) : Type 0 where
 
 parents_longest : (S : Pointer) (Ps : List Pointer) (R : Pointer) → parents_of S Ps ≡ Some R → Longest S Ps R
 parents_longest S ((t ∷ P) ∷ Ps) R is =
-    let i : Longest (common S (front_of t P)) Ps R = parents_longest (common S (front_of t P)) Ps R is in
+    let i : Longest (common_prefix S (front_of t P)) Ps R = parents_longest (common_prefix S (front_of t P)) Ps R is in
     record {
-      first = prefix_trans R (common S (front_of t P)) S i.first (common_left S (front_of t P));
-      all = (front_proper R t P (prefix_trans R (common S (front_of t P)) (front_of t P) i.first (common_right S (front_of t P))), i.all);
+      first = prefix_trans R (common_prefix S (front_of t P)) S i.first (common_left S (front_of t P));
+      all = (front_proper R t P (prefix_trans R (common_prefix S (front_of t P)) (front_of t P) i.first (common_right S (front_of t P))), i.all);
       longest = λ T h g. i.longest T (common_longest T S (front_of t P) h (proper_front T t P g.0)) g.1;
     }
 parents_longest S Ps R is = search (rules, append-nil)
 
 parents_none : (S : Pointer) (Ps : List Pointer) (T : Pointer) → parents_of S Ps ≡ None → AllBegun T Ps → ⊥
-parents_none S ((t ∷ P) ∷ Ps) T is h = parents_none (common S (front_of t P)) Ps T is h.1
+parents_none S ((t ∷ P) ∷ Ps) T is h = parents_none (common_prefix S (front_of t P)) Ps T is h.1
 parents_none S Ps T is h = search (rules, no_proper)
 
 shared_longest : (Ps : List Pointer) (S : Pointer) → shared_of Ps ≡ Some S → AllBegun S Ps × ((T : Pointer) → AllBegun T Ps → IsPrefix T S)
@@ -103,11 +103,11 @@ begun_within S (test P v ∷ ops) h = (h.0, begun_within S ops h.1)
 some_pointers : (ops : List Operation) → IsNotEmpty ops → all_pointers ops ≡ [] → ⊥
 some_pointers ops h e = search rules
 
-pub shared_is : (ops : List Operation) (S : Pointer) → shared ops ≡ Some S → IsShared ops S
+pub shared_is : (ops : List Operation) (S : Pointer) → shared_tokens ops ≡ Some S → IsShared ops S
 shared_is [] S is = cc
 shared_is (op ∷ ops) S is = search (rules, shared_longest (all_pointers (op ∷ ops)) S is, begun_within S (op ∷ ops), within_begun, shared_longest, begun_within)
 
-pub not_shared : (ops : List Operation) (S : Pointer) → shared ops ≡ None → IsShared ops S → ⊥
+pub not_shared : (ops : List Operation) (S : Pointer) → shared_tokens ops ≡ None → IsShared ops S → ⊥
 not_shared ops S is h = shared_none (all_pointers ops) S (some_pointers ops h.some) is (within_begun S ops h.within)
 
 prefix_same : (P Q : Pointer) → IsPrefix P Q → IsPrefix Q P → P ≡ Q
@@ -118,14 +118,14 @@ prefix_same P Q h g = search rules
 pub shared_one : (ops : List Operation) (S T : Pointer) → IsShared ops S → IsShared ops T → S ≡ T
 shared_one ops S T h g = prefix_same S T (g.longest S h.within) (h.longest T g.within)
 
-on_shared : (ops : List Operation) (S : Pointer) (o : Option Pointer) → shared ops ≡ o → IsShared ops S → o ≡ Some S
+on_shared : (ops : List Operation) (S : Pointer) (o : Option Pointer) → shared_tokens ops ≡ o → IsShared ops S → o ≡ Some S
 on_shared ops S None is h = absurd (not_shared ops S is h)
 on_shared ops S (Some T) is h = ap Some (shared_one ops T S (shared_is ops T is) h)
 
-pub shared_exactly : (ops : List Operation) (S : Pointer) → IsShared ops S → shared ops ≡ Some S
-shared_exactly ops S h = on_shared ops S (shared ops) refl h
+pub shared_exactly : (ops : List Operation) (S : Pointer) → IsShared ops S → shared_tokens ops ≡ Some S
+shared_exactly ops S h = on_shared ops S (shared_tokens ops) refl h
 
-pub shared_iff : (ops : List Operation) (S : Pointer) → IsShared ops S ↔ (shared ops ≡ Some S)
+pub shared_iff : (ops : List Operation) (S : Pointer) → IsShared ops S ↔ (shared_tokens ops ≡ Some S)
 shared_iff ops S = (λ h. shared_exactly ops S h, λ h. shared_is ops S h)
 
 -- ---- by what is looked up of each operation
@@ -201,10 +201,10 @@ shares_all os rest first k S is le h = record {
 
 pub shares_none : (os rest : List PatchOperation) (k : ℕ) (o : PatchOperation) (S : Pointer) → k < length rest → IsAt rest k o → Shares os rest k S
     → ((T : Pointer) → IsWithin T (operation_of o) → ⊥) → (T : Pointer) → IsShared (operations os) T → ⊥
-shares_none os rest k o S less is h none T shared = none T ((within_at T rest k o less is).0 ((h T).0 shared.within).1).0
+shares_none os rest k o S less is h none T shared_tokens = none T ((within_at T rest k o less is).0 ((h T).0 shared_tokens.within).1).0
 
 pub first_shares_none : (os rest : List PatchOperation) (first : PatchOperation) → os ≡ first ∷ rest → ((T : Pointer) → IsWithin T (operation_of first) → ⊥) → (T : Pointer) → IsShared (operations os) T → ⊥
-first_shares_none os rest first is none T shared = none T (subst (λ xs. AreWithin T (operations xs)) is shared.within).0
+first_shares_none os rest first is none T shared_tokens = none T (subst (λ xs. AreWithin T (operations xs)) is shared_tokens.within).0
 
 pub even_if_none : {T : Type 0} (o : Option T) (P : Type 0) → P → IfNone o P
 even_if_none o P h = search rules

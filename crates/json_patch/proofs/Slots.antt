@@ -7,13 +7,13 @@ use Rattle.serde_json.specs.Data.{Data, array, object, Items, Members, put}
 use Rattle.serde_json.specs.Events.{items_len}
 use Rattle.serde_json.proofs.Views.{get_member-put, get_member-put_other}
 use Rattle.jsonptr.specs.PlaceLaws.{next_is_no_place}
-use Rattle.json_patch.specs.Document.{IsDocument, Step, key, place, look, sight, standing}
+use Rattle.json_patch.specs.Document.{IsDocument, Segment, key, place, look, sight, value_at}
 use Rattle.json_patch.specs.Resolve.{Aims}
 use Rattle.json_patch.specs.Change.{PutsAt, IsBeside}
 use Rattle.json_patch.specs.ChangeComputed.{slot_of, put_in, insert_item}
 use Rattle.json_patch.proofs.Members.{put_members}
 use Rattle.json_patch.proofs.Items.{get_insert, get_insert_later, get_insert_before, insert_items}
-use Rattle.json_patch.proofs.Resolved.{option_map_some}
+use Rattle.json_patch.proofs.Locations.{option_map_some}
 
 within : (b : Bool) (j n i : ℕ) → leb j n ≡ b → (if b then Some j else None) ≡ Some i → (j ≡ i) × (j ≤ n)
 within b j n i is h = search rules
@@ -27,25 +27,25 @@ fits i n le = grind (arith, nat_tests)
 pub slot_some : (t : List ℕ) (ds : Items) (i : ℕ) → Aims (array ds) t (place i) → slot_of t ds ≡ Some i
 slot_some t ds i h = search (rules, bytes_eq-Decides, next_is_no_place, bytes_eq, nat_tests)
 
-pub aims_put : (v : Data) (t : List ℕ) (p : Data) (s : Step) → Aims p t s → (q : Data) × (put_in v t p ≡ Some q)
+pub aims_put : (v : Data) (t : List ℕ) (p : Data) (s : Segment) → Aims p t s → (q : Data) × (put_in v t p ≡ Some q)
 aims_put v t (object ms) (key k) h = (object (put t v ms), refl)
 aims_put v t (array ds) (place i) h = (array (insert_item i v ds), ap (option_map (λ i. array (insert_item i v ds))) (slot_some t ds i h))
 aims_put v t p s h = absurd h
 
-pub aims_same : (p : Data) (t : List ℕ) (s r : Step) → Aims p t s → Aims p t r → s ≡ r
+pub aims_same : (p : Data) (t : List ℕ) (s r : Segment) → Aims p t s → Aims p t r → s ≡ r
 aims_same (array ds) t (place i) (place j) h g = let a : slot_of t ds ≡ Some i = slot_some t ds i h in let b : slot_of t ds ≡ Some j = slot_some t ds j g in cc
 aims_same p t s r h g = search rules
 
 pub record PutsIn (v : Data) (t : List ℕ) (p q : Data) : Type 0 where
-  pub s : Step
+  pub s : Segment
   pub aims : Aims p t s
   pub puts : PutsAt p q v [] s
   pub keeps : IsDocument p → IsDocument v → IsDocument q
 
-pub below : (o p : Option Data) (R : List Step) → o ≡ p → sight (option_and_then (λ x. standing x R) o) ≡ sight (option_and_then (λ x. standing x R) p)
-below o p R e = ap (λ o. sight (option_and_then (λ x. standing x R) o)) e
+pub below : (o p : Option Data) (R : List Segment) → o ≡ p → sight (option_and_then (λ x. value_at x R) o) ≡ sight (option_and_then (λ x. value_at x R) p)
+below o p R e = ap (λ o. sight (option_and_then (λ x. value_at x R) o)) e
 
-member_elsewhere : (v : Data) (t : List ℕ) (ms : Members) (X : List Step) → IsBeside [] (key t) X → look (object (put t v ms)) X ≡ look (object ms) X
+member_elsewhere : (v : Data) (t : List ℕ) (ms : Members) (X : List Segment) → IsBeside [] (key t) X → look (object (put t v ms)) X ≡ look (object ms) X
 member_elsewhere v t ms (key q ∷ R) b = below _ _ R (get_member-put_other q t v ms (λ h. b R (ap (λ x. key x ∷ R) h)))
 member_elsewhere v t ms X b = search rules
 
@@ -57,10 +57,10 @@ put_member_in v t ms = record {
   keeps = λ h hv. put_members t v ms h hv;
 }
 
-pub not_from : (i j : ℕ) (R : List Step) → IsBeside [] (place i) (place j ∷ R) → j < i
+pub not_from : (i j : ℕ) (R : List Segment) → IsBeside [] (place i) (place j ∷ R) → j < i
 not_from i j R b = ⊎_elim (λ (lt : j < i). lt) (λ (le : i ≤ j). absurd (b j R le refl)) (cases_lt j i)
 
-item_elsewhere : (v : Data) (i : ℕ) (ds : Items) → i ≤ items_len ds → (X : List Step) → IsBeside [] (place i) X → look (array (insert_item i v ds)) X ≡ look (array ds) X
+item_elsewhere : (v : Data) (i : ℕ) (ds : Items) → i ≤ items_len ds → (X : List Segment) → IsBeside [] (place i) X → look (array (insert_item i v ds)) X ≡ look (array ds) X
 item_elsewhere v i ds le (place j ∷ R) b = below _ _ R (get_insert_before j i v ds le (not_from i j R b))
 item_elsewhere v i ds le X b = search rules
 

@@ -10,7 +10,7 @@ use Rattle.serde_json.specs.Data.{Data, string, Items, item, no_items, Members, 
 use Rattle.jsonptr.specs.Text.{Pointer, text_of}
 use Rattle.json_patch.specs.Operation.{Parts}
 use Rattle.json_patch.specs.PatchValue.{field_if, pointer_text}
-use Rattle.json_patch.specs.Printed.{escaped, quoted, printed, printed_items, printed_members, printed_fields, printed_parts, leading_text, trailing_text}
+use Rattle.json_patch.specs.Printed.{character_text, quote, value_text, printed_items, printed_members, fields_text, parts_text, leading_text, trailing_text}
 
 -- a test that holds below n, counted down from the top
 abbrev holds_below : (ℕ → Bool) → ℕ → Bool
@@ -36,7 +36,7 @@ two_zeros = refl
 abbrev pub hexadecimal : ℕ → List ℕ
 hexadecimal c = codes "\\u00" ++ digit_char (c / 16) ∷ digit_char (c % 16) ∷ []
 
-pub escaped_control : (c : ℕ) → c < 32 → c ≢ 8 → c ≢ 9 → c ≢ 10 → c ≢ 12 → c ≢ 13 → escaped c ≡ hexadecimal c
+pub escaped_control : (c : ℕ) → c < 32 → c ≢ 8 → c ≢ 9 → c ≢ 10 → c ≢ 12 → c ≢ 13 → character_text c ≡ hexadecimal c
 escaped_control c below b t n f r = search rules
 
 pub hexadecimal-four_digits : (c : ℕ) → c < 32 → 92 ∷ 117 ∷ four_digits c ≡ hexadecimal c
@@ -45,27 +45,27 @@ hexadecimal-four_digits c below = grind (arith, common_steps, bytes_eq-Decides, 
 -- ---- the characters of a text, one by one
 
 pub escaped_more : (done text rest whole : List ℕ) (c : ℕ) → IsUtf8 text → text ≡ encode_utf8 c ++ rest
-    → done ++ flat_map escaped (chars text) ≡ whole → (done ++ escaped c) ++ flat_map escaped (chars rest) ≡ whole
+    → done ++ flat_map character_text (chars text) ≡ whole → (done ++ character_text c) ++ flat_map character_text (chars rest) ≡ whole
 escaped_more done text rest whole c utf8 step h = search (rules, append_assoc, flat_map, chars_past_char)
 
 no_bytes : (rest : List ℕ) → length rest ≡ 0 → rest ≡ []
 no_bytes rest h = grind (arith, common_steps)
 
-pub quoted_end : (done text rest : List ℕ) → length rest ≡ 0 → done ++ flat_map escaped (chars rest) ≡ flat_map escaped (chars text)
-    → (34 ∷ done) ++ 34 ∷ [] ≡ quoted text
+pub quoted_end : (done text rest : List ℕ) → length rest ≡ 0 → done ++ flat_map character_text (chars rest) ≡ flat_map character_text (chars text)
+    → (34 ∷ done) ++ 34 ∷ [] ≡ quote text
 quoted_end done text rest none h = search (rules, append-nil, flat_map, no_bytes, chars-nil)
 
 -- ---- items and members, one by one
 
 pub printed_items_more : (done before whole : List ℕ) (ds es : Items) (d : Data) → ds ≡ item d es
-    → done ++ printed_items before ds ≡ whole → ((done ++ before) ++ printed d) ++ printed_items (codes ",") es ≡ whole
+    → done ++ printed_items before ds ≡ whole → ((done ++ before) ++ value_text d) ++ printed_items (codes ",") es ≡ whole
 printed_items_more done before whole ds es d step h = simp append_assoc (rw step at h)
 
 pub printed_items_end : (done before whole : List ℕ) (ds : Items) → ds ≡ no_items → done ++ printed_items before ds ≡ whole → done ≡ whole
 printed_items_end done before whole ds none h = sym (append-nil done) ∙ (rw none at h)
 
 pub printed_members_more : (done before whole k : List ℕ) (ms ns : Members) (d : Data) → ms ≡ member k d ns
-    → done ++ printed_members before ms ≡ whole → (((done ++ before) ++ (quoted k ++ codes ":")) ++ printed d) ++ printed_members (codes ",") ns ≡ whole
+    → done ++ printed_members before ms ≡ whole → (((done ++ before) ++ (quote k ++ codes ":")) ++ value_text d) ++ printed_members (codes ",") ns ≡ whole
 printed_members_more done before whole k ms ns d step h = grind (arith, common_steps)
 
 pub printed_members_end : (done before whole : List ℕ) (ms : Members) → ms ≡ no_members → done ++ printed_members before ms ≡ whole → done ≡ whole
@@ -75,8 +75,8 @@ printed_members_end done before whole ms none h = sym (append-nil done) ∙ (rw 
 
 abbrev WritesParts : Option (List ℕ) → Option (List ℕ) → List ℕ → Option Data → Type 0
 WritesParts name from path value =
-    (((((codes "{" ++ leading_text (codes "op") name) ++ leading_text (codes "from") from) ++ (quoted (codes "path") ++ codes ":")) ++ quoted path) ++ trailing_text (codes "value") value) ++ codes "}"
-    ≡ printed_fields (field_if (codes "op") (option_map string name) ++ (field_if (codes "from") (option_map string from) ++ (codes "path", string path) ∷ field_if (codes "value") value))
+    (((((codes "{" ++ leading_text (codes "op") name) ++ leading_text (codes "from") from) ++ (quote (codes "path") ++ codes ":")) ++ quote path) ++ trailing_text (codes "value") value) ++ codes "}"
+    ≡ fields_text (field_if (codes "op") (option_map string name) ++ (field_if (codes "from") (option_map string from) ++ (codes "path", string path) ∷ field_if (codes "value") value))
 
 writes_parts : (name from : Option (List ℕ)) (path : List ℕ) (value : Option Data) → WritesParts name from path value
 writes_parts (Some n) (Some t) path (Some d) = simp (append_assoc, append-nil)
@@ -86,6 +86,6 @@ from_text : (o : Option Pointer) → option_map string (option_map text_of o) �
 from_text o = search rules
 
 pub printed_operation : (name from : Option (List ℕ)) (path : List ℕ) (p : Parts) → from ≡ option_map text_of p.from → path ≡ text_of p.path
-    → (((((codes "{" ++ leading_text (codes "op") name) ++ leading_text (codes "from") from) ++ (quoted (codes "path") ++ codes ":")) ++ quoted path) ++ trailing_text (codes "value") p.value) ++ codes "}"
-    ≡ printed_parts name p
+    → (((((codes "{" ++ leading_text (codes "op") name) ++ leading_text (codes "from") from) ++ (quote (codes "path") ++ codes ":")) ++ quote path) ++ trailing_text (codes "value") p.value) ++ codes "}"
+    ≡ parts_text name p
 printed_operation name from path p e f = writes_parts name from path p.value ∙ rw (e, f, from_text p.from) refl

@@ -6,7 +6,7 @@ use Rattle.json_patch.specs.InPlace.{AreInPlace, IsInPlace, AreTestsThenRemove}
 use Rattle.json_patch.specs.Operation.{Operation, test, IsMove, operation_of, operations}
 use Rattle.json_patch.specs.Undoing.{IsUndoable}
 use Rattle.json_patch.specs.declared.operation.PatchOperation.{PatchOperation}
-use Rattle.json_patch.proofs.Applied.{IsAt}
+use Rattle.json_patch.proofs.ProgramRuns.{IsAt}
 
 -- ---- an operation that can be undone, by its number
 

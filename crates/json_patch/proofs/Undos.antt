@@ -10,23 +10,23 @@ use Rattle.serde_json.specs.View.{view}
 use Rattle.serde_json.specs.declared.value.Value.{Value, Array}
 use Rattle.serde_json.proofs.Views.{items_len-items_view, view-Array}
 use Rattle.jsonptr.specs.Text.{Pointer, IsPrefix, ReplacesLast}
-use Rattle.jsonptr.specs.Places.{next_token, token_of}
+use Rattle.jsonptr.specs.Places.{next_token, decimal_token}
 use Rattle.jsonptr.specs.PlaceLaws.{place_is_plain}
-use Rattle.json_patch.specs.Attempt.{Steps}
-use Rattle.json_patch.specs.ChangeComputed.{found, front_of, last_of}
+use Rattle.json_patch.specs.Attempt.{ComesTo}
+use Rattle.json_patch.specs.ChangeComputed.{pointee, front_of, last_of}
 use Rattle.json_patch.specs.InPlace.{AreUnescaped, IsUnescaped}
 use Rattle.json_patch.specs.InverseComputed.{block, settled_token, undo_add, undo_at, undo_in, with_found}
 use Rattle.json_patch.specs.Operation.{Operation, move, replace, operation_of, operations, path_of}
-use Rattle.json_patch.specs.RunComputed.{ran, ran_on, stepped}
-use Rattle.json_patch.specs.SharedComputed.{stripped}
+use Rattle.json_patch.specs.RunComputed.{after_run, then_run, after_step}
+use Rattle.json_patch.specs.SharedComputed.{strip}
 use Rattle.json_patch.specs.Undoing.{AreUndos, IsUndo, IsUndoable, Records, count_in}
 use Rattle.json_patch.specs.declared.error.PatchErrorKind.{PatchErrorKind}
 use Rattle.json_patch.specs.declared.error.StepFault.{StepFault}
 use Rattle.json_patch.specs.declared.record.Keep.TheVariants.{Inverse}
 use Rattle.json_patch.specs.declared.operation.PatchOperation.{PatchOperation}
-use Rattle.json_patch.proofs.Below.{strip}
+use Rattle.json_patch.proofs.Below.{drop-append}
 use Rattle.json_patch.proofs.Parents.{no_last}
-use Rattle.json_patch.proofs.Resolved.{split_is, split_whole}
+use Rattle.json_patch.proofs.Locations.{split_is, split_whole}
 
 -- ---- where what undoes an operation works
 
@@ -36,36 +36,36 @@ settled_other o t other = search rules
 settled_last : (o : Option Data) → count_in o ≡ None → settled_token o next_token ≡ next_token
 settled_last o h = search rules
 
-settled_next : (o : Option Data) (n : ℕ) → count_in o ≡ Some n → settled_token o next_token ≡ token_of n
+settled_next : (o : Option Data) (n : ℕ) → count_in o ≡ Some n → settled_token o next_token ≡ decimal_token n
 settled_next o n h = search rules
 
 place_in : (d : Data) (F : Pointer) (t : List ℕ) (P : Pointer) (o : Option Data) → P ≡ F ++ t ∷ [] → path_of (undo_in d F t P o) ≡ F ++ settled_token o t ∷ []
 place_in d F t P o is = search rules
 
 -- the last token is settled by what stands before it
-place_settled : (d : Data) (P F : Pointer) (t : List ℕ) → P ≡ F ++ t ∷ [] → path_of (undo_add d P) ≡ F ++ settled_token (found d F) t ∷ []
+place_settled : (d : Data) (P F : Pointer) (t : List ℕ) → P ≡ F ++ t ∷ [] → path_of (undo_add d P) ≡ F ++ settled_token (pointee d F) t ∷ []
 place_settled d P F t is = search (rules, no_last, split_is, place_in, split_whole)
 
 pub place_root : (d : Data) (P : Pointer) → P ≡ [] → P ≡ path_of (undo_add d P)
 place_root d P is = rw is refl
 
 pub place_other : (d : Data) (P F : Pointer) (t : List ℕ) → P ≡ F ++ t ∷ [] → (t ≡ next_token → ⊥) → P ≡ path_of (undo_add d P)
-place_other d P F t is other = is ∙ ap (λ u. F ++ u ∷ []) (sym (settled_other (found d F) t other)) ∙ sym (place_settled d P F t is)
+place_other d P F t is other = is ∙ ap (λ u. F ++ u ∷ []) (sym (settled_other (pointee d F) t other)) ∙ sym (place_settled d P F t is)
 
-pub place_no_list : (d : Data) (P F : Pointer) (t : List ℕ) → P ≡ F ++ t ∷ [] → t ≡ next_token → None ≡ count_in (found d F) → P ≡ path_of (undo_add d P)
-place_no_list d P F t is next none = search (rules, settled_last (found d F) (sym none), place_settled d P F t is, settled_last, place_settled)
+pub place_no_list : (d : Data) (P F : Pointer) (t : List ℕ) → P ≡ F ++ t ∷ [] → t ≡ next_token → None ≡ count_in (pointee d F) → P ≡ path_of (undo_add d P)
+place_no_list d P F t is next none = search (rules, settled_last (pointee d F) (sym none), place_settled d P F t is, settled_last, place_settled)
 
 -- the place in the document, where the tokens of S lead to d
-pub place_numbered : (r : Result Pointer AllocError) (d : Data) (S P R F : Pointer) (t u : List ℕ) (n : ℕ) → P ≡ S ++ R → R ≡ F ++ t ∷ [] → t ≡ next_token → Some n ≡ count_in (found d F) → u ≡ token_of n → IfOk r (ReplacesLast P u)
+pub place_numbered : (r : Result Pointer AllocError) (d : Data) (S P R F : Pointer) (t u : List ℕ) (n : ℕ) → P ≡ S ++ R → R ≡ F ++ t ∷ [] → t ≡ next_token → Some n ≡ count_in (pointee d F) → u ≡ decimal_token n → IfOk r (ReplacesLast P u)
     → IfOk r (λ Q. Q ≡ S ++ path_of (undo_add d R))
-place_numbered (Ok Q) d S P R F t u n whole is next count named at = search (rules, append_assoc S F (t ∷ []), append_assoc S F (u ∷ []), settled_next (found d F) n (sym count), place_settled d R F t is, append_assoc, settled_next, place_settled)
+place_numbered (Ok Q) d S P R F t u n whole is next count named at = search (rules, append_assoc S F (t ∷ []), append_assoc S F (u ∷ []), settled_next (pointee d F) n (sym count), place_settled d R F t is, append_assoc, settled_next, place_settled)
 place_numbered (Err e) d S P R F t u n whole is next count named at = at
 
 pub place_kept : (r : Result Pointer AllocError) (S P R Q : Pointer) → P ≡ S ++ R → R ≡ Q → IfOk r (λ b. b ≡ P) → IfOk r (λ b. b ≡ S ++ Q)
 place_kept r S P R Q whole same h = search rules
 
 pub prefix_rest : (S P : Pointer) → IsPrefix S P → P ≡ S ++ drop (length S) P
-prefix_rest S P h = h.1 ∙ ap (λ R. S ++ R) (sym (ap (drop (length S)) h.1 ∙ strip S h.0))
+prefix_rest S P h = h.1 ∙ ap (λ R. S ++ R) (sym (ap (drop (length S)) h.1 ∙ drop-append S h.0))
 
 pub count_here : (n : ℕ) (v : Value) (m : Vec Value Global) → n ≡ vec_len m → v ≡ Array m → Some n ≡ count_in (Some (view v))
 count_here n v m len is = let same : n ≡ length m.items = omega arith in rw (is, view-Array m) (ap Some (same ∙ sym (items_len-items_view m.items)))
@@ -79,7 +79,7 @@ first_of : (u w : Operation) (us ws : List Operation) → ◌≡◌ {A = List Op
 first_of u w us ws is = cc
 
 -- a `move` that isn't made
-pub move_refused : {T : Type 0} (r : Result T StepFault) (P : StepFault → Type 0) (d e : Data) (S G Q : Pointer) (olds news : List Operation) → IsErrAnd r P → Steps r (stepped d (stripped S (move G Q))) e → news ≡ olds → Records Inverse r d e S (move G Q) olds news
+pub move_refused : {T : Type 0} (r : Result T StepFault) (P : StepFault → Type 0) (d e : Data) (S G Q : Pointer) (olds news : List Operation) → IsErrAnd r P → ComesTo r (after_step d (strip S (move G Q))) e → news ≡ olds → Records Inverse r d e S (move G Q) olds news
 move_refused (Ok x) P d e S G Q olds news fails stops same = absurd fails
 move_refused (Err why) P d e S G Q olds news fails stops same = record { refused = stops; kept = same; unchanged = λ other. absurd (other tt) }
 
@@ -93,7 +93,7 @@ unescaped_front : (t : List ℕ) (P : Pointer) → AreUnescaped (t ∷ P) → Ar
 unescaped_front t [] h = tt
 unescaped_front t (u ∷ P) h = (h.0, unescaped_front u P h.1)
 
-settled_unescaped : (b : Bool) (i : ℕ) (t : List ℕ) → IsUnescaped t → IsUnescaped (if b then token_of i else t)
+settled_unescaped : (b : Bool) (i : ℕ) (t : List ℕ) → IsUnescaped t → IsUnescaped (if b then decimal_token i else t)
 settled_unescaped b i t h = search (rules, place_is_plain)
 
 at_light : (P : Pointer) (o : Option Data) → AreUnescaped P → IsUndo (undo_at P o)
@@ -130,15 +130,15 @@ undos_parts (x ∷ xs) u h = let more = undos_parts xs u h.1 in ((h.0, more.0), 
 pub light_more : (olds news B : List Operation) → news ≡ olds ++ reverse B → AreUndos B → AreUndos olds → AreUndos news
 light_more olds news B wrote h before = subst AreUndos (sym wrote) (undos_joined olds (reverse B) before (undos_reverse B h))
 
-first_on : (r : Result Data PatchErrorKind) (ops : List Operation) (d : Data) → ran_on r (λ m. ran m ops) ≡ Ok d → (m : Data) × (r ≡ Ok m) × (ran m ops ≡ Ok d)
+first_on : (r : Result Data PatchErrorKind) (ops : List Operation) (d : Data) → then_run r (λ m. after_run m ops) ≡ Ok d → (m : Data) × (r ≡ Ok m) × (after_run m ops ≡ Ok d)
 first_on r ops d is = search rules
 
 last_first : (us rest : List PatchOperation) (u : PatchOperation) → us ≡ rest ++ u ∷ [] → operations us ≡ operations rest ++ operation_of u ∷ []
 last_first us rest u is = ap operations is ∙ map-append operation_of rest (u ∷ [])
 
-pub undo_last : (us rest : List PatchOperation) (u : PatchOperation) (e new d : Data) → us ≡ rest ++ u ∷ [] → ((m : Data) → IsUndo (operation_of u) → stepped e (operation_of u) ≡ Ok m → new ≡ m)
-    → AreUndos (operations us) × (ran e (reverse (operations us)) ≡ Ok d) → AreUndos (operations rest) × (ran new (reverse (operations rest)) ≡ Ok d)
-undo_last us rest u e new d is made h = search (rules, undos_parts (operations rest) (operation_of u) (subst AreUndos (last_first us rest u is) h.0), last_first us rest u is, reverse-append (operations rest) (operation_of u ∷ []), first_on (stepped e (operation_of u)) (reverse (operations rest)) d, undos_parts, last_first, reverse-append, first_on)
+pub undo_last : (us rest : List PatchOperation) (u : PatchOperation) (e new d : Data) → us ≡ rest ++ u ∷ [] → ((m : Data) → IsUndo (operation_of u) → after_step e (operation_of u) ≡ Ok m → new ≡ m)
+    → AreUndos (operations us) × (after_run e (reverse (operations us)) ≡ Ok d) → AreUndos (operations rest) × (after_run new (reverse (operations rest)) ≡ Ok d)
+undo_last us rest u e new d is made h = search (rules, undos_parts (operations rest) (operation_of u) (subst AreUndos (last_first us rest u is) h.0), last_first us rest u is, reverse-append (operations rest) (operation_of u ∷ []), first_on (after_step e (operation_of u)) (reverse (operations rest)) d, undos_parts, last_first, reverse-append, first_on)
 
 pub take_more : (k : ℕ) (xs ys zs : List Operation) → take k xs ≡ zs → length zs ≡ k → take k (xs ++ ys) ≡ zs
 take_more k xs ys zs is n = grind (arith, common_steps)

@@ -4,7 +4,7 @@ use Rattle.serde_json.specs.Data.{Data}
 use Rattle.serde_json.specs.View.{view}
 use Rattle.serde_json.specs.declared.value.Value.{Value}
 use Rattle.jsonptr.specs.Text.{Pointer, IsProperPrefix}
-use Rattle.json_patch.specs.ChangeComputed.{found, removed}
+use Rattle.json_patch.specs.ChangeComputed.{pointee, after_remove}
 use Rattle.json_patch.specs.declared.error.PatchErrorKind.{PatchErrorKind}
 use Rattle.json_patch.specs.declared.error.PatchErrorKind.TheVariants.{InvalidPointer}
 use Rattle.json_patch.specs.declared.error.StepFault.{StepFault}
@@ -21,15 +21,15 @@ Attempts (Ok x) wanted old new = wanted ≡ Some new
 Attempts (Err fault) wanted old new = Excuses fault wanted × (new ≡ old)
 
 -- the fault is the refusal of what an operation comes to; where memory is short, nothing is said
-abbrev pub Refuses : StepFault → Result Data PatchErrorKind → Type 0
-Refuses (Refused kind) wanted = wanted ≡ Err kind
-Refuses (Memory e) wanted = Unit {0}
+abbrev pub FailsAs : StepFault → Result Data PatchErrorKind → Type 0
+FailsAs (Refused kind) wanted = wanted ≡ Err kind
+FailsAs (Memory e) wanted = Unit {0}
 
 -- what an operation comes to, where memory suffices
-abbrev pub Steps : {T : Type 0} → Result T StepFault → Result Data PatchErrorKind → Data → Type 0
-Steps (Ok x) wanted new = wanted ≡ Ok new
-Steps (Err fault) wanted new = Refuses fault wanted
+abbrev pub ComesTo : {T : Type 0} → Result T StepFault → Result Data PatchErrorKind → Data → Type 0
+ComesTo (Ok x) wanted new = wanted ≡ Ok new
+ComesTo (Err fault) wanted new = FailsAs fault wanted
 
 -- a `move` from F to P can take the value out of `old`: that leaves `new`
 abbrev pub TakesOut : Data → Data → Pointer → Pointer → Value → Type 0
-TakesOut old new F P v = (IsProperPrefix F P → ⊥) × (removed old F ≡ Some new) × (found old F ≡ Some (view v))
+TakesOut old new F P v = (IsProperPrefix F P → ⊥) × (after_remove old F ≡ Some new) × (pointee old F ≡ Some (view v))

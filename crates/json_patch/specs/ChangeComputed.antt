@@ -5,7 +5,7 @@ use Rattle.std.specs.Cmp.Lexicographic.{slice_cmp}
 use Rattle.serde_json.specs.Data.{Data, array, object, Items, no_items, item, Members, no_members, member, put}
 use Rattle.serde_json.specs.Events.{items_len}
 use Rattle.jsonptr.specs.Places.{place_of, next_token}
-use Rattle.json_patch.specs.Document.{Step, key, place, child}
+use Rattle.json_patch.specs.Document.{Segment, key, place, child}
 
 -- the items with v before the one at n, or last
 abbrev pub insert_item : ℕ → Data → Items → Items
@@ -29,19 +29,19 @@ without k no_members = no_members
 without k (member l d ms) = match_ordering (slice_cmp nat_cmp k l) (member l d (without k ms)) ms (member l d (without k ms))
 
 -- the step that a token names
-abbrev pub step_of : Data → List ℕ → Option Step
-step_of (array ds) t = option_map place (place_of t)
-step_of (object ms) t = Some (key t)
-step_of d t = None
+abbrev pub segment_of : Data → List ℕ → Option Segment
+segment_of (array ds) t = option_map place (place_of t)
+segment_of (object ms) t = Some (key t)
+segment_of d t = None
 
 -- the document with v as its child
-abbrev pub set_child : Step → Data → Data → Data
+abbrev pub set_child : Segment → Data → Data → Data
 set_child (key k) v (object ms) = object (put k v ms)
 set_child (place i) v (array ds) = array (set_item i v ds)
 set_child s v d = d
 
 -- the document without its child
-abbrev pub drop_child : Step → Data → Data
+abbrev pub drop_child : Segment → Data → Data
 drop_child (key k) (object ms) = object (without k ms)
 drop_child (place i) (array ds) = array (remove_item i ds)
 drop_child s d = d
@@ -59,17 +59,17 @@ put_in v t (object ms) = Some (object (put t v ms))
 put_in v t d = None
 
 abbrev pub take_from : List ℕ → Data → Option Data
-take_from t d = option_and_then (λ s. option_map (λ c. drop_child s d) (child s d)) (step_of d t)
+take_from t d = option_and_then (λ s. option_map (λ c. drop_child s d) (child s d)) (segment_of d t)
 
 -- the document that stands at a pointer
-abbrev pub found : Data → List (List ℕ) → Option Data
-found d [] = Some d
-found d (t ∷ P) = option_and_then (λ s. option_and_then (λ c. found c P) (child s d)) (step_of d t)
+abbrev pub pointee : Data → List (List ℕ) → Option Data
+pointee d [] = Some d
+pointee d (t ∷ P) = option_and_then (λ s. option_and_then (λ c. pointee c P) (child s d)) (segment_of d t)
 
 -- the document with f of what stands at a pointer
-abbrev pub altered : (Data → Option Data) → Data → List (List ℕ) → Option Data
-altered f d [] = f d
-altered f d (t ∷ P) = option_and_then (λ s. option_and_then (λ c. option_map (λ e. set_child s e d) (altered f c P)) (child s d)) (step_of d t)
+abbrev pub after_change : (Data → Option Data) → Data → List (List ℕ) → Option Data
+after_change f d [] = f d
+after_change f d (t ∷ P) = option_and_then (λ s. option_and_then (λ c. option_map (λ e. set_child s e d) (after_change f c P)) (child s d)) (segment_of d t)
 
 -- a pointer that begins with t and goes on with P, split before its last token
 abbrev pub front_of : List ℕ → List (List ℕ) → List (List ℕ)
@@ -80,13 +80,13 @@ abbrev pub last_of : List ℕ → List (List ℕ) → List ℕ
 last_of t [] = t
 last_of t (u ∷ P) = last_of u P
 
-abbrev pub added : Data → List (List ℕ) → Data → Option Data
-added d [] v = Some v
-added d (t ∷ P) v = altered (put_in v (last_of t P)) d (front_of t P)
+abbrev pub after_add : Data → List (List ℕ) → Data → Option Data
+after_add d [] v = Some v
+after_add d (t ∷ P) v = after_change (put_in v (last_of t P)) d (front_of t P)
 
-abbrev pub removed : Data → List (List ℕ) → Option Data
-removed d [] = None
-removed d (t ∷ P) = altered (take_from (last_of t P)) d (front_of t P)
+abbrev pub after_remove : Data → List (List ℕ) → Option Data
+after_remove d [] = None
+after_remove d (t ∷ P) = after_change (take_from (last_of t P)) d (front_of t P)
 
-abbrev pub replaced : Data → List (List ℕ) → Data → Option Data
-replaced d P v = altered (λ c. Some v) d P
+abbrev pub after_replace : Data → List (List ℕ) → Data → Option Data
+after_replace d P v = after_change (λ c. Some v) d P

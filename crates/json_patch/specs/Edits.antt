@@ -3,7 +3,7 @@ use Rattle.std.specs.Prelude.{◌≡◌, ℕ, List, [], ◌∷◌, Option, Some,
 use Rattle.serde_json.specs.Data.{Data, array, object}
 use Rattle.serde_json.specs.View.{view}
 use Rattle.jsonptr.specs.Text.{Pointer}
-use Rattle.json_patch.specs.ChangeComputed.{put_in, take_from, found, altered}
+use Rattle.json_patch.specs.ChangeComputed.{put_in, take_from, pointee, after_change}
 use Rattle.json_patch.specs.InverseComputed.{block, undo_add}
 use Rattle.json_patch.specs.Operation.{Operation, add, remove, replace, move, copy, test, path_of}
 use Rattle.json_patch.specs.declared.walk.Edit.{Edit}
@@ -15,22 +15,22 @@ use Rattle.json_patch.specs.declared.walk.Displaced.TheVariants.{Nothing, Former
 abbrev pub made_by : Edit → List ℕ → Data → Option Data
 made_by (Insert v) t d = put_in (view v) t d
 made_by Take t d = take_from t d
-made_by (Swap v) t d = altered (λ c. Some (view v)) d (t ∷ [])
+made_by (Swap v) t d = after_change (λ c. Some (view v)) d (t ∷ [])
 
 -- what the edit finds in a container at a token
 abbrev pub Displaces : Edit → List ℕ → Data → Displaced → Type 0
 Displaces (Insert v) t (array ds) Nothing = Unit {0}
-Displaces (Insert v) t (object ms) Nothing = found (object ms) (t ∷ []) ≡ None
-Displaces (Insert v) t (object ms) (Former w) = found (object ms) (t ∷ []) ≡ Some (view w)
-Displaces Take t d (Taken w) = found d (t ∷ []) ≡ Some (view w)
-Displaces (Swap v) t d (Former w) = found d (t ∷ []) ≡ Some (view w)
+Displaces (Insert v) t (object ms) Nothing = pointee (object ms) (t ∷ []) ≡ None
+Displaces (Insert v) t (object ms) (Former w) = pointee (object ms) (t ∷ []) ≡ Some (view w)
+Displaces Take t d (Taken w) = pointee d (t ∷ []) ≡ Some (view w)
+Displaces (Swap v) t d (Former w) = pointee d (t ∷ []) ≡ Some (view w)
 Displaces edit t d was = ⊥
 
 -- the same in the container that stands at a pointer
 abbrev pub DisplacesAt : Edit → Data → Pointer → List ℕ → Displaced → Type 0
-DisplacesAt edit d P t was = (c : Data) × (found d P ≡ Some c) × Displaces edit t c was
+DisplacesAt edit d P t was = (c : Data) × (pointee d P ≡ Some c) × Displaces edit t c was
 
--- what takes back, at this place, a change that found this
+-- what takes back, at this place, a change that pointee this
 abbrev pub undo_at_place : Pointer → Displaced → Operation
 undo_at_place P Nothing = remove P
 undo_at_place P (Former w) = replace P (view w)
@@ -38,7 +38,7 @@ undo_at_place P (Taken w) = add P (view w)
 
 -- it is what stood at P
 abbrev pub IsTaken : Data → Pointer → Displaced → Type 0
-IsTaken d P (Taken w) = found d P ≡ Some (view w)
+IsTaken d P (Taken w) = pointee d P ≡ Some (view w)
 IsTaken d P was = ⊥
 
 -- where the operation works that takes back this one

@@ -7,7 +7,8 @@ use Rattle.serde_json.specs.Data.{Data, null, object, Members, put}
 use Rattle.serde_json.specs.Find.{get, get_member}
 use Rattle.serde_json.specs.View.{view}
 use Rattle.json_patch.specs.ChangeComputed.{without}
-use Rattle.json_patch.specs.Document.{IsDocument, AreMembers, sight_of, map as an_object}
+use Rattle.json_patch.specs.Document.{IsDocument, AreMembers, sight_of}
+use Rattle.json_patch.specs.Sight.{Sight}
 use Rattle.json_patch.specs.Merged.{IsMergedMember}
 use Rattle.json_patch.specs.declared.merging.Former.{Former, fold-Former}
 use Rattle.json_patch.specs.declared.merging.Former.TheOpen.{Former-F}
@@ -15,8 +16,8 @@ use Rattle.json_patch.specs.declared.merging.Former.TheOpen.{Former-F}
 mutual
   -- w is d with the merge patch p merged into it, but for the members that p removes
   pub data IsFilled : Data → Data → Data → Type 0 where
-    replaces : {d p : Data} → sight_of p ≢ an_object → IsFilled d p p
-    by_key : {d p w : Data} → sight_of p ≡ an_object → sight_of w ≡ an_object → ((k : List ℕ) → IsFilledMember (get k d) (get k p) (get k w)) → IsFilled d p w
+    replaces : {d p : Data} → sight_of p ≢ Sight.object → IsFilled d p p
+    by_key : {d p w : Data} → sight_of p ≡ Sight.object → sight_of w ≡ Sight.object → ((k : List ℕ) → IsFilledMember (get k d) (get k p) (get k w)) → IsFilled d p w
 
   pub data IsFilledMember : Option Data → Option Data → Option Data → Type 0 where
     stays : {was : Option Data} → IsFilledMember was None was
@@ -29,25 +30,25 @@ with_member k None ms = without k ms
 with_member k (Some d) ms = put k d ms
 
 -- the members before the changes of a log, the last of which is taken back first
-abbrev pub restored : List (Bor (List ℕ) × (Option Data → Option Data)) → Members → Members
-restored [] ms = ms
-restored (e ∷ log) ms = let ns = restored log ms in with_member e.0.now (e.1 (get_member e.0.now ns)) ns
+abbrev pub restore_members : List (Bor (List ℕ) × (Option Data → Option Data)) → Members → Members
+restore_members [] ms = ms
+restore_members (e ∷ log) ms = let ns = restore_members log ms in with_member e.0.now (e.1 (get_member e.0.now ns)) ns
 
 -- one level, with what is within already seen as what takes it back
-abbrev pub formerly_step : Former-F (Option Data → Option Data) → Option Data → Option Data
-formerly_step Former-F.Nothing now = None
-formerly_step (Former-F.Replaced v) None = None
-formerly_step (Former-F.Replaced v) (Some d) = Some (view v)
-formerly_step (Former-F.Filled log) (Some (object ms)) = Some (object (restored log.items ms))
-formerly_step (Former-F.Filled log) now = now
+abbrev pub former_value_step : Former-F (Option Data → Option Data) → Option Data → Option Data
+former_value_step Former-F.Nothing now = None
+former_value_step (Former-F.Replaced v) None = None
+former_value_step (Former-F.Replaced v) (Some d) = Some (view v)
+former_value_step (Former-F.Filled log) (Some (object ms)) = Some (object (restore_members log.items ms))
+former_value_step (Former-F.Filled log) now = now
 
 -- what stood where now this stands
-abbrev pub formerly : Former → Option Data → Option Data
-formerly = fold-Former (Option Data → Option Data) formerly_step
+abbrev pub former_value : Former → Option Data → Option Data
+former_value = fold-Former (Option Data → Option Data) former_value_step
 
 -- the members before the changes of this log
 abbrev pub members_before : List (Bor (List ℕ) × Former) → Members → Members
-members_before log ms = restored (map (λ e. (e.0, formerly e.1)) log) ms
+members_before log ms = restore_members (map (λ e. (e.0, former_value e.1)) log) ms
 
 -- at each name
 abbrev pub AreFilled : Members → Members → Members → Type 0
@@ -55,7 +56,7 @@ AreFilled ms ps ns = (k : List ℕ) → IsFilledMember (get_member k ms) (get_me
 
 -- a document is filled, and what was found leads back; or it is as it was
 abbrev pub Fills : Result Former AllocError → Data → Data → Data → Type 0
-Fills (Ok former) d p w = IsFilled d p w × IsDocument w × (formerly former (Some w) ≡ Some d)
+Fills (Ok former) d p w = IsFilled d p w × IsDocument w × (former_value former (Some w) ≡ Some d)
 Fills (Err e) d p w = w ≡ d
 
 -- the same of members
@@ -65,7 +66,7 @@ FillsAll (Err e) ms ps ns = ns ≡ ms
 
 -- and of the member at the name t
 abbrev pub FillsAt : Result Former AllocError → List ℕ → Members → Data → Members → Type 0
-FillsAt (Ok former) t ms q ns = (w : Data) × (ns ≡ put t w ms) × IsFilled (unwrap_or (get_member t ms) null) q w × IsDocument w × (formerly former (Some w) ≡ get_member t ms)
+FillsAt (Ok former) t ms q ns = (w : Data) × (ns ≡ put t w ms) × IsFilled (unwrap_or (get_member t ms) null) q w × IsDocument w × (former_value former (Some w) ≡ get_member t ms)
 FillsAt (Err e) t ms q ns = ns ≡ ms
 
 -- one member that is filled, whatever it was before, and is left or removed

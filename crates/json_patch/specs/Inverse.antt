@@ -3,7 +3,7 @@ use Rattle.std.specs.Prelude.{◌≡◌, ◌⊎◌, ℕ, List, [], ◌∷◌, �
 use Rattle.serde_json.specs.Data.{Data, array, Items}
 use Rattle.jsonptr.specs.Text.{Pointer}
 use Rattle.jsonptr.specs.Places.{place_of, next_token}
-use Rattle.json_patch.specs.Document.{Step, key, place}
+use Rattle.json_patch.specs.Document.{Segment, key, place}
 use Rattle.json_patch.specs.Resolve.{HasTarget, StandsAt}
 use Rattle.json_patch.specs.Change.{IsRemoved}
 use Rattle.json_patch.specs.Operation.{Operation, add, remove, replace, move, copy, test}
@@ -11,14 +11,14 @@ use Rattle.json_patch.specs.Step.{Never, Leaves}
 
 -- u takes back what an add at P put at the step s: it removes a member that was not there, puts back one that was, or
 -- removes the item, with a token of its number in place of the last of P
-abbrev pub TakesBack : Data → Pointer → Step → Operation → Type 0
+abbrev pub TakesBack : Data → Pointer → Segment → Operation → Type 0
 TakesBack d P (key k) u = (Never (StandsAt d P) × (u ≡ remove P)) ⊎ ((w : Data) × StandsAt d P w × (u ≡ replace P w))
 TakesBack d P (place i) u = (front : Pointer) × (last t : List ℕ) × (P ≡ front ++ last ∷ []) × (place_of t ≡ Some i) × (u ≡ remove (front ++ t ∷ []))
 
 -- u undoes an add at P on d: at the root it puts back d, and elsewhere it takes back what came to P's target
 abbrev pub UndoesAdd : Data → Pointer → Operation → Type 0
 UndoesAdd d [] u = u ≡ replace [] d
-UndoesAdd d (t ∷ P) u = (L : List Step) × (s : Step) × HasTarget d (t ∷ P) L s × TakesBack d (t ∷ P) s u
+UndoesAdd d (t ∷ P) u = (L : List Segment) × (s : Segment) × HasTarget d (t ∷ P) L s × TakesBack d (t ∷ P) s u
 
 -- B undoes op, accepted on d
 abbrev pub IsBlock : Data → Operation → List Operation → Type 0

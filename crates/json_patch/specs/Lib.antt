@@ -1,10 +1,11 @@
+pub mod Sight
 pub mod Document
 pub mod Resolve
 pub mod Change
 pub mod Same
 pub mod Propositions
 pub mod Operation
-pub mod Held
+pub mod PartsView
 pub mod Step
 pub mod Undoing
 pub mod Run

@@ -2,15 +2,16 @@
 use Rattle.std.specs.Prelude.{◌≡◌, ◌≢◌, ℕ, List, Option, Some, None, unwrap_or}
 use Rattle.serde_json.specs.Data.{Data, null}
 use Rattle.serde_json.specs.Find.{get}
-use Rattle.json_patch.specs.Document.{sight_of, map}
+use Rattle.json_patch.specs.Document.{sight_of}
+use Rattle.json_patch.specs.Sight.{Sight}
 
 mutual
   -- e is d with the merge patch p merged into it
   pub data IsMerged : Data → Data → Data → Type 0 where
     -- a patch that is no object is the result
-    replaces : {d p : Data} → sight_of p ≢ map → IsMerged d p p
+    replaces : {d p : Data} → sight_of p ≢ Sight.object → IsMerged d p p
     -- one that is an object leaves an object; a document that is none has no members
-    by_key : {d p e : Data} → sight_of p ≡ map → sight_of e ≡ map → ((k : List ℕ) → IsMergedMember (get k d) (get k p) (get k e)) → IsMerged d p e
+    by_key : {d p e : Data} → sight_of p ≡ Sight.object → sight_of e ≡ Sight.object → ((k : List ℕ) → IsMergedMember (get k d) (get k p) (get k e)) → IsMerged d p e
 
   -- at one key: what the document had there, what the patch has, and what is left
   pub data IsMergedMember : Option Data → Option Data → Option Data → Type 0 where

@@ -9,11 +9,11 @@ members_of (object ms) = ms
 members_of d = no_members
 
 abbrev mutual
-  pub merged : Data → Data → Data
-  merged d (object ps) = object (merged_members (members_of d) ps)
-  merged d p = p
+  pub after_merge : Data → Data → Data
+  after_merge d (object ps) = object (members_after_merge (members_of d) ps)
+  after_merge d p = p
 
-  pub merged_members : Members → Members → Members
-  merged_members ms no_members = ms
-  merged_members ms (member k null ps) = merged_members (without k ms) ps
-  merged_members ms (member k p ps) = merged_members (put k (merged (unwrap_or (get_member k ms) null) p) ms) ps
+  pub members_after_merge : Members → Members → Members
+  members_after_merge ms no_members = ms
+  members_after_merge ms (member k null ps) = members_after_merge (without k ms) ps
+  members_after_merge ms (member k p ps) = members_after_merge (put k (after_merge (unwrap_or (get_member k ms) null) p) ms) ps

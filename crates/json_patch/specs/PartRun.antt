@@ -5,7 +5,7 @@ use Rattle.jsonptr.specs.Text.{Pointer, IsPrefix}
 use Rattle.json_patch.specs.InverseComputed.{block}
 use Rattle.json_patch.specs.Operation.{Operation, add, remove, replace, move, copy, test}
 use Rattle.json_patch.specs.Shared.{AreWithin}
-use Rattle.json_patch.specs.SharedComputed.{stripped, extended_all}
+use Rattle.json_patch.specs.SharedComputed.{strip, extend_all}
 
 -- the tokens of S begin each pointer of op
 abbrev pub IsBegun : Pointer → Operation → Type 0
@@ -18,7 +18,7 @@ IsBegun S (test P v) = IsPrefix S P
 
 -- what undoes op, whose pointers begin with S, in the document that has b there
 abbrev pub block_at : Data → Pointer → Operation → List Operation
-block_at b S op = extended_all S (block b (stripped S op))
+block_at b S op = extend_all S (block b (strip S op))
 
 -- the tokens of S begin each parent, or there are none
 abbrev pub AreAt : Pointer → List Operation → Type 0

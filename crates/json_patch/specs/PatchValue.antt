@@ -1,5 +1,5 @@
 -- A patch as a JSON value (RFC 6902, sections 3 and 4): the members of an operation, when a value
--- reads as a patch, why it doesn't, and what is written for a patch.
+-- reads as a patch, why it doesn't, and what is written_value for a patch.
 use Rattle.std.specs.Prelude.{◌≡◌, ◌<◌, ℕ, zero, suc, List, [], ◌∷◌, ◌++◌, map, Option, Some, None, option_map, Result, IfErr, IsTrue, codes}
 use Rattle.std.specs.List.{list_any}
 use Rattle.std.specs.Str.{bytes_eq}
@@ -179,7 +179,7 @@ OfRefusal P (Memory e) = Unit {0}
 abbrev pub IfUnreadable : {T : Type 0} → Result T ReadFault → (ReadError → Type 0) → Type 0
 IfUnreadable r P = IfErr r (OfRefusal P)
 
--- ---- what is written
+-- ---- what is written_value
 
 -- these members, in the order of their names
 abbrev pub sorted_members : List (List ℕ × Data) → Members
@@ -191,12 +191,12 @@ abbrev pub written_fields : Operation → Data
 written_fields op = object (sorted_members (fields op))
 
 -- the value of an operation
-abbrev pub written : Operation → Data
-written op = object (sorted_members (all_fields op))
+abbrev pub written_value : Operation → Data
+written_value op = object (sorted_members (all_fields op))
 
 -- the value of a patch
 abbrev pub written_patch : List Operation → Data
-written_patch ops = array (items_of (map written ops))
+written_patch ops = array (items_of (map written_value ops))
 
 -- ---- for private clauses
 

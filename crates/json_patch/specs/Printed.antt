@@ -8,8 +8,8 @@ use Rattle.json_patch.specs.Operation.{Operation, Parts}
 use Rattle.json_patch.specs.PatchValue.{all_fields, named_fields}
 
 -- what stands for a character between the quotes (RFC 8259, section 7)
-abbrev pub escaped : ℕ → List ℕ
-escaped c =
+abbrev pub character_text : ℕ → List ℕ
+character_text c =
     if c == 34 then 92 ∷ 34 ∷ []
     else if c == 92 then 92 ∷ 92 ∷ []
     else if c == 8 then codes "\\b"
@@ -20,8 +20,8 @@ escaped c =
     else if nat_lt c 32 then codes "\\u00" ++ digit_char (c / 16) ∷ digit_char (c % 16) ∷ []
     else encode_utf8 c
 
-abbrev pub quoted : List ℕ → List ℕ
-quoted text = 34 ∷ (flat_map escaped (chars text) ++ 34 ∷ [])
+abbrev pub quote : List ℕ → List ℕ
+quote text = 34 ∷ (flat_map character_text (chars text) ++ 34 ∷ [])
 
 -- the digits of a whole number, and `null` for another
 abbrev pub number_text : Num → List ℕ
@@ -30,23 +30,23 @@ number_text (negative z) = signed_decimal z
 number_text (float x) = codes "null"
 
 abbrev mutual
-  pub printed : Data → List ℕ
-  printed null = codes "null"
-  printed (boolean true) = codes "true"
-  printed (boolean false) = codes "false"
-  printed (number n) = number_text n
-  printed (string s) = quoted s
-  printed (array ds) = codes "[" ++ (printed_items [] ds ++ codes "]")
-  printed (object ms) = codes "{" ++ (printed_members [] ms ++ codes "}")
+  pub value_text : Data → List ℕ
+  value_text null = codes "null"
+  value_text (boolean true) = codes "true"
+  value_text (boolean false) = codes "false"
+  value_text (number n) = number_text n
+  value_text (string s) = quote s
+  value_text (array ds) = codes "[" ++ (printed_items [] ds ++ codes "]")
+  value_text (object ms) = codes "{" ++ (printed_members [] ms ++ codes "}")
 
   -- the items, where this stands before the first, and a comma before each other
   pub printed_items : List ℕ → Items → List ℕ
   printed_items before no_items = []
-  printed_items before (item d ds) = before ++ (printed d ++ printed_items (codes ",") ds)
+  printed_items before (item d ds) = before ++ (value_text d ++ printed_items (codes ",") ds)
 
   pub printed_members : List ℕ → Members → List ℕ
   printed_members before no_members = []
-  printed_members before (member k d ms) = before ++ (quoted k ++ (codes ":" ++ (printed d ++ printed_members (codes ",") ms)))
+  printed_members before (member k d ms) = before ++ (quote k ++ (codes ":" ++ (value_text d ++ printed_members (codes ",") ms)))
 
 -- these members, in this order
 abbrev pub in_order : List (List ℕ × Data) → Members
@@ -58,29 +58,29 @@ abbrev pub object_of : List (List ℕ × Data) → Data
 object_of fs = object (in_order fs)
 
 -- the text of an operation's members
-abbrev pub printed_fields : List (List ℕ × Data) → List ℕ
-printed_fields fs = printed (object_of fs)
+abbrev pub fields_text : List (List ℕ × Data) → List ℕ
+fields_text fs = value_text (object_of fs)
 
 -- the operations, each the object of its members
-abbrev pub listed : List Operation → Items
-listed ops = items_of (map (λ op. object_of (all_fields op)) ops)
+abbrev pub operation_items : List Operation → Items
+operation_items ops = items_of (map (λ op. object_of (all_fields op)) ops)
 
 -- the text of a patch
-abbrev pub printed_patch : List Operation → List ℕ
-printed_patch ops = printed (array (listed ops))
+abbrev pub patch_text : List Operation → List ℕ
+patch_text ops = value_text (array (operation_items ops))
 
 -- ---- for private clauses
 
 -- the text of parts, their name as `op` where it is asked for
-abbrev pub printed_parts : Option (List ℕ) → Parts → List ℕ
-printed_parts name p = printed_fields (named_fields name p)
+abbrev pub parts_text : Option (List ℕ) → Parts → List ℕ
+parts_text name p = fields_text (named_fields name p)
 
 -- a member and the comma after it, or nothing
 abbrev pub leading_text : List ℕ → Option (List ℕ) → List ℕ
 leading_text name None = []
-leading_text name (Some text) = quoted name ++ (codes ":" ++ (quoted text ++ codes ","))
+leading_text name (Some text) = quote name ++ (codes ":" ++ (quote text ++ codes ","))
 
 -- a comma and the member after it, or nothing
 abbrev pub trailing_text : List ℕ → Option Data → List ℕ
 trailing_text name None = []
-trailing_text name (Some d) = codes "," ++ (quoted name ++ (codes ":" ++ printed d))
+trailing_text name (Some d) = codes "," ++ (quote name ++ (codes ":" ++ value_text d))

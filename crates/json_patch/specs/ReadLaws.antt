@@ -12,7 +12,7 @@ pub record IsRead (v : Data) (ops : List Operation) : Type 0 where
   pub nowhere : (k : Option ℕ) (kind : ReadKind) → RefusesPatch v k kind → ⊥
 
 -- v is refused with this number and for this kind, and so alone, and reads as no operations
-pub record IsUnread (v : Data) (k : Option ℕ) (kind : ReadKind) : Type 0 where
+pub record HasReadFault (v : Data) (k : Option ℕ) (kind : ReadKind) : Type 0 where
   pub refuses : RefusesPatch v k kind
   pub alone : (j : Option ℕ) (other : ReadKind) → RefusesPatch v j other → (j ≡ k) × (other ≡ kind)
   pub never : (ops : List Operation) → ReadsPatch v ops → ⊥
@@ -23,7 +23,7 @@ pub record IsReadAlone (v : Data) (op : Operation) : Type 0 where
   pub alone : (other : Operation) → ReadsOperation v other → other ≡ op
   pub nowhere : (kind : ReadKind) → RefusesOperation v kind → ⊥
 
-pub record IsUnreadAlone (v : Data) (kind : ReadKind) : Type 0 where
+pub record HasReadFaultAlone (v : Data) (kind : ReadKind) : Type 0 where
   pub refuses : RefusesOperation v kind
   pub alone : (other : ReadKind) → RefusesOperation v other → other ≡ kind
   pub never : (op : Operation) → ReadsOperation v op → ⊥
@@ -35,7 +35,7 @@ pub record IsReadLike (like : Operation) (v : Data) (op : Operation) : Type 0 wh
   pub alone : (other : Operation) → name_of other ≡ name_of like → ReadsFields v other → other ≡ op
   pub nowhere : (kind : ReadKind) → RefusesFields (field_names like) v kind → ⊥
 
-pub record IsUnreadLike (like : Operation) (v : Data) (kind : ReadKind) : Type 0 where
+pub record HasReadFaultLike (like : Operation) (v : Data) (kind : ReadKind) : Type 0 where
   pub refuses : RefusesFields (field_names like) v kind
   pub alone : (other : ReadKind) → RefusesFields (field_names like) v other → other ≡ kind
   pub never : (op : Operation) → name_of op ≡ name_of like → ReadsFields v op → ⊥

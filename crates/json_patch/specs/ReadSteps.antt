@@ -11,13 +11,13 @@ use Rattle.json_patch.specs.declared.reading.ItemFault.{ItemFault}
 use Rattle.json_patch.specs.declared.reading.ItemFault.TheVariants.{Refused, Memory}
 
 -- the fault of an operation that has no number
-abbrev pub unnumbered : ItemFault → ReadFault
-unnumbered (Refused kind) = fault.Refused (record { operation = None; kind = kind })
-unnumbered (Memory e) = fault.Memory e
+abbrev pub without_number : ItemFault → ReadFault
+without_number (Refused kind) = fault.Refused (record { operation = None; kind = kind })
+without_number (Memory e) = fault.Memory e
 
 -- what is said of the kind; where memory ran out, nothing is said
 abbrev pub OfKind : (ReadKind → Type 0) → ItemFault → Type 0
-OfKind P f = OfRefusal (λ e. P e.kind) (unnumbered f)
+OfKind P f = OfRefusal (λ e. P e.kind) (without_number f)
 
 abbrev pub IfUnread : {T : Type 0} → Result T ItemFault → (ReadKind → Type 0) → Type 0
 IfUnread r P = IfErr r (OfKind P)

@@ -18,7 +18,7 @@ IfRefused (Err (Refused e)) P = P e
 IfRefused (Err (Memory e)) P = Unit {0}
 
 -- what holds where memory was short
-abbrev pub OnMemory : {T : Type 0} → Result T PatchFault → Type 0 → Type 0
-OnMemory (Ok x) P = Unit {0}
-OnMemory (Err (Refused e)) P = Unit {0}
-OnMemory (Err (Memory e)) P = P
+abbrev pub IfShort : {T : Type 0} → Result T PatchFault → Type 0 → Type 0
+IfShort (Ok x) P = Unit {0}
+IfShort (Err (Refused e)) P = Unit {0}
+IfShort (Err (Memory e)) P = P

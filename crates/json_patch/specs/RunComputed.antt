@@ -5,7 +5,7 @@ use Rattle.jsonptr.specs.Text.{Pointer}
 use Rattle.json_patch.specs.Operation.{Operation, add, remove, replace, move, copy, test}
 use Rattle.json_patch.specs.declared.error.PatchErrorKind.{PatchErrorKind}
 use Rattle.json_patch.specs.declared.error.PatchErrorKind.TheVariants.{TestFailed, InvalidFromPointer, InvalidPointer, CannotMoveInsideItself}
-use Rattle.json_patch.specs.ChangeComputed.{added, removed, replaced, found}
+use Rattle.json_patch.specs.ChangeComputed.{after_add, after_remove, after_replace, pointee}
 use Rattle.json_patch.specs.SameComputed.{same}
 
 -- P begins Q, and something follows
@@ -19,25 +19,25 @@ abbrev pub or_refused : PatchErrorKind → Option Data → Result Data PatchErro
 or_refused kind None = Err kind
 or_refused kind (Some e) = Ok e
 
-abbrev pub moved : Pointer → Option Data → Option Data → Result Data PatchErrorKind
-moved P (Some v) (Some m) = or_refused InvalidPointer (added m P v)
-moved P v m = Err InvalidFromPointer
+abbrev pub after_move : Pointer → Option Data → Option Data → Result Data PatchErrorKind
+after_move P (Some v) (Some m) = or_refused InvalidPointer (after_add m P v)
+after_move P v m = Err InvalidFromPointer
 
-abbrev pub copied : Data → Pointer → Option Data → Result Data PatchErrorKind
-copied d P None = Err InvalidFromPointer
-copied d P (Some v) = or_refused InvalidPointer (added d P v)
+abbrev pub after_copy : Data → Pointer → Option Data → Result Data PatchErrorKind
+after_copy d P None = Err InvalidFromPointer
+after_copy d P (Some v) = or_refused InvalidPointer (after_add d P v)
 
-abbrev pub tested : Data → Data → Option Data → Result Data PatchErrorKind
-tested d v None = Err InvalidPointer
-tested d v (Some w) = if same w v then Ok d else Err TestFailed
+abbrev pub after_test : Data → Data → Option Data → Result Data PatchErrorKind
+after_test d v None = Err InvalidPointer
+after_test d v (Some w) = if same w v then Ok d else Err TestFailed
 
-abbrev pub stepped : Data → Operation → Result Data PatchErrorKind
-stepped d (add P v) = or_refused InvalidPointer (added d P v)
-stepped d (remove P) = or_refused InvalidPointer (removed d P)
-stepped d (replace P v) = or_refused InvalidPointer (replaced d P v)
-stepped d (move F P) = if begins F P then Err CannotMoveInsideItself else moved P (found d F) (removed d F)
-stepped d (copy F P) = copied d P (found d F)
-stepped d (test P v) = tested d v (found d P)
+abbrev pub after_step : Data → Operation → Result Data PatchErrorKind
+after_step d (add P v) = or_refused InvalidPointer (after_add d P v)
+after_step d (remove P) = or_refused InvalidPointer (after_remove d P)
+after_step d (replace P v) = or_refused InvalidPointer (after_replace d P v)
+after_step d (move F P) = if begins F P then Err CannotMoveInsideItself else after_move P (pointee d F) (after_remove d F)
+after_step d (copy F P) = after_copy d P (pointee d F)
+after_step d (test P v) = after_test d v (pointee d P)
 
 -- which operation is refused, and why
 pub data Fault : Type 0 where
@@ -46,14 +46,14 @@ pub data Fault : Type 0 where
 abbrev pub Outcome : Type 0
 Outcome = Result Data Fault
 
-abbrev pub counted : Outcome → Outcome
-counted (Ok e) = Ok e
-counted (Err (fault k kind)) = Err (fault (suc k) kind)
+abbrev pub one_later : Outcome → Outcome
+one_later (Ok e) = Ok e
+one_later (Err (fault k kind)) = Err (fault (suc k) kind)
 
-abbrev pub ran_on : Result Data PatchErrorKind → (Data → Outcome) → Outcome
-ran_on (Ok m) rest = counted (rest m)
-ran_on (Err kind) rest = Err (fault zero kind)
+abbrev pub then_run : Result Data PatchErrorKind → (Data → Outcome) → Outcome
+then_run (Ok m) rest = one_later (rest m)
+then_run (Err kind) rest = Err (fault zero kind)
 
-abbrev pub ran : Data → List Operation → Outcome
-ran d [] = Ok d
-ran d (op ∷ ops) = ran_on (stepped d op) (λ m. ran m ops)
+abbrev pub after_run : Data → List Operation → Outcome
+after_run d [] = Ok d
+after_run d (op ∷ ops) = then_run (after_step d op) (λ m. after_run m ops)

@@ -1,18 +1,18 @@
--- For private clauses: what a run has recorded, and which operations can be taken back with no memory.
+-- For private clauses: what a run has log_of, and which operations can be taken back with no memory.
 use Rattle.std.specs.Prelude.{◌≡◌, ℕ, List, [], ◌∷◌, ◌++◌, Option, Some, None, Result, Ok, Err, take}
 use mathlib.Core.List.{reverse}
 use Rattle.serde_json.specs.Data.{Data, array}
 use Rattle.serde_json.specs.Events.{items_len}
 use Rattle.jsonptr.specs.Text.{Pointer}
-use Rattle.json_patch.specs.Attempt.{Refuses}
+use Rattle.json_patch.specs.Attempt.{FailsAs}
 use Rattle.json_patch.specs.Document.{IsDocument}
 use Rattle.json_patch.specs.InPlace.{AreUnescaped}
 use Rattle.json_patch.specs.InverseComputed.{inverse}
 use Rattle.json_patch.specs.Operation.{Operation, IsMove, add, remove, replace, move, copy, test}
 use Rattle.json_patch.specs.PartRun.{block_at}
 use Rattle.json_patch.specs.Run.{Accepts}
-use Rattle.json_patch.specs.RunComputed.{stepped}
-use Rattle.json_patch.specs.SharedComputed.{stripped}
+use Rattle.json_patch.specs.RunComputed.{after_step}
+use Rattle.json_patch.specs.SharedComputed.{strip}
 use Rattle.json_patch.specs.declared.error.StepFault.{StepFault}
 use Rattle.json_patch.specs.declared.record.Keep.{Keep}
 use Rattle.json_patch.specs.declared.record.Keep.TheVariants.{Inverse, Nothing}
@@ -62,22 +62,22 @@ abbrev pub AreRecorded : Data → List Operation → ℕ → List Operation → 
 AreRecorded d ops k undo = reverse undo ≡ inverse d (take k ops)
 
 -- what is put behind the log, of operations that undo one
-abbrev pub recorded : Keep → List Operation → List Operation
-recorded Inverse B = reverse B
-recorded Nothing B = []
+abbrev pub log_of : Keep → List Operation → List Operation
+log_of Inverse B = reverse B
+log_of Nothing B = []
 
 -- op, whose pointers begin with S, makes e of d; behind the log stands, if it is kept, what undoes it
-pub record IsRecorded (keep : Keep) (d e : Data) (S : Pointer) (op : Operation) (olds news : List Operation) : Type 0 where
-  pub leaves : stepped d (stripped S op) ≡ Ok e
-  pub records : news ≡ olds ++ recorded keep (block_at d S op)
+pub record IsLogged (keep : Keep) (d e : Data) (S : Pointer) (op : Operation) (olds news : List Operation) : Type 0 where
+  pub leaves : after_step d (strip S op) ≡ Ok e
+  pub records : news ≡ olds ++ log_of keep (block_at d S op)
 
 -- op isn't made: the log is as it was, and d too, but for a `move`
-pub record IsNotRecorded (fault : StepFault) (d e : Data) (S : Pointer) (op : Operation) (olds news : List Operation) : Type 0 where
-  pub refused : Refuses fault (stepped d (stripped S op))
+pub record IsNotLogged (fault : StepFault) (d e : Data) (S : Pointer) (op : Operation) (olds news : List Operation) : Type 0 where
+  pub refused : FailsAs fault (after_step d (strip S op))
   pub kept : news ≡ olds
   pub unchanged : (IsMove op → ⊥) → e ≡ d
 
 -- what an attempt at op leaves of the document and of the log
 abbrev pub Records : {T : Type 0} → Keep → Result T StepFault → Data → Data → Pointer → Operation → List Operation → List Operation → Type 0
-Records keep (Ok x) d e S op olds news = IsRecorded keep d e S op olds news
-Records keep (Err fault) d e S op olds news = IsNotRecorded fault d e S op olds news
+Records keep (Ok x) d e S op olds news = IsLogged keep d e S op olds news
+Records keep (Err fault) d e S op olds news = IsNotLogged fault d e S op olds news

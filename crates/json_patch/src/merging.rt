@@ -1,7 +1,7 @@
 //! JSON Merge Patch (RFC 7396, section 2).
 
 ghost use Rattle.json_patch.specs.Document.{AreMembers, IsDocument};
-ghost use Rattle.json_patch.specs.Filled.{AreFilled, ArePruned, Fills, FillsAll, FillsAt, IsFilled, formerly, members_before, with_member};
+ghost use Rattle.json_patch.specs.Filled.{AreFilled, ArePruned, Fills, FillsAll, FillsAt, IsFilled, former_value, members_before, with_member};
 ghost use Rattle.json_patch.specs.Merged.{IsMerged};
 ghost use Rattle.json_patch.specs.declared.merging.Former.{Filled};
 ghost use Rattle.serde_json.specs.Data.{Data};
@@ -140,7 +140,7 @@ fn restore(mut log: Vec<(&str, Former<'_>)>, members: &mut Map<String, Value>)
 #[cycle(restoring)]
 fn restore_member(name: &str, former: Former<'_>, members: &mut Map<String, Value>)
     ensures { let ms = members_view members.old.entries in members_view members.new.entries
-        ≡ with_member name.now (formerly former.entry (get_member name.now ms)) ms }
+        ≡ with_member name.now (former_value former.entry (get_member name.now ms)) ms }
 {
     match former {
         Former::Nothing => drop(members.remove(name)),
@@ -159,7 +159,7 @@ fn restore_member(name: &str, former: Former<'_>, members: &mut Map<String, Valu
 
 #[cycle(restoring)]
 fn restore_in(log: Vec<(&str, Former<'_>)>, target: &mut Value)
-    ensures { formerly (Filled log.entry) (Some (view target.old)) ≡ Some (view target.new) }
+    ensures { former_value (Filled log.entry) (Some (view target.old)) ≡ Some (view target.new) }
 {
     if let Value::Object(members) = target {
         restore(log, members);

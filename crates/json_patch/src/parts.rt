@@ -3,9 +3,9 @@
 ghost use Rattle.std.specs.Prelude.{◌≡◌, IfOk};
 ghost use Rattle.serde_json.specs.View.{view};
 ghost use Rattle.jsonptr.specs.Pointers.{tokens_of};
-ghost use Rattle.json_patch.specs.Held.{held};
+ghost use Rattle.json_patch.specs.PartsView.{parts_view};
 ghost use Rattle.json_patch.specs.Operation.{add_of, copy_of, move_of, operation_of, parts_of, path_of, remove_of, replace_of, test_of};
-ghost use Rattle.json_patch.specs.PatchValue.{written, written_fields};
+ghost use Rattle.json_patch.specs.PatchValue.{written_value, written_fields};
 
 use crate::operation::{
     AddOperation, CopyOperation, MoveOperation, PatchOperation, RemoveOperation, ReplaceOperation,
@@ -28,7 +28,7 @@ pub(crate) struct Parts<'a> {
 
 impl AddOperation {
     pub(crate) fn parts(&self) -> Parts<'_>
-        ensures { held result ≡ parts_of (add_of self.now) }
+        ensures { parts_view result ≡ parts_of (add_of self.now) }
     {
         Parts {
             name: "add",
@@ -58,7 +58,7 @@ impl AddOperation {
 
 impl RemoveOperation {
     pub(crate) fn parts(&self) -> Parts<'_>
-        ensures { held result ≡ parts_of (remove_of self.now) }
+        ensures { parts_view result ≡ parts_of (remove_of self.now) }
     {
         Parts {
             name: "remove",
@@ -87,7 +87,7 @@ impl RemoveOperation {
 
 impl ReplaceOperation {
     pub(crate) fn parts(&self) -> Parts<'_>
-        ensures { held result ≡ parts_of (replace_of self.now) }
+        ensures { parts_view result ≡ parts_of (replace_of self.now) }
     {
         Parts {
             name: "replace",
@@ -117,7 +117,7 @@ impl ReplaceOperation {
 
 impl MoveOperation {
     pub(crate) fn parts(&self) -> Parts<'_>
-        ensures { held result ≡ parts_of (move_of self.now) }
+        ensures { parts_view result ≡ parts_of (move_of self.now) }
     {
         Parts {
             name: "move",
@@ -147,7 +147,7 @@ impl MoveOperation {
 
 impl CopyOperation {
     pub(crate) fn parts(&self) -> Parts<'_>
-        ensures { held result ≡ parts_of (copy_of self.now) }
+        ensures { parts_view result ≡ parts_of (copy_of self.now) }
     {
         Parts {
             name: "copy",
@@ -177,7 +177,7 @@ impl CopyOperation {
 
 impl TestOperation {
     pub(crate) fn parts(&self) -> Parts<'_>
-        ensures { held result ≡ parts_of (test_of self.now) }
+        ensures { parts_view result ≡ parts_of (test_of self.now) }
     {
         Parts {
             name: "test",
@@ -207,7 +207,7 @@ impl TestOperation {
 
 impl PatchOperation {
     pub(crate) fn parts(&self) -> Parts<'_>
-        ensures { held result ≡ parts_of (operation_of self.now) }
+        ensures { parts_view result ≡ parts_of (operation_of self.now) }
     {
         match self {
             PatchOperation::Add(operation) => operation.parts(),
@@ -242,7 +242,7 @@ impl PatchOperation {
 
     /// The object of the members that the operation has, with its name as `op`.
     pub fn to_value(&self, alloc: Global) -> Result<Value, AllocError>
-        ensures { IfOk result (λ v. view v ≡ written (operation_of self.now)) }
+        ensures { IfOk result (λ v. view v ≡ written_value (operation_of self.now)) }
     {
         let parts = self.parts();
         to_object(alloc, Some(parts.name), parts)

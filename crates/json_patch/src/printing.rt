@@ -8,10 +8,10 @@ ghost use Rattle.serde_json.specs.Read.{max_depth, read};
 ghost use Rattle.serde_json.specs.View.{items_view, members_view, number_view, view};
 ghost use Rattle.serde_json.specs.Written.{IsInOrder};
 ghost use Rattle.json_patch.specs.Document.{IsDocument};
-ghost use Rattle.json_patch.specs.Held.{held};
+ghost use Rattle.json_patch.specs.PartsView.{parts_view};
 ghost use Rattle.json_patch.specs.Operation.{add_of, copy_of, move_of, operation_of, operations, remove_of, replace_of, test_of};
 ghost use Rattle.json_patch.specs.PatchValue.{all_fields, fields};
-ghost use Rattle.json_patch.specs.Printed.{escaped, leading_text, number_text, printed, printed_fields, printed_parts, printed_patch, quoted, trailing_text};
+ghost use Rattle.json_patch.specs.Printed.{character_text, leading_text, number_text, value_text, fields_text, parts_text, patch_text, quote, trailing_text};
 
 use crate::operation::{
     AddOperation, CopyOperation, MoveOperation, Patch, PatchOperation, RemoveOperation,
@@ -37,7 +37,7 @@ pub fn pretty(alloc: Global, value: &Value) -> Result<String, AllocError>
 
 /// Writes the object of the members `path` and `value`.
 impl fmt::Display for AddOperation {
-    ghost output = { λ o. Some (printed_fields (fields (add_of o))) };
+    ghost output = { λ o. Some (fields_text (fields (add_of o))) };
 
     fn fmt<W: fmt::Write>(&self, f: &mut fmt::Formatter<W>) -> fmt::Result {
         write_parts(None, self.parts(), f)
@@ -46,7 +46,7 @@ impl fmt::Display for AddOperation {
 
 /// Writes the object of the member `path`.
 impl fmt::Display for RemoveOperation {
-    ghost output = { λ o. Some (printed_fields (fields (remove_of o))) };
+    ghost output = { λ o. Some (fields_text (fields (remove_of o))) };
 
     fn fmt<W: fmt::Write>(&self, f: &mut fmt::Formatter<W>) -> fmt::Result {
         write_parts(None, self.parts(), f)
@@ -55,7 +55,7 @@ impl fmt::Display for RemoveOperation {
 
 /// Writes the object of the members `path` and `value`.
 impl fmt::Display for ReplaceOperation {
-    ghost output = { λ o. Some (printed_fields (fields (replace_of o))) };
+    ghost output = { λ o. Some (fields_text (fields (replace_of o))) };
 
     fn fmt<W: fmt::Write>(&self, f: &mut fmt::Formatter<W>) -> fmt::Result {
         write_parts(None, self.parts(), f)
@@ -64,7 +64,7 @@ impl fmt::Display for ReplaceOperation {
 
 /// Writes the object of the members `from` and `path`.
 impl fmt::Display for MoveOperation {
-    ghost output = { λ o. Some (printed_fields (fields (move_of o))) };
+    ghost output = { λ o. Some (fields_text (fields (move_of o))) };
 
     fn fmt<W: fmt::Write>(&self, f: &mut fmt::Formatter<W>) -> fmt::Result {
         write_parts(None, self.parts(), f)
@@ -73,7 +73,7 @@ impl fmt::Display for MoveOperation {
 
 /// Writes the object of the members `from` and `path`.
 impl fmt::Display for CopyOperation {
-    ghost output = { λ o. Some (printed_fields (fields (copy_of o))) };
+    ghost output = { λ o. Some (fields_text (fields (copy_of o))) };
 
     fn fmt<W: fmt::Write>(&self, f: &mut fmt::Formatter<W>) -> fmt::Result {
         write_parts(None, self.parts(), f)
@@ -82,7 +82,7 @@ impl fmt::Display for CopyOperation {
 
 /// Writes the object of the members `path` and `value`.
 impl fmt::Display for TestOperation {
-    ghost output = { λ o. Some (printed_fields (fields (test_of o))) };
+    ghost output = { λ o. Some (fields_text (fields (test_of o))) };
 
     fn fmt<W: fmt::Write>(&self, f: &mut fmt::Formatter<W>) -> fmt::Result {
         write_parts(None, self.parts(), f)
@@ -92,7 +92,7 @@ impl fmt::Display for TestOperation {
 /// Writes the object of the members that the operation has, in the order `op`, `from`, `path`,
 /// `value`.
 impl fmt::Display for PatchOperation {
-    ghost output = { λ o. Some (printed_fields (all_fields (operation_of o))) };
+    ghost output = { λ o. Some (fields_text (all_fields (operation_of o))) };
 
     fn fmt<W: fmt::Write>(&self, f: &mut fmt::Formatter<W>) -> fmt::Result {
         let parts = self.parts();
@@ -101,7 +101,7 @@ impl fmt::Display for PatchOperation {
 }
 
 impl fmt::Display for Patch {
-    ghost output = { λ p. Some (printed_patch (operations p.0.items)) };
+    ghost output = { λ p. Some (patch_text (operations p.0.items)) };
 
     /// Writes the list of the operations' objects.
     fn fmt<W: fmt::Write>(&self, f: &mut fmt::Formatter<W>) -> fmt::Result {
@@ -118,7 +118,7 @@ impl fmt::Display for Patch {
 
 /// Writes what `Display` writes.
 impl fmt::Debug for AddOperation {
-    ghost debug_output = { λ o. Some (printed_fields (fields (add_of o))) };
+    ghost debug_output = { λ o. Some (fields_text (fields (add_of o))) };
 
     fn fmt<W: fmt::Write>(&self, f: &mut fmt::Formatter<W>) -> fmt::Result {
         fmt::Display::fmt(self, f)
@@ -127,7 +127,7 @@ impl fmt::Debug for AddOperation {
 
 /// Writes what `Display` writes.
 impl fmt::Debug for RemoveOperation {
-    ghost debug_output = { λ o. Some (printed_fields (fields (remove_of o))) };
+    ghost debug_output = { λ o. Some (fields_text (fields (remove_of o))) };
 
     fn fmt<W: fmt::Write>(&self, f: &mut fmt::Formatter<W>) -> fmt::Result {
         fmt::Display::fmt(self, f)
@@ -136,7 +136,7 @@ impl fmt::Debug for RemoveOperation {
 
 /// Writes what `Display` writes.
 impl fmt::Debug for ReplaceOperation {
-    ghost debug_output = { λ o. Some (printed_fields (fields (replace_of o))) };
+    ghost debug_output = { λ o. Some (fields_text (fields (replace_of o))) };
 
     fn fmt<W: fmt::Write>(&self, f: &mut fmt::Formatter<W>) -> fmt::Result {
         fmt::Display::fmt(self, f)
@@ -145,7 +145,7 @@ impl fmt::Debug for ReplaceOperation {
 
 /// Writes what `Display` writes.
 impl fmt::Debug for MoveOperation {
-    ghost debug_output = { λ o. Some (printed_fields (fields (move_of o))) };
+    ghost debug_output = { λ o. Some (fields_text (fields (move_of o))) };
 
     fn fmt<W: fmt::Write>(&self, f: &mut fmt::Formatter<W>) -> fmt::Result {
         fmt::Display::fmt(self, f)
@@ -154,7 +154,7 @@ impl fmt::Debug for MoveOperation {
 
 /// Writes what `Display` writes.
 impl fmt::Debug for CopyOperation {
-    ghost debug_output = { λ o. Some (printed_fields (fields (copy_of o))) };
+    ghost debug_output = { λ o. Some (fields_text (fields (copy_of o))) };
 
     fn fmt<W: fmt::Write>(&self, f: &mut fmt::Formatter<W>) -> fmt::Result {
         fmt::Display::fmt(self, f)
@@ -163,7 +163,7 @@ impl fmt::Debug for CopyOperation {
 
 /// Writes what `Display` writes.
 impl fmt::Debug for TestOperation {
-    ghost debug_output = { λ o. Some (printed_fields (fields (test_of o))) };
+    ghost debug_output = { λ o. Some (fields_text (fields (test_of o))) };
 
     fn fmt<W: fmt::Write>(&self, f: &mut fmt::Formatter<W>) -> fmt::Result {
         fmt::Display::fmt(self, f)
@@ -172,7 +172,7 @@ impl fmt::Debug for TestOperation {
 
 /// Writes what `Display` writes.
 impl fmt::Debug for PatchOperation {
-    ghost debug_output = { λ o. Some (printed_fields (all_fields (operation_of o))) };
+    ghost debug_output = { λ o. Some (fields_text (all_fields (operation_of o))) };
 
     fn fmt<W: fmt::Write>(&self, f: &mut fmt::Formatter<W>) -> fmt::Result {
         fmt::Display::fmt(self, f)
@@ -181,7 +181,7 @@ impl fmt::Debug for PatchOperation {
 
 /// Writes what `Display` writes.
 impl fmt::Debug for Patch {
-    ghost debug_output = { λ p. Some (printed_patch (operations p.0.items)) };
+    ghost debug_output = { λ p. Some (patch_text (operations p.0.items)) };
 
     fn fmt<W: fmt::Write>(&self, f: &mut fmt::Formatter<W>) -> fmt::Result {
         fmt::Display::fmt(self, f)
@@ -195,7 +195,7 @@ fn write_parts<W: fmt::Write>(
     f: &mut fmt::Formatter<W>,
 ) -> fmt::Result
     ensures { WritesOnOk W.write_str_gives f.old result
-        (printed_parts (option_map (λ s. s.now) name.entry) (held parts.entry)) f.new }
+        (parts_text (option_map (λ s. s.now) name.entry) (parts_view parts.entry)) f.new }
 {
     f.write_str("{")?;
     write_leading("op", name, f)?;
@@ -242,7 +242,7 @@ fn write_trailing<W: fmt::Write>(
 
 #[cycle(printing)]
 fn write_value<W: fmt::Write>(value: &Value, f: &mut fmt::Formatter<W>) -> fmt::Result
-    ensures { WritesOnOk W.write_str_gives f.old result (printed (view value.now)) f.new }
+    ensures { WritesOnOk W.write_str_gives f.old result (value_text (view value.now)) f.new }
 {
     match value {
         Value::Null => f.write_str("null"),
@@ -258,7 +258,7 @@ fn write_value<W: fmt::Write>(value: &Value, f: &mut fmt::Formatter<W>) -> fmt::
 #[cycle(printing)]
 fn write_items<W: fmt::Write>(items: &Vec<Value>, f: &mut fmt::Formatter<W>) -> fmt::Result
     ensures { WritesOnOk W.write_str_gives f.old result
-        (printed (array (items_view items.now.items))) f.new }
+        (value_text (array (items_view items.now.items))) f.new }
 {
     f.write_str("[")?;
     let mut comma = "";
@@ -276,7 +276,7 @@ fn write_members<W: fmt::Write>(
     f: &mut fmt::Formatter<W>,
 ) -> fmt::Result
     ensures { WritesOnOk W.write_str_gives f.old result
-        (printed (object (members_view members.now.entries))) f.new }
+        (value_text (object (members_view members.now.entries))) f.new }
 {
     f.write_str("{")?;
     let mut comma = "";
@@ -301,7 +301,7 @@ fn write_number<W: fmt::Write>(number: &Number, f: &mut fmt::Formatter<W>) -> fm
 }
 
 fn write_name<W: fmt::Write>(name: &str, f: &mut fmt::Formatter<W>) -> fmt::Result
-    ensures { WritesOnOk W.write_str_gives f.old result (quoted name.now ++ codes ":") f.new }
+    ensures { WritesOnOk W.write_str_gives f.old result (quote name.now ++ codes ":") f.new }
 {
     write_text(name, f)?;
     f.write_str(":")
@@ -309,7 +309,7 @@ fn write_name<W: fmt::Write>(name: &str, f: &mut fmt::Formatter<W>) -> fmt::Resu
 
 /// Writes the text between quotes (RFC 8259, section 7).
 fn write_text<W: fmt::Write>(text: &str, f: &mut fmt::Formatter<W>) -> fmt::Result
-    ensures { WritesOnOk W.write_str_gives f.old result (quoted text.now) f.new }
+    ensures { WritesOnOk W.write_str_gives f.old result (quote text.now) f.new }
 {
     f.write_str("\"")?;
     for character in text.chars() {
@@ -319,7 +319,7 @@ fn write_text<W: fmt::Write>(text: &str, f: &mut fmt::Formatter<W>) -> fmt::Resu
 }
 
 fn write_character<W: fmt::Write>(character: char, f: &mut fmt::Formatter<W>) -> fmt::Result
-    ensures { WritesOnOk W.write_str_gives f.old result (escaped character) f.new }
+    ensures { WritesOnOk W.write_str_gives f.old result (character_text character) f.new }
 {
     match character {
         '"' => f.write_str("\\\""),

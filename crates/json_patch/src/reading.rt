@@ -6,7 +6,7 @@ ghost use Rattle.serde_json.specs.Find.{get};
 ghost use Rattle.serde_json.specs.View.{view};
 ghost use Rattle.json_patch.specs.Operation.{AreWhole, add, copy, move, operation_of, operations, remove, replace, test};
 ghost use Rattle.json_patch.specs.PatchValue.{IfUnreadable, OfRefusal, ReadsFields, ReadsOperation, ReadsPatch, RefusesFields, RefusesOperation, RefusesPatch};
-ghost use Rattle.json_patch.specs.ReadSteps.{HasAnyFrom, IfUnread, IsPointerAt, unnumbered};
+ghost use Rattle.json_patch.specs.ReadSteps.{HasAnyFrom, IfUnread, IsPointerAt, without_number};
 ghost use Rattle.json_patch.specs.declared.reading.ItemFault.TheVariants.{Memory, Refused};
 
 use crate::error::{ReadError, ReadFault, ReadKind};
@@ -43,7 +43,7 @@ impl From<AllocError> for ItemFault {
 }
 
 impl From<ItemFault> for ReadFault {
-    ghost from_gives = { λ item fault. (fault ≡ unnumbered item)
+    ghost from_gives = { λ item fault. (fault ≡ without_number item)
         × OfRefusal (λ e. e.operation ≡ None) fault };
 
     fn from(fault: ItemFault) -> ReadFault {

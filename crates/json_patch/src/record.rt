@@ -11,8 +11,8 @@ ghost use Rattle.json_patch.specs.InPlace.{AreUnescaped, IsInPlace, NeverShort};
 ghost use Rattle.json_patch.specs.InverseComputed.{block, undo_add};
 ghost use Rattle.json_patch.specs.Operation.{move_of, operation_of, operations, path_of};
 ghost use Rattle.json_patch.specs.PartRun.{IsBegun};
-ghost use Rattle.json_patch.specs.RunComputed.{ran, stepped};
-ghost use Rattle.json_patch.specs.SharedComputed.{stripped};
+ghost use Rattle.json_patch.specs.RunComputed.{after_run, after_step};
+ghost use Rattle.json_patch.specs.SharedComputed.{strip};
 ghost use Rattle.json_patch.specs.Undoing.{AreUndos, IsOne, IsUndo, IsUndoable, Records, count_in};
 ghost use Rattle.json_patch.specs.declared.record.Keep.TheVariants.{Inverse, Nothing};
 
@@ -73,7 +73,7 @@ pub(crate) fn step_keeping(
     requires { IsBegun (tokens_of base) (operation_of operation.now) }
     ensures made { Records keep result (view doc.old) (view doc.new) (tokens_of base.entry)
         (operation_of operation.now) (operations undo.old.items) (operations undo.new.items) }
-    ensures in_place { keep ≡ Nothing → IsInPlace (stripped (tokens_of base.entry) (operation_of operation.now))
+    ensures in_place { keep ≡ Nothing → IsInPlace (strip (tokens_of base.entry) (operation_of operation.now))
         → NeverShort result }
 {
     match keep {
@@ -133,7 +133,7 @@ fn record_one(
     requires begun { IsBegun (tokens_of base) (operation_of operation.now) }
     requires one { IsOne (operation_of operation.now) }
     requires at { place ≡ tokens_of base
-        ++ place_to_undo (view doc.old) (stripped (tokens_of base) (operation_of operation.now)) }
+        ++ place_to_undo (view doc.old) (strip (tokens_of base) (operation_of operation.now)) }
     ensures { Records Inverse result (view doc.old) (view doc.new) (tokens_of base.entry)
         (operation_of operation.now) (operations undo.old.items) (operations undo.new.items) }
 {
@@ -216,7 +216,7 @@ fn undo_of(path: PointerBuf, was: Displaced) -> PatchOperation
 /// Undoes a run, of which these are the operations that lead back, last first.
 pub(crate) fn undo_recorded(alloc: Global, doc: &mut Value, mut undo: Vec<PatchOperation>)
     ensures { (d : Data) → AreUndos (operations undo.items)
-        → ran (view doc.old) (reverse (operations undo.items)) ≡ Ok d → view doc.new ≡ d }
+        → after_run (view doc.old) (reverse (operations undo.items)) ≡ Ok d → view doc.new ≡ d }
 {
     while let Some(operation) = undo.pop() {
         undo_one(alloc, doc, operation);
@@ -226,7 +226,7 @@ pub(crate) fn undo_recorded(alloc: Global, doc: &mut Value, mut undo: Vec<PatchO
 /// Makes a `remove`, or a `replace`, whose value is moved into the document.
 fn undo_one(alloc: Global, doc: &mut Value, operation: PatchOperation)
     ensures { (d : Data) → IsUndo (operation_of operation)
-        → stepped (view doc.old) (operation_of operation) ≡ Ok d → view doc.new ≡ d }
+        → after_step (view doc.old) (operation_of operation) ≡ Ok d → view doc.new ≡ d }
 {
     match operation {
         PatchOperation::Remove(operation) => {

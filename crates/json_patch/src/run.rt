@@ -10,7 +10,7 @@ ghost use Rattle.json_patch.specs.InPlace.{AreInPlace, AreTestsThenRemove};
 ghost use Rattle.json_patch.specs.Inverse.{ArePlain, IsInverse};
 ghost use Rattle.json_patch.specs.InverseComputed.{inverse};
 ghost use Rattle.json_patch.specs.Operation.{AreWhole, IsMove, operation_of, operations, path_of};
-ghost use Rattle.json_patch.specs.Refusal.{IfRefused, NamesFirst, OnMemory};
+ghost use Rattle.json_patch.specs.Refusal.{IfRefused, NamesFirst, IfShort};
 ghost use Rattle.json_patch.specs.Run.{Accepts, IsAccepted};
 ghost use Rattle.json_patch.specs.Undoing.{AreRecorded, From};
 ghost use Rattle.json_patch.specs.declared.record.Keep.TheVariants.{Inverse, Nothing};
@@ -52,7 +52,7 @@ pub fn patch(alloc: Global, doc: &mut Value, patch: &[PatchOperation]) -> Result
 /// before it made of the document; where memory is short, what some of the first ones made of it
 /// is left. A `move` is made on a copy of the part where both its places stand, so that none loses
 /// its value. An accepted list of `test`s and of `remove`s at paths with no `~` takes no memory.
-#[tactic(auto, using(crate::proofs::Applied::state_document))]
+#[tactic(auto, using(crate::proofs::ProgramRuns::state_document))]
 pub fn patch_unsafe(
     alloc: Global,
     doc: &mut Value,
@@ -64,7 +64,7 @@ pub fn patch_unsafe(
     ensures refused { IfRefused result (NamesFirst (view doc.old) (operations patch.now)) }
     ensures stopped { IfRefused result
         (λ e. Accepts (view doc.old) (take e.operation (operations patch.now)) (view doc.new)) }
-    ensures memory { OnMemory result ((k : ℕ) × (k ≤ length patch.now)
+    ensures memory { IfShort result ((k : ℕ) × (k ≤ length patch.now)
         × Accepts (view doc.old) (take k (operations patch.now)) (view doc.new)) }
     ensures in_place { AreInPlace (operations patch.now)
         → (e : Data) → Accepts (view doc.old) (operations patch.now) e → IsOk result }

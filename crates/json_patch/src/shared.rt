@@ -3,7 +3,7 @@
 ghost use Rattle.std.specs.Prelude.{◌≡◌, ℕ, List, IfNone, IfOk, IfSome, Some, option_map};
 ghost use Rattle.serde_json.specs.View.{view};
 ghost use Rattle.jsonptr.specs.Pointers.{tokens_of};
-ghost use Rattle.json_patch.specs.ChangeComputed.{found};
+ghost use Rattle.json_patch.specs.ChangeComputed.{pointee};
 ghost use Rattle.json_patch.specs.Operation.{from_of, operation_of, operations};
 ghost use Rattle.json_patch.specs.PartRun.{AreAt, IsLongest};
 ghost use Rattle.json_patch.specs.Shared.{IsShared, IsWithin};
@@ -21,7 +21,7 @@ pub(crate) fn copied_part<'a>(
     patch: &'a [PatchOperation],
 ) -> Result<(Pointer<'a>, Value), AllocError>
     ensures { IfOk result (λ part. AreAt (tokens_of part.0) (operations patch.now)
-        × (found (view doc.now) (tokens_of part.0) ≡ Some (view part.1))) }
+        × (pointee (view doc.now) (tokens_of part.0) ≡ Some (view part.1))) }
 {
     if let Some(shared) = shared_pointer(patch) {
         if let Some(part) = find(doc, shared.tokens()) {

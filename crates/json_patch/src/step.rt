@@ -5,14 +5,14 @@ ghost use Rattle.serde_json.specs.Data.{Data};
 ghost use Rattle.serde_json.specs.View.{view};
 ghost use Rattle.jsonptr.specs.Pointers.{tokens_of};
 ghost use Rattle.jsonptr.specs.Text.{IsPrefix, IsProperPrefix};
-ghost use Rattle.json_patch.specs.Attempt.{Attempts, Refuses, Steps, TakesOut};
-ghost use Rattle.json_patch.specs.ChangeComputed.{added, removed, replaced, found};
+ghost use Rattle.json_patch.specs.Attempt.{Attempts, FailsAs, ComesTo, TakesOut};
+ghost use Rattle.json_patch.specs.ChangeComputed.{after_add, after_remove, after_replace, pointee};
 ghost use Rattle.json_patch.specs.Edits.{IsTaken, Undoes};
 ghost use Rattle.json_patch.specs.InPlace.{AreUnescaped, IsInPlace, NeverShort};
 ghost use Rattle.json_patch.specs.Operation.{IsMove, operation_of, add as add_at, copy as copy_at, move as move_at, replace as replace_at, test as test_at};
 ghost use Rattle.json_patch.specs.PartRun.{IsBegun};
-ghost use Rattle.json_patch.specs.RunComputed.{stepped};
-ghost use Rattle.json_patch.specs.SharedComputed.{stripped};
+ghost use Rattle.json_patch.specs.RunComputed.{after_step};
+ghost use Rattle.json_patch.specs.SharedComputed.{strip};
 
 use crate::equality::same_values;
 use crate::error::{PatchErrorKind, StepFault};
@@ -34,14 +34,14 @@ pub(crate) fn step(
     operation: &PatchOperation,
 ) -> Result<Displaced, StepFault>
     requires { IsBegun (tokens_of base) (operation_of operation.now) }
-    ensures leaves { Steps result
-        (stepped (view doc.old) (stripped (tokens_of base.entry) (operation_of operation.now)))
+    ensures leaves { ComesTo result
+        (after_step (view doc.old) (strip (tokens_of base.entry) (operation_of operation.now)))
         (view doc.new) }
     ensures undo { IfOk result
-        (Undoes (view doc.old) (stripped (tokens_of base.entry) (operation_of operation.now))) }
+        (Undoes (view doc.old) (strip (tokens_of base.entry) (operation_of operation.now))) }
     ensures unchanged { OnErr result
         ((IsMove (operation_of operation.now) → ⊥) → view doc.new ≡ view doc.old) }
-    ensures in_place { IsInPlace (stripped (tokens_of base.entry) (operation_of operation.now))
+    ensures in_place { IsInPlace (strip (tokens_of base.entry) (operation_of operation.now))
         → NeverShort result }
 {
     match operation {
@@ -86,7 +86,7 @@ pub(crate) fn add(
     path: Pointer<'_>,
     value: Value,
 ) -> Result<Displaced, StepFault>
-    ensures leaves { Attempts result (added (view doc.old) (tokens_of path.entry) (view value))
+    ensures leaves { Attempts result (after_add (view doc.old) (tokens_of path.entry) (view value))
         (view doc.old) (view doc.new) }
     ensures undo { IfOk result
         (Undoes (view doc.old) (add_at (tokens_of path.entry) (view value))) }
@@ -103,7 +103,7 @@ pub(crate) fn remove(
     doc: &mut Value,
     path: Pointer<'_>,
 ) -> Result<Displaced, StepFault>
-    ensures leaves { Attempts result (removed (view doc.old) (tokens_of path.entry))
+    ensures leaves { Attempts result (after_remove (view doc.old) (tokens_of path.entry))
         (view doc.old) (view doc.new) }
     ensures taken { IfOk result (IsTaken (view doc.old) (tokens_of path.entry)) }
     ensures in_place { AreUnescaped (tokens_of path.entry) → NeverShort result }
@@ -122,7 +122,7 @@ pub(crate) fn replace(
     path: Pointer<'_>,
     value: Value,
 ) -> Result<Displaced, StepFault>
-    ensures leaves { Attempts result (replaced (view doc.old) (tokens_of path.entry) (view value))
+    ensures leaves { Attempts result (after_replace (view doc.old) (tokens_of path.entry) (view value))
         (view doc.old) (view doc.new) }
     ensures undo { IfOk result
         (Undoes (view doc.old) (replace_at (tokens_of path.entry) (view value))) }
@@ -145,8 +145,8 @@ pub(crate) fn take_out(
 ) -> Result<Value, StepFault>
     ensures taken { IfOk result (TakesOut (view doc.old) (view doc.new)
         (tokens_of from.entry) (tokens_of path.entry)) }
-    ensures refused { IfErr result (λ fault. Refuses fault
-        (stepped (view doc.old) (move_at (tokens_of from.entry) (tokens_of path.entry)))) }
+    ensures refused { IfErr result (λ fault. FailsAs fault
+        (after_step (view doc.old) (move_at (tokens_of from.entry) (tokens_of path.entry)))) }
 {
     if is_inside(path, from) {
         return Err(StepFault::Refused(PatchErrorKind::CannotMoveInsideItself));
@@ -178,8 +178,8 @@ pub(crate) fn copy_value(
     from: Pointer<'_>,
     path: Pointer<'_>,
 ) -> Result<Displaced, StepFault>
-    ensures leaves { Steps result
-        (stepped (view doc.old) (copy_at (tokens_of from.entry) (tokens_of path.entry)))
+    ensures leaves { ComesTo result
+        (after_step (view doc.old) (copy_at (tokens_of from.entry) (tokens_of path.entry)))
         (view doc.new) }
     ensures unchanged { OnErr result (view doc.new ≡ view doc.old) }
     ensures undo { IfOk result (Undoes (view doc.old)
@@ -194,8 +194,8 @@ pub(crate) fn copy_value(
 
 /// `test` (section 4.6).
 fn test(doc: &Value, path: Pointer<'_>, value: &Value) -> Result<Displaced, StepFault>
-    ensures leaves { Steps result
-        (stepped (view doc.now) (test_at (tokens_of path.entry) (view value.now))) (view doc.now) }
+    ensures leaves { ComesTo result
+        (after_step (view doc.now) (test_at (tokens_of path.entry) (view value.now))) (view doc.now) }
     ensures in_place { NeverShort result }
 {
     match find(doc, path.tokens()) {

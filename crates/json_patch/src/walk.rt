@@ -8,7 +8,7 @@ ghost use Rattle.serde_json.specs.View.{view, items_view, members_view};
 ghost use Rattle.jsonptr.specs.Places.{place_of};
 ghost use Rattle.jsonptr.specs.Pointers.{token_of, tokens_left};
 ghost use Rattle.json_patch.specs.Attempt.{Attempts};
-ghost use Rattle.json_patch.specs.ChangeComputed.{altered, found, slot_in};
+ghost use Rattle.json_patch.specs.ChangeComputed.{after_change, pointee, slot_in};
 ghost use Rattle.json_patch.specs.InPlace.{AreUnescaped, IsLight, IsUnescaped, NeverShort};
 ghost use Rattle.json_patch.specs.Edits.{made_by, Displaces, DisplacesAt};
 ghost use Rattle.json_patch.specs.declared.error.PatchErrorKind.TheVariants.{InvalidPointer};
@@ -48,7 +48,7 @@ pub(crate) fn edit_at(
     edit: Edit,
 ) -> Result<Displaced, StepFault>
     ensures leaves { Attempts result
-        (altered (made_by edit (token_of last.entry)) (view target.old) (tokens_left parent.entry))
+        (after_change (made_by edit (token_of last.entry)) (view target.old) (tokens_left parent.entry))
         (view target.old) (view target.new) }
     ensures displaces { IfOk result
         (DisplacesAt edit (view target.old) (tokens_left parent.entry) (token_of last.entry)) }
@@ -162,7 +162,7 @@ fn edit_items(items: &mut Vec<Value>, token: Token<'_>, edit: Edit) -> Result<Di
 /// What stands where the tokens lead. It takes no memory.
 pub(crate) fn find<'v>(document: &'v Value, tokens: Tokens<'_>) -> Option<&'v Value>
     ensures { option_map (λ v. view v.now) result
-        ≡ found (view document.now) (tokens_left tokens.entry) }
+        ≡ pointee (view document.now) (tokens_left tokens.entry) }
 {
     let mut place = document;
     for token in tokens {
@@ -174,7 +174,7 @@ pub(crate) fn find<'v>(document: &'v Value, tokens: Tokens<'_>) -> Option<&'v Va
 /// The member or the item that the token names.
 fn child_of<'v>(container: &'v Value, token: Token<'_>) -> Option<&'v Value>
     ensures { option_map (λ v. view v.now) result
-        ≡ found (view container.now) (token_of token.entry ∷ []) }
+        ≡ pointee (view container.now) (token_of token.entry ∷ []) }
 {
     match container {
         Value::Object(members) => member_of(members, token),

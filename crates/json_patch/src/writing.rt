@@ -3,7 +3,7 @@
 ghost use Rattle.std.specs.Prelude.{◌≡◌, IfOk, OnOk, codes, option_map};
 ghost use Rattle.serde_json.specs.Data.{string};
 ghost use Rattle.serde_json.specs.View.{members_view, view};
-ghost use Rattle.json_patch.specs.Held.{held};
+ghost use Rattle.json_patch.specs.PartsView.{parts_view};
 ghost use Rattle.json_patch.specs.Operation.{operations};
 ghost use Rattle.json_patch.specs.PatchValue.{put_if, written_parts, written_patch};
 
@@ -33,7 +33,7 @@ pub(crate) fn to_object(
     parts: Parts<'_>,
 ) -> Result<Value, AllocError>
     ensures { IfOk result (λ v.
-        view v ≡ written_parts (option_map (λ s. s.now) name.entry) (held parts.entry)) }
+        view v ≡ written_parts (option_map (λ s. s.now) name.entry) (parts_view parts.entry)) }
 {
     let mut members = Map::new(alloc);
     put_value(alloc, &mut members, "value", parts.value)?;

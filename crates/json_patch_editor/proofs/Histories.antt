@@ -8,20 +8,20 @@ use Rattle.serde_json.specs.Data.{Data}
 use Rattle.json_patch.specs.Document.{IsDocument}
 use Rattle.json_patch.specs.Operation.{Operation, AreWhole}
 use Rattle.json_patch.specs.Run.{Accepts, IsAccepted, Ends}
-use Rattle.json_patch.specs.RunComputed.{Outcome, ran}
+use Rattle.json_patch.specs.RunComputed.{Outcome, after_run}
 use Rattle.json_patch.specs.declared.operation.Patch.{Patch}
 use Rattle.json_patch_editor.specs.History.{operations_of, documents_along, documents_from, Lead, IfEnds, AreStored, AreKept, IsTaken, Shifts, Records}
 use Rattle.json_patch_editor.specs.Versions.{Versions, after_apply}
 
 -- ---- one patch more or less
 
-pub stored_more : (d e : Data) (q : Patch) (ps : List Patch) → AreWhole (operations_of q) → ran e (operations_of q) ≡ Ok d → AreStored d ps → AreStored e (q ∷ ps)
+pub stored_more : (d e : Data) (q : Patch) (ps : List Patch) → AreWhole (operations_of q) → after_run e (operations_of q) ≡ Ok d → AreStored d ps → AreStored e (q ∷ ps)
 stored_more d e q ps w is s = (w, rw is s)
 
-pub documents_along-more : (d e : Data) (q : Patch) (ps : List Patch) → ran e (operations_of q) ≡ Ok d → documents_along e (q ∷ ps) ≡ d ∷ documents_along d ps
+pub documents_along-more : (d e : Data) (q : Patch) (ps : List Patch) → after_run e (operations_of q) ≡ Ok d → documents_along e (q ∷ ps) ≡ d ∷ documents_along d ps
 documents_along-more d e q ps is = rw is refl
 
-pub stored_less : (d e : Data) (p : Patch) (ps : List Patch) → ran d (operations_of p) ≡ Ok e → AreStored d (p ∷ ps) → AreStored e ps
+pub stored_less : (d e : Data) (p : Patch) (ps : List Patch) → after_run d (operations_of p) ≡ Ok e → AreStored d (p ∷ ps) → AreStored e ps
 stored_less d e p ps is s = rw is at s.1
 
 -- ---- some of the first
@@ -33,7 +33,7 @@ taken_on (Err f) n ps more s = absurd s
 pub stored_taken : (n : ℕ) (d : Data) (ps : List Patch) → AreStored d ps → AreStored d (take n ps)
 stored_taken zero d ps s = tt
 stored_taken (suc n) d [] s = tt
-stored_taken (suc n) d (p ∷ ps) s = (s.0, taken_on (ran d (operations_of p)) n ps (λ e. stored_taken n e ps) s.1)
+stored_taken (suc n) d (p ∷ ps) s = (s.0, taken_on (after_run d (operations_of p)) n ps (λ e. stored_taken n e ps) s.1)
 
 documents_from-take : (o : Outcome) (n : ℕ) (ps : List Patch) → ((e : Data) → documents_along e (take n ps) ≡ take n (documents_along e ps)) → documents_from o (λ e. documents_along e (take n ps)) ≡ take (suc n) (documents_from o (λ e. documents_along e ps))
 documents_from-take (Ok e) n ps more = ap (λ es. e ∷ es) (more e)
@@ -42,7 +42,7 @@ documents_from-take (Err f) n ps more = refl
 pub documents_along-take : (n : ℕ) (d : Data) (ps : List Patch) → documents_along d (take n ps) ≡ take n (documents_along d ps)
 documents_along-take zero d ps = refl
 documents_along-take (suc n) d [] = refl
-documents_along-take (suc n) d (p ∷ ps) = documents_from-take (ran d (operations_of p)) n ps (λ e. documents_along-take n e ps)
+documents_along-take (suc n) d (p ∷ ps) = documents_from-take (after_run d (operations_of p)) n ps (λ e. documents_along-take n e ps)
 
 length-documents_from : (o : Outcome) (ps : List Patch) → ((e : Data) → AreStored e ps → length (documents_along e ps) ≡ length ps) → IfEnds o (λ e. AreStored e ps) → length (documents_from o (λ e. documents_along e ps)) ≡ suc (length ps)
 length-documents_from (Ok e) ps more s = ap suc (more e s)
@@ -50,7 +50,7 @@ length-documents_from (Err f) ps more s = absurd s
 
 pub length-documents_along : (d : Data) (ps : List Patch) → AreStored d ps → length (documents_along d ps) ≡ length ps
 length-documents_along d [] s = refl
-length-documents_along d (p ∷ ps) s = length-documents_from (ran d (operations_of p)) ps (λ e. length-documents_along e ps) s.1
+length-documents_along d (p ∷ ps) s = length-documents_from (after_run d (operations_of p)) ps (λ e. length-documents_along e ps) s.1
 
 pub none_stored : (d : Data) (ps : List Patch) → AreStored d ps → documents_along d ps ≡ [] → ps ≡ []
 none_stored d [] s is = refl
@@ -117,7 +117,7 @@ seen_record (Err x) depth d e undos redos grown left ok = tt
 -- ---- what the patches lead to
 
 abbrev pub Computed : Type 0
-Computed = (d : Data) (ops : List Operation) → IsDocument d → AreWhole ops → (e : Data) → Accepts d ops e ↔ (ran d ops ≡ Ok e)
+Computed = (d : Data) (ops : List Operation) → IsDocument d → AreWhole ops → (e : Data) → Accepts d ops e ↔ (after_run d ops ≡ Ok e)
 
 abbrev pub OneEnd : Type 0
 OneEnd = (d : Data) (ops : List Operation) → IsDocument d → AreWhole ops → Ends d ops
@@ -130,7 +130,7 @@ accepted d ops e h (inl (f, a)) = subst (IsAccepted d ops) (sym (a.end e h)) a
 accepted d ops e h (inr (k, kind, r)) = absurd (r.never e h)
 
 module _ (computed : Computed) (one_end : OneEnd) (keeping : Keeping) where
-  lead_on : (d : Data) (p : Patch) (ps : List Patch) (o : Outcome) → IsDocument d → AreWhole (operations_of p) → ran d (operations_of p) ≡ o
+  lead_on : (d : Data) (p : Patch) (ps : List Patch) (o : Outcome) → IsDocument d → AreWhole (operations_of p) → after_run d (operations_of p) ≡ o
       → ((e : Data) → IsDocument e → AreStored e ps → Lead e ps (documents_along e ps)) → IfEnds o (λ e. AreStored e ps) → Lead d (p ∷ ps) (documents_from o (λ e. documents_along e ps))
   lead_on d p ps (Ok e) hd w is more s =
       let h : Accepts d (operations_of p) e = (computed d (operations_of p) hd w e).1 is in
@@ -139,9 +139,9 @@ module _ (computed : Computed) (one_end : OneEnd) (keeping : Keeping) where
 
   pub lead : (d : Data) (ps : List Patch) → IsDocument d → AreStored d ps → Lead d ps (documents_along d ps)
   lead d [] hd s = tt
-  lead d (p ∷ ps) hd s = lead_on d p ps (ran d (operations_of p)) hd s.0 refl (λ e he t. lead e ps he t) s.1
+  lead d (p ∷ ps) hd s = lead_on d p ps (after_run d (operations_of p)) hd s.0 refl (λ e he t. lead e ps he t) s.1
 
-  documents_on : (d : Data) (ops : List Operation) (ps : List Patch) (o : Outcome) → IsDocument d → AreWhole ops → ran d ops ≡ o
+  documents_on : (d : Data) (ops : List Operation) (ps : List Patch) (o : Outcome) → IsDocument d → AreWhole ops → after_run d ops ≡ o
       → ((e : Data) → IsDocument e → AreStored e ps → All IsDocument (documents_along e ps)) → IfEnds o (λ e. AreStored e ps) → All IsDocument (documents_from o (λ e. documents_along e ps))
   documents_on d ops ps (Ok e) hd w is more s =
       let he : IsDocument e = keeping d ops e hd w ((computed d ops hd w e).1 is) in
@@ -150,4 +150,4 @@ module _ (computed : Computed) (one_end : OneEnd) (keeping : Keeping) where
 
   pub documents_of : (d : Data) (ps : List Patch) → IsDocument d → AreStored d ps → All IsDocument (documents_along d ps)
   documents_of d [] hd s = All-nil IsDocument
-  documents_of d (p ∷ ps) hd s = documents_on d (operations_of p) ps (ran d (operations_of p)) hd s.0 refl (λ e he t. documents_of e ps he t) s.1
+  documents_of d (p ∷ ps) hd s = documents_on d (operations_of p) ps (after_run d (operations_of p)) hd s.0 refl (λ e he t. documents_of e ps he t) s.1

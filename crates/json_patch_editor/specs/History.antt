@@ -3,7 +3,7 @@ use Rattle.std.specs.Prelude.{◌≡◌, ℕ, List, [], ◌∷◌, take, Result,
 use Rattle.serde_json.specs.Data.{Data}
 use Rattle.json_patch.specs.Operation.{Operation, operations, AreWhole}
 use Rattle.json_patch.specs.Run.{IsAccepted}
-use Rattle.json_patch.specs.RunComputed.{Outcome, ran}
+use Rattle.json_patch.specs.RunComputed.{Outcome, after_run}
 use Rattle.json_patch.specs.declared.operation.Patch.{Patch}
 use Rattle.std.specs.declared.alloc.AllocError.{AllocError}
 
@@ -17,7 +17,7 @@ documents_from (Err f) rest = []
 -- the documents to which the patches lead from d, one after another
 abbrev pub documents_along : Data → List Patch → List Data
 documents_along d [] = []
-documents_along d (p ∷ ps) = documents_from (ran d (operations_of p)) (λ e. documents_along e ps)
+documents_along d (p ∷ ps) = documents_from (after_run d (operations_of p)) (λ e. documents_along e ps)
 
 abbrev pub IfEnds : Outcome → (Data → Type 0) → Type 0
 IfEnds (Ok e) P = P e
@@ -26,7 +26,7 @@ IfEnds (Err f) P = ⊥
 -- each patch is whole, and accepted where the ones before it lead
 abbrev pub AreStored : Data → List Patch → Type 0
 AreStored d [] = Unit {0}
-AreStored d (p ∷ ps) = AreWhole (operations_of p) × IfEnds (ran d (operations_of p)) (λ e. AreStored e ps)
+AreStored d (p ∷ ps) = AreWhole (operations_of p) × IfEnds (after_run d (operations_of p)) (λ e. AreStored e ps)
 
 -- the patches are accepted one after another, and leave these documents
 abbrev pub Lead : Data → List Patch → List Data → Type 0
@@ -45,8 +45,8 @@ pub record IsTaken (d : Data) (from to : List Patch) (e : Data) (left grown : Li
   pub from_is : from ≡ p ∷ left
   pub grown_is : grown ≡ q ∷ to
   pub whole : AreWhole (operations_of q)
-  pub leads : ran d (operations_of p) ≡ Ok e
-  pub leads_back : ran e (operations_of q) ≡ Ok d
+  pub leads : after_run d (operations_of p) ≡ Ok e
+  pub leads_back : after_run e (operations_of q) ≡ Ok d
 
 -- for a private clause: a step back or on
 abbrev pub Shifts : Result Bool AllocError → Data → List Patch → List Patch → Data → List Patch → List Patch → Type 0
@@ -60,4 +60,4 @@ pub record Records (depth : ℕ) (d : Data) (undos : List Patch) (e : Data) (gro
   pub grown_is : grown ≡ take depth (q ∷ undos)
   pub redos_is : redos ≡ []
   pub whole : AreWhole (operations_of q)
-  pub leads_back : ran e (operations_of q) ≡ Ok d
+  pub leads_back : after_run e (operations_of q) ≡ Ok d

@@ -5,7 +5,7 @@ use Rattle.serde_json.specs.Data.{Data}
 use Rattle.json_patch.specs.Document.{IsDocument}
 use Rattle.json_patch.specs.Operation.{Operation, AreWhole}
 use Rattle.json_patch.specs.PatchValue.{ReadsPatch}
-use Rattle.json_patch.specs.ReadLaws.{IsRead, IsUnread}
+use Rattle.json_patch.specs.ReadLaws.{IsRead, HasReadFault}
 use Rattle.json_patch.specs.Run.{Accepts, Ends}
 use Rattle.json_patch.specs.Inverse.{IsInverse}
 use Rattle.json_patch.specs.InverseComputed.{inverse}
@@ -15,7 +15,7 @@ use Rattle.json_patch_editor.specs.Commands.{AreVersions, Command, IsWholeComman
 use Rattle.json_patch_editor.specs.Versions.{Versions}
 
 pub record Below : Type 0 where
-  pub read_or_refused : (v : Data) → ((ops : List Operation) × IsRead v ops) ⊎ ((k : Option ℕ) × (kind : ReadKind) × IsUnread v k kind)
+  pub read_or_refused : (v : Data) → ((ops : List Operation) × IsRead v ops) ⊎ ((k : Option ℕ) × (kind : ReadKind) × HasReadFault v k kind)
   pub read_is_whole : (v : Data) (ops : List Operation) → ReadsPatch v ops → AreWhole ops
   pub run_ends : (d : Data) (ops : List Operation) → IsDocument d → AreWhole ops → Ends d ops
   pub inverse_is_computed : (d : Data) (ops : List Operation) → IsDocument d → AreWhole ops → (e : Data) → Accepts d ops e

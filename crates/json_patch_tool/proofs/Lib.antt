@@ -1,9 +1,9 @@
-pub mod Answered
+pub mod ModeAnswers
 pub mod Below
-pub mod Each
-pub mod EditOnce
+pub mod SomeAnswer
+pub mod OneEdit
 pub mod Commands
-pub mod Moved
-pub mod Once
+pub mod MovedBytes
+pub mod OneAnswer
 pub mod Pairs
-pub mod Recorded
+pub mod RecordLines

@@ -5,7 +5,8 @@ use Rattle.serde_json.specs.Data.{Data}
 use Rattle.serde_json.specs.Find.{get}
 use Rattle.serde_json.specs.View.{view}
 use Rattle.serde_json.specs.declared.value.Value.{Value}
-use Rattle.json_patch.specs.Document.{sight_of, map as members}
+use Rattle.json_patch.specs.Document.{sight_of}
+use Rattle.json_patch.specs.Sight.{Sight}
 use Rattle.json_patch.specs.Merged.{IsMerged}
 use Rattle.json_patch_uses.specs.Layers.{AreMerged, LeavesOut}
 
@@ -20,7 +21,7 @@ layer_on_top d ls i x m e lt so is merged =
     (one_more d (map view (take i ls)) m (view (get_or ls i x)) e so (subst (λ y. IsMerged m (view y) e) is merged))
 
 abbrev pub Law : Type 0
-Law = (d p e : Data) (k : List ℕ) → sight_of p ≡ members → IsMerged d p e → get k p ≡ None → get k e ≡ get k d
+Law = (d p e : Data) (k : List ℕ) → sight_of p ≡ Sight.object → IsMerged d p e → get k p ≡ None → get k e ≡ get k d
 
 pub stays : Law → (k : List ℕ) (ls : List Value) (d e : Data) → AreMerged d (map view ls) e → LeavesOut k ls → get k e ≡ get k d
 stays law k [] d e m out = ap (get k) (sym m)

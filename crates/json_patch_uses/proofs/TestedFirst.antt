@@ -2,7 +2,7 @@
 use Rattle.std.proofs.Common.{◌≡◌, ◌<◌, ◌-◌, ℕ, zero, suc, List, ◌∷◌, Some, option_map, slice_get, sym, ◌∙◌, subst, arith}
 use Rattle.std.specs.Prelude.{◌↔◌}
 use Rattle.serde_json.specs.Data.{Data}
-use Rattle.json_patch.specs.ChangeComputed.{found}
+use Rattle.json_patch.specs.ChangeComputed.{pointee}
 use Rattle.json_patch.specs.Operation.{Operation, test, path_of}
 use Rattle.json_patch.specs.Refusal.{NamesFirst}
 use Rattle.json_patch.specs.Resolve.{StandsAt}
@@ -12,7 +12,7 @@ use Rattle.json_patch.specs.declared.error.PatchErrorKind.{PatchErrorKind}
 use Rattle.json_patch.specs.declared.error.PatchErrorKind.TheVariants.{TestFailed, InvalidFromPointer, InvalidPointer, CannotMoveInsideItself}
 
 abbrev pub Law : Type 0
-Law = (d : Data) (P : List (List ℕ)) (c : Data) → StandsAt d P c ↔ (found d P ≡ Some c)
+Law = (d : Data) (P : List (List ℕ)) (c : Data) → StandsAt d P c ↔ (pointee d P ≡ Some c)
 
 module _ (law : Law) (d : Data) (P : List (List ℕ)) (v : Data) (ops : List Operation) where
   other : (k : ℕ) (kind : PatchErrorKind) → RefusesAt d (test P v ∷ ops) k kind → k ≡ 0 → StandsAt d P v → ⊥

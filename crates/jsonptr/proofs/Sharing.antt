@@ -2,7 +2,7 @@
 use Rattle.std.proofs.Common.{◌≡◌, ℕ, List, [], ◌∷◌, ◌++◌, refl, sym, ap, subst, length, ◌<◌, arith, ◌∙◌, append_assoc}
 use Rattle.std.proofs.lemmas.List.{append_cancel_right}
 use Rattle.std.specs.Str.Pattern.{StripsSuffix, FindsTextSuffix}
-use Rattle.jsonptr.specs.Scanning.{tokens_of_text, ReadsBack, BeginSame, AreApart}
+use Rattle.jsonptr.specs.Scanning.{tokens_of_text, IsOfItsTokens, BeginSame, AreApart}
 use Rattle.jsonptr.specs.Text.{IsPrefix, IsLongestShared, text_of}
 use Rattle.jsonptr.specs.TextLaws.{tokens_of_text-text_of}
 use Rattle.jsonptr.proofs.Texts.{text_of-append}
@@ -44,20 +44,20 @@ is_longest P Q A B S p q apart = (
 pub strips_end : (s n x : List ℕ) → StripsSuffix (FindsTextSuffix n) s x → s ≡ x ++ n
 strips_end s n x (k, finds, is, fits) = finds.1 ∙ ap (λ a. a ++ n) (sym is)
 
-front_text : (s r : List ℕ) (S : List (List ℕ)) → ReadsBack s → ReadsBack r → tokens_of_text s ≡ S ++ tokens_of_text r → s ≡ text_of S ++ r
+front_text : (s r : List ℕ) (S : List (List ℕ)) → IsOfItsTokens s → IsOfItsTokens r → tokens_of_text s ≡ S ++ tokens_of_text r → s ≡ text_of S ++ r
 front_text s r S v w e = sym v ∙ ap text_of e ∙ text_of-append S (tokens_of_text r) ∙ ap (λ a. text_of S ++ a) w
 
 -- what is left ends the text
-pub ends : (s r : List ℕ) (Q B : List (List ℕ)) → ReadsBack s → ReadsBack r → GoOn (tokens_of_text s) Q (tokens_of_text r) B → ((front : List ℕ) → s ≡ front ++ r → ⊥) → ⊥
+pub ends : (s r : List ℕ) (Q B : List (List ℕ)) → IsOfItsTokens s → IsOfItsTokens r → GoOn (tokens_of_text s) Q (tokens_of_text r) B → ((front : List ℕ) → s ≡ front ++ r → ⊥) → ⊥
 ends s r Q B v w (S, p, q) never = never (text_of S) (front_text s r S v w p)
 
-front_is : (s r x : List ℕ) (S : List (List ℕ)) → ReadsBack s → ReadsBack r → s ≡ x ++ r → tokens_of_text s ≡ S ++ tokens_of_text r → text_of S ≡ x
+front_is : (s r x : List ℕ) (S : List (List ℕ)) → IsOfItsTokens s → IsOfItsTokens r → s ≡ x ++ r → tokens_of_text s ≡ S ++ tokens_of_text r → text_of S ≡ x
 front_is s r x S v w is p = append_cancel_right (text_of S) x r (sym (front_text s r S v w p) ∙ is)
 
-pub front_valid : (s r x : List ℕ) (Q B : List (List ℕ)) → ReadsBack s → ReadsBack r → s ≡ x ++ r → GoOn (tokens_of_text s) Q (tokens_of_text r) B → ReadsBack x
-front_valid s r x Q B v w is (S, p, q) = subst ReadsBack (front_is s r x S v w is p) (ap text_of (tokens_of_text-text_of S))
+pub front_valid : (s r x : List ℕ) (Q B : List (List ℕ)) → IsOfItsTokens s → IsOfItsTokens r → s ≡ x ++ r → GoOn (tokens_of_text s) Q (tokens_of_text r) B → IsOfItsTokens x
+front_valid s r x Q B v w is (S, p, q) = subst IsOfItsTokens (front_is s r x S v w is p) (ap text_of (tokens_of_text-text_of S))
 
-pub front_longest : (s r x : List ℕ) (Q B : List (List ℕ)) → ReadsBack s → ReadsBack r → s ≡ x ++ r → GoOn (tokens_of_text s) Q (tokens_of_text r) B → AreApart (tokens_of_text r) B → IsLongestShared (tokens_of_text s) Q (tokens_of_text x)
+pub front_longest : (s r x : List ℕ) (Q B : List (List ℕ)) → IsOfItsTokens s → IsOfItsTokens r → s ≡ x ++ r → GoOn (tokens_of_text s) Q (tokens_of_text r) B → AreApart (tokens_of_text r) B → IsLongestShared (tokens_of_text s) Q (tokens_of_text x)
 front_longest s r x Q B v w is (S, p, q) apart =
     let same : S ≡ tokens_of_text x = sym (tokens_of_text-text_of S) ∙ ap tokens_of_text (front_is s r x S v w is p) in
     subst (IsLongestShared (tokens_of_text s) Q) same (is_longest (tokens_of_text s) Q (tokens_of_text r) B S p q apart)

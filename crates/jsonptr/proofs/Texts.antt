@@ -16,7 +16,7 @@ use Rattle.jsonptr.specs.Faults.{IsFault}
 use Rattle.jsonptr.specs.declared.error.ParseError.{ParseError}
 use Rattle.jsonptr.specs.Text.{encoded_byte, encoded, text_of, IsPrefix, IsNoPointerText}
 use Rattle.jsonptr.specs.TextLaws.{by_byte, tokens_of_text-append, scanned-NoSlash, tokens_of_text-one, Starts-text_of, NoSlash-encoded, decoded-encoded, unscanned-scanned, text_of-tokens_of_text, Escaped-append, Escaped-encoded, Escaped-text_of, one_pointer, pointer_has_no_fault}
-use Rattle.jsonptr.specs.Scanning.{after_tilde, put, decoded, tokens_of_text, ReadsBack, IsEncoded, Starts, NoSlash, StartsEscape, Escaped}
+use Rattle.jsonptr.specs.Scanning.{after_tilde, put, decoded, tokens_of_text, IsOfItsTokens, IsEncoded, Starts, NoSlash, StartsEscape, Escaped}
 
 pub if_none : {A : Type 0} {P : Type 0} (o : Option A) → P → IfNone o P
 if_none None p = p
@@ -54,10 +54,10 @@ Escaped-right (x ∷ a) r h = Escaped-right a r h.1
 
 -- ---- the parts of a pointer's text
 
-Escaped-from_ReadsBack : (t : List ℕ) → ReadsBack t → Escaped t
+Escaped-from_ReadsBack : (t : List ℕ) → IsOfItsTokens t → Escaped t
 Escaped-from_ReadsBack t v = subst Escaped v (Escaped-text_of (tokens_of_text t))
 
-Starts-from_ReadsBack : (t : List ℕ) → ReadsBack t → Starts t
+Starts-from_ReadsBack : (t : List ℕ) → IsOfItsTokens t → Starts t
 Starts-from_ReadsBack t v = subst Starts v (Starts-text_of (tokens_of_text t))
 
 Starts-left : (f r : List ℕ) → Starts (f ++ r) → Starts f
@@ -68,9 +68,9 @@ Starts-left (x ∷ f) r h = h
 pub record CutsFront (t e r : List ℕ) : Type 0 where
   pub tokens : tokens_of_text t ≡ decoded e ∷ tokens_of_text r
   pub first : IsEncoded e
-  pub rest : ReadsBack r
+  pub rest : IsOfItsTokens r
 
-pub cuts_front : (t e r : List ℕ) → ReadsBack t → t ≡ 47 ∷ (e ++ r) → NoSlash e → Starts r → CutsFront t e r
+pub cuts_front : (t e r : List ℕ) → IsOfItsTokens t → t ≡ 47 ∷ (e ++ r) → NoSlash e → Starts r → CutsFront t e r
 cuts_front t e r v is n s =
     let escaped : Escaped (47 ∷ (e ++ r)) = subst Escaped is (Escaped-from_ReadsBack t v) in
     record {
@@ -79,16 +79,16 @@ cuts_front t e r v is n s =
       rest = text_of-tokens_of_text r s (Escaped-right e r escaped.1);
     }
 
-pub cuts_inner : (t inner e r : List ℕ) → ReadsBack t → t ≡ 47 ∷ inner → inner ≡ e ++ r → NoSlash e → Starts r → CutsFront t e r
+pub cuts_inner : (t inner e r : List ℕ) → IsOfItsTokens t → t ≡ 47 ∷ inner → inner ≡ e ++ r → NoSlash e → Starts r → CutsFront t e r
 cuts_inner t inner e r v is parts n s = cuts_front t e r v (is ∙ ap (λ i. 47 ∷ i) parts) n s
 
 -- t is f, and then / and the token e
 pub record CutsBack (t f e : List ℕ) : Type 0 where
   pub tokens : tokens_of_text t ≡ tokens_of_text f ++ decoded e ∷ []
-  pub front : ReadsBack f
+  pub front : IsOfItsTokens f
   pub last : IsEncoded e
 
-pub cuts_back : (t f e : List ℕ) → ReadsBack t → t ≡ f ++ 47 ∷ e → NoSlash e → CutsBack t f e
+pub cuts_back : (t f e : List ℕ) → IsOfItsTokens t → t ≡ f ++ 47 ∷ e → NoSlash e → CutsBack t f e
 cuts_back t f e v is n =
     let escaped : Escaped (f ++ 47 ∷ e) = subst Escaped is (Escaped-from_ReadsBack t v) in
     let starts : Starts (f ++ 47 ∷ e) = subst Starts is (Starts-from_ReadsBack t v) in
@@ -134,11 +134,11 @@ pub tokens_none : (t : List ℕ) → NoSlash t → tokens_of_text t ≡ []
 tokens_none t n = ap (λ s. s.1) (scanned-NoSlash t n)
 
 -- the pointer whose text is empty is the one with no tokens
-pub tokens_from_no_slash : (t : List ℕ) → ReadsBack t → ((rest : List ℕ) → t ≡ 47 ∷ rest → ⊥) → tokens_of_text t ≡ []
+pub tokens_from_no_slash : (t : List ℕ) → IsOfItsTokens t → ((rest : List ℕ) → t ≡ 47 ∷ rest → ⊥) → tokens_of_text t ≡ []
 tokens_from_no_slash [] v h = refl
 tokens_from_no_slash (x ∷ t) v h = absurd (h t (ap (λ y. y ∷ t) (Starts-from_ReadsBack (x ∷ t) v)))
 
-pub rsplit_back : (t f e : List ℕ) → ReadsBack t → SplitsAroundMatch (RFindsChar 47) t f e → CutsBack t f e
+pub rsplit_back : (t f e : List ℕ) → IsOfItsTokens t → SplitsAroundMatch (RFindsChar 47) t f e → CutsBack t f e
 rsplit_back t f e v h = let k = rsplit_cuts t f e h in cuts_back t f e v k.0 k.1
 
 tokens-other : (y : ℕ) (t : List ℕ) → eqb y 47 ≡ false → tokens_of_text (y ∷ t) ≡ tokens_of_text t
@@ -151,20 +151,20 @@ length-tokens = is_count_by (λ t. length (tokens_of_text t)) (λ x. eqb x 47) r
 
 -- ---- prefixes
 
-pub prefix_text : (s p : List ℕ) (R : List (List ℕ)) → ReadsBack s → ReadsBack p → tokens_of_text s ≡ tokens_of_text p ++ R → s ≡ p ++ text_of R
+pub prefix_text : (s p : List ℕ) (R : List (List ℕ)) → IsOfItsTokens s → IsOfItsTokens p → tokens_of_text s ≡ tokens_of_text p ++ R → s ≡ p ++ text_of R
 prefix_text s p R v w e = sym v ∙ ap text_of e ∙ text_of-append (tokens_of_text p) R ∙ ap (λ a. a ++ text_of R) w
 
 pub strips_text : (s p x : List ℕ) → StripsPrefix (FindsTextPrefix p) s x → s ≡ p ++ x
 strips_text s p x (n, finds, is, fits) = finds.1 ∙ ap (λ a. p ++ a) (sym is)
 
-pub rest-ReadsBack : (s p x : List ℕ) → ReadsBack s → s ≡ p ++ x → Starts x → ReadsBack x
+pub rest-ReadsBack : (s p x : List ℕ) → IsOfItsTokens s → s ≡ p ++ x → Starts x → IsOfItsTokens x
 rest-ReadsBack s p x v e h = text_of-tokens_of_text x h (Escaped-right p x (subst Escaped e (Escaped-from_ReadsBack s v)))
 
 pub tokens-rest : (s p x : List ℕ) → s ≡ p ++ x → Starts x → tokens_of_text s ≡ tokens_of_text p ++ tokens_of_text x
 tokens-rest s p x e h = ap tokens_of_text e ∙ tokens_of_text-append p x h
 
 -- where s goes on after p with another byte than /, the tokens of p do not begin those of s
-pub not_prefix : (s p x : List ℕ) → ReadsBack s → ReadsBack p → s ≡ p ++ x → (Starts x → ⊥) → IsPrefix (tokens_of_text p) (tokens_of_text s) → ⊥
+pub not_prefix : (s p x : List ℕ) → IsOfItsTokens s → IsOfItsTokens p → s ≡ p ++ x → (Starts x → ⊥) → IsPrefix (tokens_of_text p) (tokens_of_text s) → ⊥
 not_prefix s p x v w e h (R, is) =
     h (subst Starts (append_cancel_left p (text_of R) x (sym (prefix_text s p R v w is) ∙ e)) (Starts-text_of R))
 
@@ -305,7 +305,7 @@ Starts-append : (a r : List ℕ) → Starts a → Starts r → Starts (a ++ r)
 Starts-append [] r h k = k
 Starts-append (x ∷ a) r h k = h
 
-pub push_valid : (t raw : List ℕ) → ReadsBack t → ReadsBack (t ++ 47 ∷ encoded raw)
+pub push_valid : (t raw : List ℕ) → IsOfItsTokens t → IsOfItsTokens (t ++ 47 ∷ encoded raw)
 push_valid t raw v = text_of-tokens_of_text (t ++ 47 ∷ encoded raw)
     (Starts-append t (47 ∷ encoded raw) (Starts-from_ReadsBack t v) refl)
     (Escaped-append t (47 ∷ encoded raw) (Escaped-from_ReadsBack t v) (λ e. absurd (omega arith), Escaped-encoded raw))

@@ -10,7 +10,7 @@ use Rattle.std.specs.Char.{digit_value, is_ascii_digit}
 use Rattle.std.specs.Int.Digits.{AllBelowBase, number_from_digits, number_from_digits_after, digits_of}
 use Rattle.std.specs.Str.{all_ascii_digits}
 use Rattle.std.specs.Str.Parse.{digits_value}
-use Rattle.jsonptr.specs.Places.{place_of, token_of, next_token}
+use Rattle.jsonptr.specs.Places.{place_of, decimal_token, next_token}
 use Rattle.jsonptr.specs.Text.{encoded, encoded_byte}
 
 -- ---- what is told by a place
@@ -81,7 +81,7 @@ value n =
     digits_value_is 10 (map (λ x. 48 + x) (digits_of 10 n)) ∙ ap (number_from_digits 10) (glyphs (digits_of 10 n) (all_below_base_digits_of 10 n (omega arith)))
     ∙ number_digits_of 10 n (omega arith)
 
-token_place : (i : ℕ) → place_of (token_of i) ≡ Some i
+token_place : (i : ℕ) → place_of (decimal_token i) ≡ Some i
 unfolding place_of
 token_place zero = refl
 token_place (suc n) =
@@ -128,7 +128,7 @@ above_zero : (n d : ℕ) (ds : List ℕ) → digits_of 10 n ≡ d ∷ ds → 0 <
 above_zero zero d ds h = cc
 above_zero (suc n) d ds h = omega arith
 
-token_some : (n : ℕ) → 0 < n → token_of n ≡ map (λ x. 48 + x) (digits_of 10 n)
+token_some : (n : ℕ) → 0 < n → decimal_token n ≡ map (λ x. 48 + x) (digits_of 10 n)
 token_some zero h = absurd (omega arith)
 token_some (suc n) h = refl
 
@@ -137,7 +137,7 @@ one_digit c [] h = refl
 one_digit c (x ∷ t) h = absurd (omega arith)
 
 -- the text of the number that is written
-token_value : (t : List ℕ) → all_ascii_digits t ≡ true → 0 < length t → (get_or t 0 0 ≡ 48 → length t ≡ 1) → token_of (digits_value 10 t) ≡ t
+token_value : (t : List ℕ) → all_ascii_digits t ≡ true → 0 < length t → (get_or t 0 0 ≡ 48 → length t ≡ 1) → decimal_token (digits_value 10 t) ≡ t
 token_value [] d some first = absurd (omega arith)
 token_value (c ∷ t) d some first =
     let two = and_parts (is_ascii_digit c) (all_ascii_digits t) d in
@@ -152,8 +152,8 @@ token_value (c ∷ t) d some first =
     let above : 0 < digits_value 10 (c ∷ t) = above_zero (digits_value 10 (c ∷ t)) _ _ same in
     token_some (digits_value 10 (c ∷ t)) above ∙ ap (map (λ x. 48 + x)) same ∙ ap₂ (λ x xs. x ∷ xs) g.1 i.1)) (cases_eq c 48)
 
-place_token : (t : List ℕ) (i : ℕ) → place_of t ≡ Some i → t ≡ token_of i
-place_token t i h = let w : Tells t i = tells t i h in sym (token_value t w.digits w.nonempty w.first) ∙ ap token_of w.value
+place_token : (t : List ℕ) (i : ℕ) → place_of t ≡ Some i → t ≡ decimal_token i
+place_token t i h = let w : Tells t i = tells t i h in sym (token_value t w.digits w.nonempty w.first) ∙ ap decimal_token w.value
 
 -- ---- digits in a text
 
@@ -169,16 +169,16 @@ encoded_digits (x ∷ ds) h =
 -- ---- the laws
 
 -- a token names a place exactly where it is that place's token
-pub place_is_token : (t : List ℕ) (i : ℕ) → (place_of t ≡ Some i) ↔ (t ≡ token_of i)
+pub place_is_token : (t : List ℕ) (i : ℕ) → (place_of t ≡ Some i) ↔ (t ≡ decimal_token i)
 place_is_token t i = (place_token t i, λ is. ap place_of is ∙ token_place i)
 
 -- the token of a machine's number is what is printed for it
-pub token_is_decimal : (i : ℕ) → i < 2 ^ 64 → token_of i ≡ decimal i
+pub token_is_decimal : (i : ℕ) → i < 2 ^ 64 → decimal_token i ≡ decimal i
 token_is_decimal zero small = sym (decimal_digit 0 (omega arith))
 token_is_decimal (suc n) small = sym (decimal-digits_of (suc n) (omega arith) small)
 
 -- the token of a place stands in a pointer's text as it is
-pub place_is_plain : (i : ℕ) → encoded (token_of i) ≡ token_of i
+pub place_is_plain : (i : ℕ) → encoded (decimal_token i) ≡ decimal_token i
 place_is_plain zero = refl
 place_is_plain (suc n) = encoded_digits (digits_of 10 (suc n)) (all_below_base_digits_of 10 (suc n) (omega arith))
 

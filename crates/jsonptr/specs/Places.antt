@@ -12,9 +12,9 @@ place_of t =
     then Some (digits_value 10 t) else None
 
 -- the token that names a place: its decimal text, of any length
-abbrev pub token_of : ℕ → List ℕ
-token_of zero = 48 ∷ []
-token_of (suc n) = map (λ x. 48 + x) (digits_of 10 (suc n))
+abbrev pub decimal_token : ℕ → List ℕ
+decimal_token zero = 48 ∷ []
+decimal_token (suc n) = map (λ x. 48 + x) (digits_of 10 (suc n))
 
 -- the token `-`, for the place after the last, at which nothing stands
 abbrev pub next_token : List ℕ

@@ -35,8 +35,8 @@ abbrev pub tokens_of_text : List ℕ → List (List ℕ)
 tokens_of_text t = (scanned t).1
 
 -- the text is that of its own tokens, and so a pointer's
-abbrev pub ReadsBack : List ℕ → Type 0
-ReadsBack t = text_of (tokens_of_text t) ≡ t
+abbrev pub IsOfItsTokens : List ℕ → Type 0
+IsOfItsTokens t = text_of (tokens_of_text t) ≡ t
 
 -- the text is that of its own token, and so an encoded token
 abbrev pub IsEncoded : List ℕ → Type 0

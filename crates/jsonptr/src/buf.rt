@@ -4,7 +4,7 @@ ghost use Rattle.std.specs.Prelude.{◌≡◌, ◌≢◌, [], ◌∷◌, ◌++�
 ghost use Rattle.std.specs.Char.{encode_utf8};
 ghost use Rattle.std.specs.String.{string_bytes};
 ghost use Rattle.jsonptr.specs.Text.{text_of, encoded, IsPointerText, IsNoPointerText, ReplacesLast};
-ghost use Rattle.jsonptr.specs.Scanning.{tokens_of_text, ReadsBack};
+ghost use Rattle.jsonptr.specs.Scanning.{tokens_of_text, IsOfItsTokens};
 ghost use Rattle.jsonptr.specs.Pointers.{tokens_of};
 ghost use Rattle.jsonptr.specs.Faults.{IsFault, IfParse, OnParse, OnMemory};
 
@@ -23,14 +23,14 @@ pub struct PointerBuf {
 
 impl Model for PointerBuf {
     ghost use Rattle.std.specs.Prelude.{ℕ, List};
-    ghost use Rattle.jsonptr.specs.Scanning.{tokens_of_text, ReadsBack};
+    ghost use Rattle.jsonptr.specs.Scanning.{tokens_of_text, IsOfItsTokens};
     ghost use Rattle.jsonptr.specs.Owned.{owned_text};
 
     ghost Value = { List (List ℕ) };
 
     ghost view = { λ p. tokens_of_text (owned_text p.text) };
 
-    ghost invariant = { λ p. ReadsBack (owned_text p.text) };
+    ghost invariant = { λ p. IsOfItsTokens (owned_text p.text) };
 }
 
 impl Default for PointerBuf {
@@ -92,7 +92,7 @@ impl PointerBuf {
 
     /// The pointer of a text that is known to be a pointer's.
     pub(crate) fn from_checked(alloc: Global, text: &str) -> Result<PointerBuf, AllocError>
-        requires { ReadsBack text.now }
+        requires { IsOfItsTokens text.now }
         ensures { IfOk result (λ b. b ≡ tokens_of_text text.now) }
     {
         if text.is_empty() {

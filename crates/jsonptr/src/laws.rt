@@ -3,7 +3,7 @@
 
 ghost use Rattle.std.specs.Prelude.{◌≡◌, ◌↔◌, ◌⊎◌, ◌<◌, ◌^◌, ℕ, List, Some, None, decimal};
 ghost use Rattle.jsonptr.specs.Faults.{IsFault};
-ghost use Rattle.jsonptr.specs.Places.{place_of, token_of, next_token};
+ghost use Rattle.jsonptr.specs.Places.{place_of, decimal_token, next_token};
 ghost use Rattle.jsonptr.specs.Text.{Pointer, IsPointerText, encoded, text_of};
 
 use crate::ParseError;
@@ -11,19 +11,19 @@ use crate::ParseError;
 /// A token names a place exactly where it is the decimal text of that place.
 #[tactic(auto, using(crate::specs::PlaceLaws::place_is_token))]
 pub fn place_is_token()
-    ensures { (t : List ℕ) (i : ℕ) → (place_of t ≡ Some i) ↔ (t ≡ token_of i) }
+    ensures { (t : List ℕ) (i : ℕ) → (place_of t ≡ Some i) ↔ (t ≡ decimal_token i) }
 {}
 
 /// The decimal text of a place that a machine's number holds is the one that is printed for it.
 #[tactic(auto, using(crate::specs::PlaceLaws::token_is_decimal))]
 pub fn token_is_decimal()
-    ensures { (i : ℕ) → i < 2 ^ 64 → token_of i ≡ decimal i }
+    ensures { (i : ℕ) → i < 2 ^ 64 → decimal_token i ≡ decimal i }
 {}
 
 /// The decimal text of a place stands in a pointer's text as it is.
 #[tactic(auto, using(crate::specs::PlaceLaws::place_is_plain))]
 pub fn place_is_plain()
-    ensures { (i : ℕ) → encoded (token_of i) ≡ token_of i }
+    ensures { (i : ℕ) → encoded (decimal_token i) ≡ decimal_token i }
 {}
 
 /// The token `-` names no place.

@@ -3,7 +3,7 @@
 ghost use Rattle.std.specs.Prelude.{◌≡◌, ◌<◌, ◌^◌, length, slice_index, [], ◌∷◌, ◌++◌, IfOk, IfErr, OnErr, OnOk, IfSome, IfNone, IsTrue, ◌↔◌, ◌⊎◌};
 ghost use Rattle.jsonptr.specs.Text.{text_of, IsPrefix, IsLongestShared, IsNoPointerText};
 ghost use Rattle.jsonptr.specs.Faults.{IsFault};
-ghost use Rattle.jsonptr.specs.Scanning.{tokens_of_text, ReadsBack, NoSlash, Starts, BeginSame, AreApart};
+ghost use Rattle.jsonptr.specs.Scanning.{tokens_of_text, IsOfItsTokens, NoSlash, Starts, BeginSame, AreApart};
 
 use crate::{ParseError, PointerBuf, Token, Tokens};
 use std::alloc::{AllocError, Global};
@@ -15,7 +15,7 @@ use std::fmt;
 #[derive(Clone, Copy, Debug)]
 pub struct Pointer<'a> {
     text: &'a str,
-    ghost valid: { ReadsBack text.now },
+    ghost valid: { IsOfItsTokens text.now },
 }
 
 #[tactic(auto, unfolding(crate::specs::Pointers::tokens_of))]
@@ -89,7 +89,7 @@ impl<'a> Pointer<'a> {
 
     /// The pointer of a text that is known to be a pointer's.
     pub(crate) fn from_checked(text: &'a str) -> Pointer<'a>
-        requires { ReadsBack text.now }
+        requires { IsOfItsTokens text.now }
         ensures { tokens_of result ≡ tokens_of_text text.now }
     {
         Pointer { text }
@@ -208,7 +208,7 @@ impl<'a> Pointer<'a> {
 
 /// Whether the text is a pointer's.
 fn check(text: &str) -> Result<(), ParseError>
-    ensures pointer { OnOk result (ReadsBack text.now) }
+    ensures pointer { OnOk result (IsOfItsTokens text.now) }
     ensures fault { IfErr result (IsFault text.now) }
 {
     let bytes = text.as_bytes();

@@ -6,7 +6,7 @@ ghost use Rattle.std.specs.Cmp.Lexicographic.{lists_equiv, lists_per, pointwise}
 ghost use Rattle.std.specs.Option.{option_eq};
 ghost use Rattle.std.specs.Ordering.{on};
 ghost use Rattle.serde_json.specs.View.{view};
-ghost use Rattle.json_patch.specs.Held.{held};
+ghost use Rattle.json_patch.specs.PartsView.{parts_view};
 ghost use Rattle.json_patch.specs.Operation.{add_of, copy_of, move_of, operation_of, operations, remove_of, replace_of, test_of};
 ghost use Rattle.json_patch.specs.Same.{AreSameLists, AreSameOperations, AreSameParts};
 ghost use Rattle.json_patch.specs.SameComputed.{same, same_operation, same_parts};
@@ -21,8 +21,8 @@ use crate::parts::Parts;
 use serde_json::Value;
 
 fn same_parts(a: Parts<'_>, b: Parts<'_>) -> bool
-    ensures computed { result ≡ same_parts (held a.entry) (held b.entry) }
-    ensures same { IsTrue result ↔ AreSameParts (held a.entry) (held b.entry) }
+    ensures computed { result ≡ same_parts (parts_view a.entry) (parts_view b.entry) }
+    ensures same { IsTrue result ↔ AreSameParts (parts_view a.entry) (parts_view b.entry) }
 {
     a.name == b.name && a.from == b.from && a.path == b.path && same_if(a.value, b.value)
 }
@@ -171,7 +171,7 @@ impl PartialEq for Patch {
     ghost laws = { on_per (λ p. p.0.items)
         (lists_per (on_per operation_of operation_partial_equivalence)) };
 
-    #[tactic(auto, using(crate::proofs::Samed::operations_say))]
+    #[tactic(auto, using(crate::proofs::SameDocuments::operations_say))]
     fn eq(&self, other: &Patch) -> bool
         ensures eq_value { result
             ≡ pointwise (on operation_of same_operation) self.now.0.items other.now.0.items }

@@ -4,38 +4,38 @@ ghost use Rattle.std.specs.Prelude.{◌≡◌, ◌↔◌, ◌∷◌, ◌++◌, [
 ghost use Rattle.serde_json.specs.Data.{Data};
 ghost use Rattle.jsonptr.specs.Text.{Pointer};
 ghost use Rattle.json_patch.specs.Change.{IsAdded, IsRemoved, IsReplaced};
-ghost use Rattle.json_patch.specs.ChangeComputed.{added, removed, replaced};
-ghost use Rattle.json_patch.specs.Document.{IsDocument, Step, look};
+ghost use Rattle.json_patch.specs.ChangeComputed.{after_add, after_remove, after_replace};
+ghost use Rattle.json_patch.specs.Document.{IsDocument, Segment, look};
 ghost use Rattle.json_patch.specs.Resolve.{HasTarget, Resolves};
 
 /// Where a pointer has a target, add leaves a document.
 pub fn added_at_a_target()
-    ensures { (d : Data) (P : Pointer) (v : Data) (L : List Step) (s : Step) → IsDocument d → IsDocument v
+    ensures { (d : Data) (P : Pointer) (v : Data) (L : List Segment) (s : Segment) → IsDocument d → IsDocument v
         → HasTarget d P L s → (e : Data) × IsAdded d P v e }
 {}
 
 /// Add leaves one document at most.
-#[tactic(auto, using(crate::proofs::Added::added_one))]
+#[tactic(auto, using(crate::proofs::Additions::added_one))]
 pub fn one_added()
     ensures { (d : Data) (P : Pointer) (v e f : Data) → IsAdded d P v e → IsAdded d P v f → e ≡ f }
 {}
 
 /// What add leaves is what is computed, and where nothing is, it leaves nothing.
-#[tactic(auto, using(crate::proofs::Exact::added_computed))]
+#[tactic(auto, using(crate::proofs::OneResult::added_computed))]
 pub fn added_is_computed()
     ensures { (d : Data) (P : Pointer) (v e : Data) → IsDocument d → IsDocument v
-        → (IsAdded d P v e ↔ (added d P v ≡ Some e)) }
+        → (IsAdded d P v e ↔ (after_add d P v ≡ Some e)) }
 {}
 
 /// What add leaves is a document.
-#[tactic(auto, using(crate::proofs::Added::IsAdded_document))]
+#[tactic(auto, using(crate::proofs::Additions::IsAdded_document))]
 pub fn added_is_document()
     ensures { (d : Data) (P : Pointer) (v e : Data) → IsDocument v → IsAdded d P v e → IsDocument e }
 {}
 
 /// Where a pointer below the root resolves, remove leaves a document.
 pub fn removed_where_it_resolves()
-    ensures { (d : Data) (P : Pointer) (L : List Step) (s : Step) (c : Data) → IsDocument d
+    ensures { (d : Data) (P : Pointer) (L : List Segment) (s : Segment) (c : Data) → IsDocument d
         → Resolves d P (L ++ s ∷ []) c → (e : Data) × IsRemoved d P e }
 {}
 
@@ -47,12 +47,12 @@ pub fn one_removed()
 /// What remove leaves is what is computed, and where nothing is, it leaves nothing.
 pub fn removed_is_computed()
     ensures { (d : Data) (P : Pointer) (e : Data) → IsDocument d
-        → (IsRemoved d P e ↔ (removed d P ≡ Some e)) }
+        → (IsRemoved d P e ↔ (after_remove d P ≡ Some e)) }
 {}
 
 /// Where a pointer resolves, replace leaves a document.
 pub fn replaced_where_it_resolves()
-    ensures { (d : Data) (P : Pointer) (v : Data) (L : List Step) (c : Data) → IsDocument d → IsDocument v
+    ensures { (d : Data) (P : Pointer) (v : Data) (L : List Segment) (c : Data) → IsDocument d → IsDocument v
         → Resolves d P L c → (e : Data) × IsReplaced d P v e }
 {}
 
@@ -65,12 +65,12 @@ pub fn one_replaced()
 /// What replace leaves is what is computed, and where nothing is, it leaves nothing.
 pub fn replaced_is_computed()
     ensures { (d : Data) (P : Pointer) (v e : Data) → IsDocument d → IsDocument v
-        → (IsReplaced d P v e ↔ (replaced d P v ≡ Some e)) }
+        → (IsReplaced d P v e ↔ (after_replace d P v ≡ Some e)) }
 {}
 
 /// After a replace, what is not at or under its place looks as before.
 pub fn replace_keeps_elsewhere()
-    ensures { (d : Data) (P : Pointer) (v e : Data) (L : List Step) (c : Data) (X : List Step)
+    ensures { (d : Data) (P : Pointer) (v e : Data) (L : List Segment) (c : Data) (X : List Segment)
         → IsReplaced d P v e → Resolves d P L c
-        → ((R : List Step) → X ≡ L ++ R → ⊥) → look e X ≡ look d X }
+        → ((R : List Segment) → X ≡ L ++ R → ⊥) → look e X ≡ look d X }
 {}

@@ -4,8 +4,8 @@ ghost use Rattle.std.specs.Prelude.{◌≡◌, ◌↔◌, ◌⊎◌, List, Some,
 ghost use Rattle.serde_json.specs.Data.{Data};
 ghost use Rattle.serde_json.specs.Written.{has_float};
 ghost use Rattle.jsonptr.specs.Text.{Pointer};
-ghost use Rattle.json_patch.specs.ChangeComputed.{found};
-ghost use Rattle.json_patch.specs.Document.{IsDocument, Step, look, standing};
+ghost use Rattle.json_patch.specs.ChangeComputed.{pointee};
+ghost use Rattle.json_patch.specs.Document.{IsDocument, Segment, look, value_at};
 ghost use Rattle.json_patch.specs.Resolve.{Resolves, StandsAt};
 
 /// A value is a document, or it is none.
@@ -25,17 +25,17 @@ pub fn no_float()
 #[tactic(auto, using(crate::proofs::Alike::alike))]
 pub fn alike_is_equal()
     ensures { (d e : Data) → IsDocument d → IsDocument e
-        → ((L : List Step) → look d L ≡ look e L) → d ≡ e }
+        → ((L : List Segment) → look d L ≡ look e L) → d ≡ e }
 {}
 
 /// A pointer resolves to what stands at its location.
-#[tactic(auto, using(crate::proofs::Found::resolves_standing))]
+#[tactic(auto, using(crate::proofs::Pointees::resolves_standing))]
 pub fn resolves_to_what_stands()
-    ensures { (d : Data) (P : Pointer) (L : List Step) (c : Data)
-        → Resolves d P L c → standing d L ≡ Some c }
+    ensures { (d : Data) (P : Pointer) (L : List Segment) (c : Data)
+        → Resolves d P L c → value_at d L ≡ Some c }
 {}
 
 /// What stands where a pointer leads is what is found there.
 pub fn found_is_computed()
-    ensures { (d : Data) (P : Pointer) (c : Data) → StandsAt d P c ↔ (found d P ≡ Some c) }
+    ensures { (d : Data) (P : Pointer) (c : Data) → StandsAt d P c ↔ (pointee d P ≡ Some c) }
 {}

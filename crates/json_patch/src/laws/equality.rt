@@ -8,19 +8,19 @@ ghost use Rattle.json_patch.specs.Operation.{AreWhole, Operation};
 ghost use Rattle.json_patch.specs.Same.{AreInOrder, AreSame, AreSameAt, AreSameLists};
 
 /// Each value is the same as itself.
-#[tactic(auto, using(crate::proofs::Samed::laws_of_equality))]
+#[tactic(auto, using(crate::proofs::SameDocuments::laws_of_equality))]
 pub fn same_as_itself()
     ensures { (d : Data) → AreSame d d }
 {}
 
 /// Which of two values stands first makes no difference.
-#[tactic(auto, using(crate::proofs::Samed::laws_of_equality))]
+#[tactic(auto, using(crate::proofs::SameDocuments::laws_of_equality))]
 pub fn same_either_way()
     ensures { (d e : Data) → AreSame d e → AreSame e d }
 {}
 
 /// Two values that are the same as a third are the same.
-#[tactic(auto, using(crate::proofs::Samed::laws_of_equality))]
+#[tactic(auto, using(crate::proofs::SameDocuments::laws_of_equality))]
 pub fn same_in_turn()
     ensures { (d e f : Data) → AreSame d e → AreSame e f → AreSame d f }
 {}
@@ -36,13 +36,13 @@ pub fn same_by_name()
 {}
 
 /// A document is the same as itself alone.
-#[tactic(auto, using(crate::proofs::Samed::laws_of_equality))]
+#[tactic(auto, using(crate::proofs::SameDocuments::laws_of_equality))]
 pub fn same_as_document()
     ensures { (d e : Data) → IsDocument d → (AreSame d e ↔ (d ≡ e)) }
 {}
 
 /// A list of operations whose values are documents is the same as itself alone.
-#[tactic(auto, using(crate::proofs::Samed::laws_of_equality))]
+#[tactic(auto, using(crate::proofs::SameDocuments::laws_of_equality))]
 pub fn same_as_whole_list()
     ensures { (ops others : List Operation) → AreWhole ops
         → (AreSameLists ops others ↔ (ops ≡ others)) }

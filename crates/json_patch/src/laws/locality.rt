@@ -5,13 +5,13 @@ ghost use Rattle.std.specs.Prelude.{◌≡◌, ◌↔◌, ℕ, List, Some};
 ghost use Rattle.serde_json.specs.Data.{Data};
 ghost use Rattle.jsonptr.specs.Text.{Pointer};
 ghost use Rattle.json_patch.specs.Change.{IsReplaced};
-ghost use Rattle.json_patch.specs.Document.{IsDocument, Step};
+ghost use Rattle.json_patch.specs.Document.{IsDocument, Segment};
 ghost use Rattle.json_patch.specs.Inverse.{IsInverse};
 ghost use Rattle.json_patch.specs.Operation.{AreWhole, IsWholeOp, Operation};
 ghost use Rattle.json_patch.specs.Resolve.{Resolves, StandsAt};
 ghost use Rattle.json_patch.specs.Run.{Accepts, RefusesAt};
 ghost use Rattle.json_patch.specs.Shared.{AreWithin, IsShared, IsWithin};
-ghost use Rattle.json_patch.specs.SharedComputed.{extended_all, shared, stripped, stripped_all};
+ghost use Rattle.json_patch.specs.SharedComputed.{extend_all, shared_tokens, strip, strip_all};
 ghost use Rattle.json_patch.specs.Step.{Leaves, Refuses};
 ghost use Rattle.json_patch.specs.declared.error.PatchErrorKind.{PatchErrorKind};
 
@@ -20,7 +20,7 @@ ghost use Rattle.json_patch.specs.declared.error.PatchErrorKind.{PatchErrorKind}
 #[tactic(auto, using(crate::proofs::Locality::local_leaves))]
 pub fn local_step()
     ensures { (d : Data) (S : Pointer) (b : Data) (op : Operation) → IsDocument d → IsWholeOp op
-        → StandsAt d S b → IsWithin S op → (e : Data) → Leaves b (stripped S op) e
+        → StandsAt d S b → IsWithin S op → (e : Data) → Leaves b (strip S op) e
         → (x : Data) × IsReplaced d S e x × Leaves d op x }
 {}
 
@@ -30,13 +30,13 @@ pub fn local_step()
 pub fn local_refusal()
     ensures { (d : Data) (S : Pointer) (b : Data) (op : Operation) → IsDocument d → IsWholeOp op
         → StandsAt d S b → IsWithin S op
-        → (kind : PatchErrorKind) → Refuses b (stripped S op) kind → Refuses d op kind }
+        → (kind : PatchErrorKind) → Refuses b (strip S op) kind → Refuses d op kind }
 {}
 
 /// After each accepted run the shared tokens resolve to the same location as before.
 #[tactic(auto, using(crate::proofs::Locality::location_stays))]
 pub fn location_stays()
-    ensures { (d : Data) (S : Pointer) (L : List Step) (b : Data) (ops : List Operation) (x : Data)
+    ensures { (d : Data) (S : Pointer) (L : List Segment) (b : Data) (ops : List Operation) (x : Data)
         → IsDocument d → AreWhole ops → Resolves d S L b → AreWithin S ops → Accepts d ops x
         → (c : Data) × Resolves x S L c }
 {}
@@ -46,7 +46,7 @@ pub fn location_stays()
 pub fn local_run()
     ensures { (d : Data) (S : Pointer) (b : Data) (ops : List Operation) → IsDocument d → AreWhole ops
         → StandsAt d S b → AreWithin S ops → (x : Data) → Accepts d ops x
-        ↔ ((e : Data) × Accepts b (stripped_all S ops) e × IsReplaced d S e x) }
+        ↔ ((e : Data) × Accepts b (strip_all S ops) e × IsReplaced d S e x) }
 {}
 
 /// Where the one is refused, so is the other, at the same number and for the same kind.
@@ -54,7 +54,7 @@ pub fn local_run()
 pub fn local_run_refused()
     ensures { (d : Data) (S : Pointer) (b : Data) (ops : List Operation) → IsDocument d → AreWhole ops
         → StandsAt d S b → AreWithin S ops → (k : ℕ) (kind : PatchErrorKind)
-        → RefusesAt d ops k kind ↔ RefusesAt b (stripped_all S ops) k kind }
+        → RefusesAt d ops k kind ↔ RefusesAt b (strip_all S ops) k kind }
 {}
 
 /// The inverse of a list is the inverse of the list without the shared tokens, on what stands there,
@@ -62,7 +62,7 @@ pub fn local_run_refused()
 pub fn local_inverse()
     ensures { (d : Data) (S : Pointer) (b : Data) (ops : List Operation) → IsDocument d → AreWhole ops
         → StandsAt d S b → AreWithin S ops → (I : List Operation) → IsInverse d ops I
-        ↔ ((J : List Operation) × IsInverse b (stripped_all S ops) J × (I ≡ extended_all S J)) }
+        ↔ ((J : List Operation) × IsInverse b (strip_all S ops) J × (I ≡ extend_all S J)) }
 {}
 
 /// A list shares one list of tokens at most.
@@ -73,5 +73,5 @@ pub fn shared_is_one()
 
 /// What a list shares is what is computed, and where nothing is, it shares nothing.
 pub fn shared_is_computed()
-    ensures { (ops : List Operation) (S : Pointer) → IsShared ops S ↔ (shared ops ≡ Some S) }
+    ensures { (ops : List Operation) (S : Pointer) → IsShared ops S ↔ (shared_tokens ops ≡ Some S) }
 {}

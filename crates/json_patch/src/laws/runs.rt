@@ -5,37 +5,37 @@ ghost use Rattle.serde_json.specs.Data.{Data};
 ghost use Rattle.json_patch.specs.Document.{IsDocument};
 ghost use Rattle.json_patch.specs.Operation.{AreWhole, IsWholeOp, Operation};
 ghost use Rattle.json_patch.specs.Run.{Accepts, AreTests, Ends, RefusesAt};
-ghost use Rattle.json_patch.specs.RunComputed.{fault, ran, stepped};
+ghost use Rattle.json_patch.specs.RunComputed.{fault, after_run, after_step};
 ghost use Rattle.json_patch.specs.Step.{Leaves, Refuses};
 ghost use Rattle.json_patch.specs.declared.error.PatchErrorKind.{PatchErrorKind};
 
 /// What an operation leaves is what is computed.
-#[tactic(auto, using(crate::proofs::Back::step_left))]
+#[tactic(auto, using(crate::proofs::Inverses::step_left))]
 pub fn step_left()
     ensures { (d : Data) (op : Operation) → IsDocument d → IsWholeOp op
-        → (e : Data) → Leaves d op e ↔ (stepped d op ≡ Ok e) }
+        → (e : Data) → Leaves d op e ↔ (after_step d op ≡ Ok e) }
 {}
 
 /// An operation is refused where and as is computed.
-#[tactic(auto, using(crate::proofs::Back::step_refused))]
+#[tactic(auto, using(crate::proofs::Inverses::step_refused))]
 pub fn step_refused()
     ensures { (d : Data) (op : Operation) → IsDocument d → IsWholeOp op
-        → (kind : PatchErrorKind) → Refuses d op kind ↔ (stepped d op ≡ Err kind) }
+        → (kind : PatchErrorKind) → Refuses d op kind ↔ (after_step d op ≡ Err kind) }
 {}
 
 /// A list is accepted where it is computed to be, with the end that is computed.
-#[tactic(auto, using(crate::proofs::Back::run_accepted))]
+#[tactic(auto, using(crate::proofs::Inverses::run_accepted))]
 pub fn run_accepted()
     ensures { (d : Data) (ops : List Operation) → IsDocument d → AreWhole ops
-        → (e : Data) → Accepts d ops e ↔ (ran d ops ≡ Ok e) }
+        → (e : Data) → Accepts d ops e ↔ (after_run d ops ≡ Ok e) }
 {}
 
 /// A list is refused where and as is computed.
-#[tactic(auto, using(crate::proofs::Back::run_refused))]
+#[tactic(auto, using(crate::proofs::Inverses::run_refused))]
 pub fn run_refused()
     ensures { (d : Data) (ops : List Operation) → IsDocument d → AreWhole ops
         → (k : ℕ) (kind : PatchErrorKind)
-        → RefusesAt d ops k kind ↔ (ran d ops ≡ Err (fault k kind)) }
+        → RefusesAt d ops k kind ↔ (after_run d ops ≡ Err (fault k kind)) }
 {}
 
 /// A list is accepted with one end, or refused at one operation and for one kind, and not both.
@@ -52,7 +52,7 @@ pub fn run_keeps_documents()
 {}
 
 /// A joined list is accepted where the first is and the second is on its end.
-#[tactic(auto, using(crate::proofs::Back::joined))]
+#[tactic(auto, using(crate::proofs::Inverses::joined))]
 pub fn joined_accepted()
     ensures { (d : Data) (xs ys : List Operation) (e : Data)
         → Accepts d (xs ++ ys) e ↔ ((m : Data) × Accepts d xs m × Accepts m ys e) }

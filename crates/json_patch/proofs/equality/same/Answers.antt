@@ -1,4 +1,4 @@
-use Rattle.json_patch.proofs.Samed.{same-says, same-document}
+use Rattle.json_patch.proofs.SameDocuments.{same-says, same-document}
 use Rattle.json_patch.proofs.equality.same.Goals as goal
 
 pub returns-clause-same : goal.returns-clause-same

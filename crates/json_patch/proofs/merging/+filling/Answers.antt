@@ -2,8 +2,8 @@ use Rattle.std.proofs.Common.{string_bytes, rules, refl, sym, ap, ◌∙◌}
 use Rattle.serde_json.specs.View.{view}
 use Rattle.serde_json.specs.declared.value.Value.{Object, the_lemmas}
 use Rattle.json_patch.specs.Filled.{IsFilledMember, stays, left}
-use Rattle.json_patch.proofs.Passing.{starts, steps_at, changes_nothing, next_document}
-use Rattle.json_patch.proofs.Filling.{null_here, other_here, other_value, filled_whole, filled_object, filled_no_object, fills_found, fills_missing, fills_step, fills_back}
+use Rattle.json_patch.proofs.MergeLoops.{starts, steps_at, changes_nothing, next_document}
+use Rattle.json_patch.proofs.MergeFills.{null_here, other_here, other_value, filled_whole, filled_object, filled_no_object, fills_found, fills_missing, fills_step, fills_back}
 use Rattle.json_patch.proofs.merging.+filling.Goals.{fill-in-Object+in_default-target, fill-in_default}
 use Rattle.json_patch.proofs.merging.+filling.Goals as goal
 

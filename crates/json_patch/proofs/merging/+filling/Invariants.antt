@@ -2,7 +2,7 @@ use Rattle.std.proofs.Common.{◌≡◌}
 use Rattle.serde_json.specs.View.{members_view}
 use Rattle.json_patch.specs.Document.{AreMembers}
 use Rattle.json_patch.specs.Filled.{IsFilledMember, members_before}
-use Rattle.json_patch.proofs.Passing.{Passes}
+use Rattle.json_patch.proofs.MergeLoops.{Passes}
 use Rattle.json_patch.proofs.merging.+filling.Given as goal
 
 abbrev pub invariant-fill_each-loop-name : goal.invariant-fill_each-loop-name

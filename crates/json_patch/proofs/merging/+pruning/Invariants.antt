@@ -1,7 +1,7 @@
 use Rattle.serde_json.specs.View.{members_view}
 use Rattle.json_patch.specs.Document.{AreMembers}
 use Rattle.json_patch.specs.Filled.{IsPrunedMember}
-use Rattle.json_patch.proofs.Passing.{Passes}
+use Rattle.json_patch.proofs.MergeLoops.{Passes}
 use Rattle.json_patch.proofs.merging.+pruning.Given as goal
 
 abbrev pub invariant-prune_members-loop-name : goal.invariant-prune_members-loop-name

@@ -3,7 +3,7 @@ use Rattle.std.proofs.lemmas.List.{drop_more, drop_all}
 use Rattle.std.proofs.Output.{has_written_append, has_written_of_eq}
 use Rattle.serde_json.specs.Data.{item, no_items, member}
 use Rattle.serde_json.specs.View.{view, items_view, members_view}
-use Rattle.json_patch.specs.Printed.{quoted, printed, printed_items, printed_members}
+use Rattle.json_patch.specs.Printed.{quote, value_text, printed_items, printed_members}
 use Rattle.json_patch.proofs.Texts.{printed_items_more, printed_items_end, printed_members_more, printed_members_end}
 use Rattle.json_patch.proofs.printing.+printing.Goals as goal
 
@@ -19,7 +19,7 @@ write_items-items-preserved g c c' =
           let two = c'.write_value.ensures one.plain (search rules) in
           let step : items_view (drop l.item-index xs) ≡ item (view x) (items_view (drop (l.item-index + 1) xs)) =
           ap items_view (drop_more xs l.item-index x (omega arith) ∙ ap (λ y. y ∷ drop (l.item-index + 1) xs) (sym c'.item-item.is)) in (
-            (done ++ l.comma.now) ++ printed (view x),
+            (done ++ l.comma.now) ++ value_text (view x),
             has_written_append _ _ _ _ _ _ (has_written_append _ _ _ _ _ _ wrote one) two,
             printed_items_more done l.comma.now _ _ _ (view x) step whole,
           ),
@@ -54,7 +54,7 @@ write_members-members-preserved g c c' =
           let two = c'.write_name.ensures one.plain (search rules) in
           let three = c'.write_value.ensures two.plain (search rules) in
           let step : members_view l.name-iterator ≡ member k d (members_view c'.next.new.self) = ap members_view c'.in-Some.ensures.steps ∙ ap (λ n. member n d (members_view c'.next.new.self)) named in (
-            ((done ++ l.comma.now) ++ (quoted k ++ codes ":")) ++ printed d,
+            ((done ++ l.comma.now) ++ (quote k ++ codes ":")) ++ value_text d,
             has_written_append _ _ _ _ _ _ (has_written_append _ _ _ _ _ _ (has_written_append _ _ _ _ _ _ wrote one) two) three,
             printed_members_more done l.comma.now _ k _ _ d step whole,
           ),

@@ -1,6 +1,6 @@
 use Rattle.std.proofs.Common.{rules}
 use Rattle.std.proofs.Output.{has_written_append, has_written_of_eq}
-use Rattle.json_patch.specs.Held.{held}
+use Rattle.json_patch.specs.PartsView.{parts_view}
 use Rattle.json_patch.proofs.Texts.{printed_operation}
 use Rattle.json_patch.proofs.printing.write_parts.Goals as goal
 
@@ -18,4 +18,4 @@ returns g c plain ok =
     let three = has_written_append _ _ _ _ _ _ two key in
     let four = has_written_append _ _ _ _ _ _ three path in
     let five = has_written_append _ _ _ _ _ _ four value in
-    has_written_of_eq _ _ _ _ _ (printed_operation _ _ _ (held c.args.parts) (search rules) c.as_str.ensures) (has_written_append _ _ _ _ _ _ five closed)
+    has_written_of_eq _ _ _ _ _ (printed_operation _ _ _ (parts_view c.args.parts) (search rules) c.as_str.ensures) (has_written_append _ _ _ _ _ _ five closed)

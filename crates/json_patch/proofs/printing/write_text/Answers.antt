@@ -2,7 +2,7 @@ use Rattle.std.proofs.Common.{◌≡◌, [], ◌++◌, rules, refl}
 use Rattle.std.proofs.lemmas.Str.{IsUtf8-past_char}
 use Rattle.std.proofs.Output.{has_written_append, has_written_of_eq}
 use Rattle.std.specs.Str.Iter.{chars_rest}
-use Rattle.json_patch.specs.Printed.{escaped}
+use Rattle.json_patch.specs.Printed.{character_text}
 use Rattle.json_patch.proofs.Texts.{escaped_more, quoted_end}
 use Rattle.json_patch.proofs.printing.write_text.Goals as goal
 
@@ -19,7 +19,7 @@ loop-character-preserved g c =
       λ plain.
           let (done, wrote, whole) = so_far plain in
           let one = c.write_character.ensures wrote.plain (search rules) in (
-            done ++ escaped c.in-Some.character,
+            done ++ character_text c.in-Some.character,
             has_written_append _ _ _ _ _ _ wrote one,
             escaped_more done _ _ _ c.in-Some.character text step whole,
           ),

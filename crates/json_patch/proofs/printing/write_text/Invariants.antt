@@ -1,7 +1,7 @@
 use Rattle.std.proofs.Common.{◌≡◌, ℕ, List, ◌++◌, chars, flat_map, IsUtf8}
 use Rattle.std.specs.Fmt.{HasWritten, IsPlainFormatter}
 use Rattle.std.specs.Str.Iter.{chars_rest}
-use Rattle.json_patch.specs.Printed.{escaped}
+use Rattle.json_patch.specs.Printed.{character_text}
 use Rattle.json_patch.proofs.printing.write_text.Given as goal
 
 -- what is written, and the characters that are left, are the whole text
@@ -9,4 +9,4 @@ abbrev pub invariant-loop-character : goal.invariant-loop-character
 invariant-loop-character g l =
     IsUtf8 (chars_rest l.character-iterator)
     × (IsPlainFormatter l.initial.f → (done : List ℕ) × HasWritten g.W.Write.write_str_gives l.initial.f done l.f
-    × (done ++ flat_map escaped (chars (chars_rest l.character-iterator)) ≡ flat_map escaped (chars l.text)))
+    × (done ++ flat_map character_text (chars (chars_rest l.character-iterator)) ≡ flat_map character_text (chars l.text)))

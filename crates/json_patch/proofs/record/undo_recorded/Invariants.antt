@@ -3,13 +3,13 @@ use mathlib.Core.List.{reverse}
 use Rattle.serde_json.specs.Data.{Data}
 use Rattle.serde_json.specs.View.{view}
 use Rattle.json_patch.specs.Operation.{operations}
-use Rattle.json_patch.specs.RunComputed.{ran}
+use Rattle.json_patch.specs.RunComputed.{after_run}
 use Rattle.json_patch.specs.Undoing.{AreUndos}
 use Rattle.json_patch.proofs.record.undo_recorded.Given as goal
 
 abbrev pub invariant-loop-operation : goal.invariant-loop-operation
-invariant-loop-operation l = (d : Data) → AreUndos (operations l.fn.undo.items) → ran (view l.fn.doc) (reverse (operations l.fn.undo.items)) ≡ Ok d
-    → AreUndos (operations l.undo.items) × (ran (view l.doc) (reverse (operations l.undo.items)) ≡ Ok d)
+invariant-loop-operation l = (d : Data) → AreUndos (operations l.fn.undo.items) → after_run (view l.fn.doc) (reverse (operations l.fn.undo.items)) ≡ Ok d
+    → AreUndos (operations l.undo.items) × (after_run (view l.doc) (reverse (operations l.undo.items)) ≡ Ok d)
 
 abbrev pub decreases-loop-operation : goal.decreases-loop-operation
 decreases-loop-operation l = goal.left-loop-operation l

@@ -1,11 +1,11 @@
 use Rattle.std.proofs.Common.{ap, ◌∙◌}
 use Rattle.serde_json.specs.View.{view}
-use Rattle.json_patch.specs.ChangeComputed.{found}
-use Rattle.json_patch.proofs.Found.{some_stands, none_stands}
+use Rattle.json_patch.specs.ChangeComputed.{pointee}
+use Rattle.json_patch.proofs.Pointees.{some_stands, none_stands}
 use Rattle.json_patch.proofs.resolving.lookup.Goals as goal
 
 pub returns-clause-found : goal.returns-clause-found
-returns-clause-found c = some_stands _ _ _ _ (c.find.ensures ∙ ap (found (view c.args.document.now)) c.tokens.ensures.value)
+returns-clause-found c = some_stands _ _ _ _ (c.find.ensures ∙ ap (pointee (view c.args.document.now)) c.tokens.ensures.value)
 
 pub returns-clause-missing : goal.returns-clause-missing
-returns-clause-missing c = none_stands _ _ _ _ (c.find.ensures ∙ ap (found (view c.args.document.now)) c.tokens.ensures.value)
+returns-clause-missing c = none_stands _ _ _ _ (c.find.ensures ∙ ap (pointee (view c.args.document.now)) c.tokens.ensures.value)

@@ -1,5 +1,5 @@
 use Rattle.serde_json.specs.View.{view}
-use Rattle.json_patch.proofs.Applied.{IsState}
+use Rattle.json_patch.proofs.ProgramRuns.{IsState}
 use Rattle.json_patch.proofs.run.patch_unsafe.Given as goal
 
 abbrev pub invariant-loop-number : goal.invariant-loop-number

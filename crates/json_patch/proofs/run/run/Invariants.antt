@@ -2,7 +2,7 @@ use Rattle.std.proofs.Common.{◌-◌, ◌≤◌, length}
 use Rattle.serde_json.specs.View.{view}
 use Rattle.json_patch.specs.Operation.{operations}
 use Rattle.json_patch.specs.Undoing.{AreRecorded, AreUndos}
-use Rattle.json_patch.proofs.Applied.{IsState}
+use Rattle.json_patch.proofs.ProgramRuns.{IsState}
 use Rattle.json_patch.proofs.run.run.Given as goal
 
 abbrev pub invariant-loop-number : goal.invariant-loop-number

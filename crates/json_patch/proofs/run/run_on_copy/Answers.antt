@@ -3,7 +3,7 @@ use Rattle.std.proofs.lemmas.List.{length-map, take-map}
 use Rattle.serde_json.specs.View.{view}
 use Rattle.jsonptr.specs.Pointers.{tokens_of}
 use Rattle.json_patch.specs.Operation.{operation_of, operations}
-use Rattle.json_patch.proofs.Applied.{reported_names, state_document, take_past}
+use Rattle.json_patch.proofs.ProgramRuns.{reported_names, state_document, take_past}
 use Rattle.json_patch.proofs.PartRuns.{IsAtPart, Part, begun_part, made_put, part_at, part_end, part_first, part_more, part_recorded, part_stops, ended_at}
 use Rattle.json_patch.proofs.Undos.{same_count, take_more}
 use Rattle.json_patch.proofs.run.run_on_copy.Goals as goal

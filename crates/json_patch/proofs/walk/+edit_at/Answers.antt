@@ -2,7 +2,7 @@ use Rattle.std.proofs.Common.{rules, ap, sym, ◌∙◌}
 use Rattle.serde_json.specs.declared.value.Value.{Array, Object, the_lemmas}
 use Rattle.serde_json.specs.View.{view}
 use Rattle.jsonptr.specs.Pointers.{token_of, tokens_left}
-use Rattle.json_patch.specs.ChangeComputed.{altered}
+use Rattle.json_patch.specs.ChangeComputed.{after_change}
 use Rattle.json_patch.specs.Edits.{made_by}
 use Rattle.json_patch.proofs.Descents.{displaces_below, found_at_item, found_at_member, next_within, walks_to_item, walks_to_member, walks_to_no_item, walks_to_no_member}
 use Rattle.json_patch.proofs.walk.+edit_at.Goals as goal
@@ -16,7 +16,7 @@ returns-in_err-index-in-Array-clause-leaves t c = search (rules, walks_to_no_ite
 pub returns-in-Some-get_mut-clause-leaves : goal.returns-in-Some-get_mut-clause-leaves
 returns-in-Some-get_mut-clause-leaves t c =
     let name = c.as_str.ensures.value ∙ c.in_ok-name-in-Object.ensures.name in
-    walks_to_member _ _ (λ d. altered (made_by c.args.edit (token_of c.args.last)) d _) (token_of c.in-Some.token) _ _ _ (c.get_mut.follows.lender c.edit_at.new.target) c.in-Some-get_mut.child.now c.edit_at.new.target
+    walks_to_member _ _ (λ d. after_change (made_by c.args.edit (token_of c.args.last)) d _) (token_of c.in-Some.token) _ _ _ (c.get_mut.follows.lender c.edit_at.new.target) c.in-Some-get_mut.child.now c.edit_at.new.target
     (next_within _ _ _ _ (token_of c.in-Some.token) c.in-Some.ensures.steps) (c.in-Object.is ∙ ap Object (sym c.in-Object.members-is)) (search (rules, the_lemmas)) c.get_mut.ensures.ordered
     (rw name at c.in-Some-get_mut.ensures.value) (rw name at (c.get_mut.follows.holds c.edit_at.new.target).0) c.edit_at.ensures.leaves
 
@@ -28,7 +28,7 @@ returns-in-Some-get_mut-clause-displaces t c =
 
 pub returns-in_ok-index-in-Array-clause-leaves : goal.returns-in_ok-index-in-Array-clause-leaves
 returns-in_ok-index-in-Array-clause-leaves t c =
-    walks_to_item _ _ (λ d. altered (made_by c.args.edit (token_of c.args.last)) d _) (token_of c.in-Some.token) _ _ _ c.len.result c.in_ok-index-in-Array.index c.index_mut.result.now c.edit_at-in-Array.new.target
+    walks_to_item _ _ (λ d. after_change (made_by c.args.edit (token_of c.args.last)) d _) (token_of c.in-Some.token) _ _ _ c.len.result c.in_ok-index-in-Array.index c.index_mut.result.now c.edit_at-in-Array.new.target
     (next_within _ _ _ _ (token_of c.in-Some.token) c.in-Some.ensures.steps) (c.in-Array.is ∙ ap Array (sym c.in-Array.items-is)) (search (rules, the_lemmas)) c.len.ensures c.in_ok-index-in-Array.ensures c.index_mut.ensures.value c.edit_at-in-Array.ensures.leaves
 
 pub returns-in_ok-index-in-Array-clause-displaces :

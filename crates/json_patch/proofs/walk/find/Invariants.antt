@@ -1,11 +1,11 @@
 use Rattle.std.proofs.Common.{◌≡◌}
 use Rattle.serde_json.specs.View.{view}
 use Rattle.jsonptr.specs.Pointers.{tokens_left}
-use Rattle.json_patch.specs.ChangeComputed.{found}
+use Rattle.json_patch.specs.ChangeComputed.{pointee}
 use Rattle.json_patch.proofs.walk.find.Given as goal
 
 -- what stands where the tokens lead stands where those that are left lead from here
 abbrev pub invariant-loop-token : goal.invariant-loop-token
 invariant-loop-token l =
     ((goal.iterator-loop-token).can_next l.token-iterator × (goal.iterator-loop-token).is_finite l.token-iterator)
-    × (found (view l.place) (tokens_left l.token-iterator) ≡ found (view l.fn.document) (tokens_left l.fn.tokens))
+    × (pointee (view l.place) (tokens_left l.token-iterator) ≡ pointee (view l.fn.document) (tokens_left l.fn.tokens))

@@ -1,4 +1,4 @@
-use Rattle.json_patch_tool.proofs.Recorded.{leads_to, is_document}
+use Rattle.json_patch_tool.proofs.RecordLines.{leads_to, is_document}
 use Rattle.json_patch_tool.proofs.answer.record.Goals as goal
 
 pub returns-clause-leads_back : goal.returns-clause-leads_back

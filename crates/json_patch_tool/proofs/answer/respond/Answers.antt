@@ -1,4 +1,4 @@
-use Rattle.json_patch_tool.proofs.Answered.{line_answered, fault_answered, record_given, record_leads_back}
+use Rattle.json_patch_tool.proofs.ModeAnswers.{line_answered, fault_answered, record_given, record_leads_back}
 use Rattle.json_patch_tool.proofs.answer.respond.Goals as goal
 
 pub returns-in-Patch-clause-line : goal.returns-in-Patch-clause-line

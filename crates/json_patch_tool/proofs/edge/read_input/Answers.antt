@@ -1,6 +1,6 @@
 use Rattle.std.proofs.Common.{◌∙◌, rules, arith, refl}
 use Rattle.std.proofs.lemmas.Grind.{common_steps}
-use Rattle.json_patch_tool.proofs.Moved.{taken_more, taken_all}
+use Rattle.json_patch_tool.proofs.MovedBytes.{taken_more, taken_all}
 use Rattle.json_patch_tool.proofs.edge.read_input.Goals as goal
 use Rattle.json_patch_tool.proofs.edge.read_input.Goals.{in-Ok+else-n-len+else-is_err, in-Err+else-ne}
 

@@ -1,6 +1,6 @@
 use Rattle.std.proofs.Common.{rules}
 use Rattle.std.proofs.lemmas.List.{places}
-use Rattle.json_patch_tool.proofs.Moved.{sent_more}
+use Rattle.json_patch_tool.proofs.MovedBytes.{sent_more}
 use Rattle.json_patch_tool.proofs.edge.write_line.Goals as goal
 
 pub loop-sent-preserved : goal.loop-sent-preserved

@@ -1,5 +1,5 @@
 use Rattle.json_patch_tool.proofs.Below.{Below}
-use Rattle.json_patch_tool.proofs.Once.{answered_once}
+use Rattle.json_patch_tool.proofs.OneAnswer.{answered_once}
 use Rattle.json_patch_tool.proofs.laws.answered_once.Goals as goal
 
 pub returns : goal.returns

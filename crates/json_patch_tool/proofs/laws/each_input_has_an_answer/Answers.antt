@@ -1,5 +1,5 @@
 use Rattle.json_patch_tool.proofs.Below.{Below}
-use Rattle.json_patch_tool.proofs.Each.{each_has_an_answer}
+use Rattle.json_patch_tool.proofs.SomeAnswer.{each_has_an_answer}
 use Rattle.json_patch_tool.proofs.laws.each_input_has_an_answer.Goals as goal
 
 pub returns : goal.returns

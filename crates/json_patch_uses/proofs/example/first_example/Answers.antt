@@ -5,7 +5,7 @@ use Rattle.serde_json.specs.View.{view}
 use Rattle.json_patch.specs.Document.{IsDocument}
 use Rattle.json_patch.specs.Operation.{Operation, AreWhole, add}
 use Rattle.json_patch.specs.Run.{Accepts, RefusesAt}
-use Rattle.json_patch.specs.RunComputed.{fault, ran}
+use Rattle.json_patch.specs.RunComputed.{fault, after_run}
 use Rattle.json_patch.specs.Refusal.{IfRefused, NamesFirst}
 use Rattle.json_patch.specs.declared.error.PatchErrorKind.{PatchErrorKind}
 use Rattle.json_patch.specs.declared.error.PatchFault.{PatchFault}
@@ -13,10 +13,10 @@ use Rattle.json_patch.specs.declared.error.PatchFault.TheVariants as fault_varia
 use Rattle.json_patch_uses.proofs.example.first_example.Goals as goal
 
 abbrev Accepted : Type 0
-Accepted = (d : Data) (ops : List Operation) → IsDocument d → AreWhole ops → (e : Data) → Accepts d ops e ↔ (ran d ops ≡ Ok e)
+Accepted = (d : Data) (ops : List Operation) → IsDocument d → AreWhole ops → (e : Data) → Accepts d ops e ↔ (after_run d ops ≡ Ok e)
 
 abbrev Refused : Type 0
-Refused = (d : Data) (ops : List Operation) → IsDocument d → AreWhole ops → (k : ℕ) (kind : PatchErrorKind) → RefusesAt d ops k kind ↔ (ran d ops ≡ Err (fault k kind))
+Refused = (d : Data) (ops : List Operation) → IsDocument d → AreWhole ops → (k : ℕ) (kind : PatchErrorKind) → RefusesAt d ops k kind ↔ (after_run d ops ≡ Err (fault k kind))
 
 abbrev before : Data
 before = object (member (codes "foo") (string (codes "bar")) no_members)
@@ -28,12 +28,12 @@ computed : Accepted → (d : Data) (P : List (List ℕ)) (v e : Data) → Accept
     → e ≡ object (member (codes "baz") (string (codes "qux")) (member (codes "foo") (string (codes "bar")) no_members))
 computed law d P v e h is at holds =
     let accepted : Accepts before change e = rw holds at rw at at rw is at h in
-    let made : ran before change ≡ Ok e = (law before change (tt, tt, tt) (tt, tt) e).0 accepted in cc
+    let made : after_run before change ≡ Ok e = (law before change (tt, tt, tt) (tt, tt) e).0 accepted in cc
 
 never_refused : Refused → (d : Data) (P : List (List ℕ)) (v : Data) (k : ℕ) (kind : PatchErrorKind) → RefusesAt d (add P v ∷ []) k kind → d ≡ before → P ≡ codes "baz" ∷ [] → v ≡ string (codes "qux") → ⊥
 never_refused law d P v k kind h is at holds =
     let refused : RefusesAt before change k kind = rw holds at rw at at rw is at h in
-    let made : ran before change ≡ Err (fault k kind) = (law before change (tt, tt, tt) (tt, tt) k kind).0 refused in cc
+    let made : after_run before change ≡ Err (fault k kind) = (law before change (tt, tt, tt) (tt, tt) k kind).0 refused in cc
 
 pub returns-clause-made : goal.returns-clause-made
 returns-clause-made c = computed c.run_accepted.ensures (view c.in_ok-document.document) c.push_back.new.self (view c.in_ok-value.value) _ c.in_ok-patch.ensures.accepted c.in_ok-document.ensures (search rules) (search rules)

@@ -1,4 +1,4 @@
-use Rattle.json_patch.proofs.Added.{added_there}
+use Rattle.json_patch.proofs.Additions.{added_there}
 use Rattle.json_patch.proofs.laws.changes.added_at_a_target.Goals as goal
 
 pub returns : goal.returns

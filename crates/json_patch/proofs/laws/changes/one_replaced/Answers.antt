@@ -1,4 +1,4 @@
-use Rattle.json_patch.proofs.Replaced.{replaced_one}
+use Rattle.json_patch.proofs.Replacements.{replaced_one}
 use Rattle.json_patch.proofs.laws.changes.one_replaced.Goals as goal
 
 pub returns : goal.returns

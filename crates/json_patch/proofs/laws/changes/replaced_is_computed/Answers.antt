@@ -1,4 +1,4 @@
-use Rattle.json_patch.proofs.Exact.{replaced_computed}
+use Rattle.json_patch.proofs.OneResult.{replaced_computed}
 use Rattle.json_patch.proofs.laws.changes.replaced_is_computed.Goals as goal
 
 pub returns : goal.returns

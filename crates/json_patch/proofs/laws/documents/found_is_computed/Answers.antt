@@ -1,4 +1,4 @@
-use Rattle.json_patch.proofs.Found.{found_computed}
+use Rattle.json_patch.proofs.Pointees.{found_computed}
 use Rattle.json_patch.proofs.laws.documents.found_is_computed.Goals as goal
 
 pub returns : goal.returns

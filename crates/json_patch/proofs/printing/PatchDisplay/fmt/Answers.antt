@@ -4,7 +4,7 @@ use Rattle.std.proofs.Output.{has_written_append, has_written_of_eq}
 use Rattle.serde_json.specs.Data.{item, no_items}
 use Rattle.json_patch.specs.Operation.{operation_of, operations}
 use Rattle.json_patch.specs.PatchValue.{all_fields}
-use Rattle.json_patch.specs.Printed.{listed, object_of, printed, printed_items}
+use Rattle.json_patch.specs.Printed.{operation_items, object_of, value_text, printed_items}
 use Rattle.json_patch.proofs.Texts.{printed_items_more, printed_items_end}
 use Rattle.json_patch.proofs.printing.PatchDisplay.fmt.Goals as goal
 
@@ -18,9 +18,9 @@ operations-preserved g c =
           let (done, wrote, whole) = l.invariant.1 plain in
           let one = c.write_str-in-operations.ensures.writes wrote.plain (search rules) in
           let two = c.fmt.ensures.writes one.plain (search rules) in
-          let step : listed (operations (drop l.operation-index os)) ≡ item d (listed (operations (drop (l.operation-index + 1) os))) =
-          ap (λ xs. listed (operations xs)) (drop_more os l.operation-index c.operation-item.result (omega arith) ∙ ap (λ o. o ∷ drop (l.operation-index + 1) os) (sym c.operation-item.is)) in (
-            (done ++ l.comma.now) ++ printed d,
+          let step : operation_items (operations (drop l.operation-index os)) ≡ item d (operation_items (operations (drop (l.operation-index + 1) os))) =
+          ap (λ xs. operation_items (operations xs)) (drop_more os l.operation-index c.operation-item.result (omega arith) ∙ ap (λ o. o ∷ drop (l.operation-index + 1) os) (sym c.operation-item.is)) in (
+            (done ++ l.comma.now) ++ value_text d,
             has_written_append _ _ _ _ _ _ (has_written_append _ _ _ _ _ _ wrote one) two,
             printed_items_more done l.comma.now _ _ _ d step whole,
           ),
@@ -33,6 +33,6 @@ returns-clause-writes g c plain ok =
     let opened = c.write_str.ensures.writes plain (search rules) in
     let (done, wrote, whole) = l.invariant.1 opened.plain in
     let closed = c.write_str-2.ensures.writes wrote.plain ok in
-    let none : listed (operations (drop l.operation-index os)) ≡ no_items = ap (λ xs. listed (operations xs)) (drop_all l.operation-index os (omega arith)) in
-    let all = printed_items_end done l.comma.now _ _ none whole ∙ ap (λ xs. printed_items [] (listed (operations xs))) c.deref-operation-items.ensures.value in
+    let none : operation_items (operations (drop l.operation-index os)) ≡ no_items = ap (λ xs. operation_items (operations xs)) (drop_all l.operation-index os (omega arith)) in
+    let all = printed_items_end done l.comma.now _ _ none whole ∙ ap (λ xs. printed_items [] (operation_items (operations xs))) c.deref-operation-items.ensures.value in
     has_written_of_eq _ _ _ _ _ (ap (λ text. 91 ∷ (text ++ 93 ∷ [])) all) (has_written_append _ _ _ _ _ _ (has_written_append _ _ _ _ _ _ opened wrote) closed)

@@ -1,7 +1,7 @@
 use Rattle.std.proofs.Common.{◌≡◌, ℕ, List, [], ◌++◌, drop}
 use Rattle.std.specs.Fmt.{HasWritten, IsPlainFormatter}
 use Rattle.json_patch.specs.Operation.{operations}
-use Rattle.json_patch.specs.Printed.{listed, printed_items}
+use Rattle.json_patch.specs.Printed.{operation_items, printed_items}
 use Rattle.json_patch.proofs.printing.PatchDisplay.fmt.Given as goal
 use denote.Text.{Utf8}
 use denote.Shadow.{shadow}
@@ -11,4 +11,4 @@ abbrev pub invariant-operations : goal.invariant-operations
 invariant-operations g l =
     shadow (Utf8 l.comma)
     × (IsPlainFormatter l.initial.f → (done : List ℕ) × HasWritten g.W.Write.write_str_gives l.initial.f done l.f
-    × (done ++ printed_items l.comma (listed (operations (drop l.operation-index l.operation-items))) ≡ printed_items [] (listed (operations l.operation-items))))
+    × (done ++ printed_items l.comma (operation_items (operations (drop l.operation-index l.operation-items))) ≡ printed_items [] (operation_items (operations l.operation-items))))

@@ -10,16 +10,16 @@ use Rattle.json_patch.specs.declared.error.PatchErrorKind.{PatchErrorKind}
 use Rattle.json_patch.specs.declared.error.PatchErrorKind.TheVariants.{TestFailed, InvalidFromPointer, InvalidPointer, CannotMoveInsideItself}
 use Rattle.json_patch.specs.Resolve.{StandsAt}
 use Rattle.json_patch.specs.Step.{Never, Leaves, Refuses}
-use Rattle.json_patch.specs.ChangeComputed.{found, added, removed, replaced}
+use Rattle.json_patch.specs.ChangeComputed.{pointee, after_add, after_remove, after_replace}
 use Rattle.json_patch.specs.SameComputed.{same}
-use Rattle.json_patch.specs.RunComputed.{begins, or_refused, moved, copied, tested, stepped}
-use Rattle.json_patch.proofs.Samed.{same-is, same-refl}
-use Rattle.json_patch.proofs.Resolved.{resolves_document}
-use Rattle.json_patch.proofs.Found.{found_resolves, resolves_found}
-use Rattle.json_patch.proofs.Added.{added_is, added_none, IsAdded_document}
-use Rattle.json_patch.proofs.Removed.{removed_is, removed_none}
-use Rattle.json_patch.proofs.Replaced.{replaced_is, replaced_none}
-use Rattle.json_patch.proofs.Exact.{added_exact, removed_exact, replaced_exact}
+use Rattle.json_patch.specs.RunComputed.{begins, or_refused, after_move, after_copy, after_test, after_step}
+use Rattle.json_patch.proofs.SameDocuments.{same-is, same-refl}
+use Rattle.json_patch.proofs.Locations.{resolves_document}
+use Rattle.json_patch.proofs.Pointees.{found_resolves, resolves_found}
+use Rattle.json_patch.proofs.Additions.{added_is, added_none, IsAdded_document}
+use Rattle.json_patch.proofs.Removals.{removed_is, removed_none}
+use Rattle.json_patch.proofs.Replacements.{replaced_is, replaced_none}
+use Rattle.json_patch.proofs.OneResult.{added_exact, removed_exact, replaced_exact}
 
 -- ---- proper prefixes
 
@@ -59,32 +59,32 @@ or_err kind other o h = search rules
 
 -- ---- what stands, and what is never left
 
-pub stands_found : (d : Data) (P : Pointer) (v : Data) → StandsAt d P v → found d P ≡ Some v
+pub stands_found : (d : Data) (P : Pointer) (v : Data) → StandsAt d P v → pointee d P ≡ Some v
 stands_found d P v h = resolves_found d P h.0 v h.1
 
 pub stands_document : (d : Data) (P : Pointer) (v : Data) → IsDocument d → StandsAt d P v → IsDocument v
 stands_document d P v hd h = resolves_document d P h.0 v hd h.1
 
-pub never_found : (d : Data) (P : Pointer) → Never (StandsAt d P) → found d P ≡ None
-never_found d P h = none_of (found d P) (λ v is. h v (found_resolves d P v is))
+pub never_found : (d : Data) (P : Pointer) → Never (StandsAt d P) → pointee d P ≡ None
+never_found d P h = none_of (pointee d P) (λ v is. h v (found_resolves d P v is))
 
-pub found_never : (d : Data) (P : Pointer) → found d P ≡ None → Never (StandsAt d P)
-found_never d P is v h = let a : found d P ≡ Some v = stands_found d P v h in cc
+pub found_never : (d : Data) (P : Pointer) → pointee d P ≡ None → Never (StandsAt d P)
+found_never d P is v h = let a : pointee d P ≡ Some v = stands_found d P v h in cc
 
-never_added : (d : Data) (P : Pointer) (v : Data) → IsDocument d → IsDocument v → Never (IsAdded d P v) → added d P v ≡ None
-never_added d P v hd hv h = none_of (added d P v) (λ e is. h e (added_is d P v e hd hv is))
+never_added : (d : Data) (P : Pointer) (v : Data) → IsDocument d → IsDocument v → Never (IsAdded d P v) → after_add d P v ≡ None
+never_added d P v hd hv h = none_of (after_add d P v) (λ e is. h e (added_is d P v e hd hv is))
 
-never_removed : (d : Data) (P : Pointer) → IsDocument d → Never (IsRemoved d P) → removed d P ≡ None
-never_removed d P hd h = none_of (removed d P) (λ e is. h e (removed_is d P e hd is))
+never_removed : (d : Data) (P : Pointer) → IsDocument d → Never (IsRemoved d P) → after_remove d P ≡ None
+never_removed d P hd h = none_of (after_remove d P) (λ e is. h e (removed_is d P e hd is))
 
-never_replaced : (d : Data) (P : Pointer) (v : Data) → IsDocument d → IsDocument v → Never (IsReplaced d P v) → replaced d P v ≡ None
-never_replaced d P v hd hv h = none_of (replaced d P v) (λ e is. h e (replaced_is d P v e hd hv is))
+never_replaced : (d : Data) (P : Pointer) (v : Data) → IsDocument d → IsDocument v → Never (IsReplaced d P v) → after_replace d P v ≡ None
+never_replaced d P v hd hv h = none_of (after_replace d P v) (λ e is. h e (replaced_is d P v e hd hv is))
 
 pub removed_document : (d : Data) (P : Pointer) (m : Data) → IsRemoved d P m → IsDocument m
 removed_document d P m h = h.4
 
--- nothing stands there, so nothing is removed
-nothing_removed : (d : Data) (P : Pointer) → found d P ≡ None → Never (IsRemoved d P)
+-- nothing stands there, so nothing is after_remove
+nothing_removed : (d : Data) (P : Pointer) → pointee d P ≡ None → Never (IsRemoved d P)
 nothing_removed d P is e h = found_never d P is h.2 (h.0 ++ h.1 ∷ [], h.3)
 
 -- ---- from the relation
@@ -92,10 +92,10 @@ nothing_removed d P is e h = found_never d P is h.2 (h.0 ++ h.1 ∷ [], h.3)
 same_other : (w v : Data) → IsDocument v → (w ≡ v → ⊥) → same w v ≡ false
 same_other w v hv other = is_false (same w v) (λ h. other (same-is w v hv h))
 
-moved_none : (P : Pointer) (o : Option Data) → moved P o None ≡ Err InvalidFromPointer
+moved_none : (P : Pointer) (o : Option Data) → after_move P o None ≡ Err InvalidFromPointer
 moved_none P o = search rules
 
-pub leaves_stepped : (d : Data) (op : Operation) (e : Data) → IsDocument d → IsWholeOp op → Leaves d op e → stepped d op ≡ Ok e
+pub leaves_stepped : (d : Data) (op : Operation) (e : Data) → IsDocument d → IsWholeOp op → Leaves d op e → after_step d op ≡ Ok e
 leaves_stepped d (add P v) e hd hv h = ap (or_refused InvalidPointer) (added_exact d P v e hd hv h)
 leaves_stepped d (remove P) e hd hv h = ap (or_refused InvalidPointer) (removed_exact d P e hd h)
 leaves_stepped d (replace P v) e hd hv h = ap (or_refused InvalidPointer) (replaced_exact d P v e hd hv h)
@@ -107,12 +107,12 @@ leaves_stepped d (copy F P) e hd hv h =
     rw (stands_found d F h.0 h.1, added_exact d P h.0 e hd (stands_document d F h.0 hd h.1) h.2) refl
 leaves_stepped d (test P v) e hd hv h = rw (stands_found d P v h.0, same-refl v) (ap Ok (sym h.1))
 
-pub refuses_stepped : (d : Data) (op : Operation) (kind : PatchErrorKind) → IsDocument d → IsWholeOp op → Refuses d op kind → stepped d op ≡ Err kind
+pub refuses_stepped : (d : Data) (op : Operation) (kind : PatchErrorKind) → IsDocument d → IsWholeOp op → Refuses d op kind → after_step d op ≡ Err kind
 refuses_stepped d (add P v) InvalidPointer hd hv h = ap (or_refused InvalidPointer) (never_added d P v hd hv h)
 refuses_stepped d (remove P) InvalidPointer hd hv h = ap (or_refused InvalidPointer) (never_removed d P hd h)
 refuses_stepped d (replace P v) InvalidPointer hd hv h = ap (or_refused InvalidPointer) (never_replaced d P v hd hv h)
 refuses_stepped d (move F P) CannotMoveInsideItself hd hv h = rw (prefix_begins F P h) refl
-refuses_stepped d (move F P) InvalidFromPointer hd hv h = rw (not_begins F P h.0, never_removed d F hd h.1) (moved_none P (found d F))
+refuses_stepped d (move F P) InvalidFromPointer hd hv h = rw (not_begins F P h.0, never_removed d F hd h.1) (moved_none P (pointee d F))
 refuses_stepped d (move F P) InvalidPointer hd hv h =
     let v = h.1.0 in let m = h.1.1 in
     let hm : IsDocument m = removed_document d F m h.1.3 in
@@ -126,14 +126,14 @@ refuses_stepped d op kind hd hv h = absurd h
 
 -- ---- to the relation
 
-added_leaves : (d : Data) (P : Pointer) (v e : Data) → IsDocument d → IsDocument v → or_refused InvalidPointer (added d P v) ≡ Ok e → IsAdded d P v e
-added_leaves d P v e hd hv is = added_is d P v e hd hv (or_ok InvalidPointer (added d P v) e is)
+added_leaves : (d : Data) (P : Pointer) (v e : Data) → IsDocument d → IsDocument v → or_refused InvalidPointer (after_add d P v) ≡ Ok e → IsAdded d P v e
+added_leaves d P v e hd hv is = added_is d P v e hd hv (or_ok InvalidPointer (after_add d P v) e is)
 
-added_refused : (d : Data) (P : Pointer) (v : Data) (kind : PatchErrorKind) → or_refused InvalidPointer (added d P v) ≡ Err kind → (InvalidPointer ≡ kind) × Never (IsAdded d P v)
+added_refused : (d : Data) (P : Pointer) (v : Data) (kind : PatchErrorKind) → or_refused InvalidPointer (after_add d P v) ≡ Err kind → (InvalidPointer ≡ kind) × Never (IsAdded d P v)
 added_refused d P v kind is = search (rules, or_err, added_none)
 
 module _ (d : Data) (F P : Pointer) (hd : IsDocument d) where
-  move_leaves : (b : Bool) (o p : Option Data) (e : Data) → begins F P ≡ b → found d F ≡ o → removed d F ≡ p → (if b then Err CannotMoveInsideItself else moved P o p) ≡ Ok e
+  move_leaves : (b : Bool) (o p : Option Data) (e : Data) → begins F P ≡ b → pointee d F ≡ o → after_remove d F ≡ p → (if b then Err CannotMoveInsideItself else after_move P o p) ≡ Ok e
       → Leaves d (move F P) e
   move_leaves false (Some v) (Some m) e b f r is =
       let s : StandsAt d F v = found_resolves d F v f in
@@ -141,7 +141,7 @@ module _ (d : Data) (F P : Pointer) (hd : IsDocument d) where
       (not_prefix F P b, (v, m, s, g, added_leaves m P v e (removed_document d F m g) (stands_document d F v hd s) is))
   move_leaves b o p e h f r is = search rules
 
-  move_refused : (b : Bool) (o p : Option Data) (kind : PatchErrorKind) → begins F P ≡ b → found d F ≡ o → removed d F ≡ p → (if b then Err CannotMoveInsideItself else moved P o p) ≡ Err kind
+  move_refused : (b : Bool) (o p : Option Data) (kind : PatchErrorKind) → begins F P ≡ b → pointee d F ≡ o → after_remove d F ≡ p → (if b then Err CannotMoveInsideItself else after_move P o p) ≡ Err kind
       → Refuses d (move F P) kind
   move_refused true o p kind b f r is = let e : CannotMoveInsideItself ≡ kind = cc in subst (Refuses d (move F P)) e (begins_prefix F P b)
   move_refused false None p kind b f r is = search (rules, not_prefix F P b, nothing_removed d F f, not_prefix, nothing_removed)
@@ -149,42 +149,42 @@ module _ (d : Data) (F P : Pointer) (hd : IsDocument d) where
       let e : InvalidFromPointer ≡ kind = cc in subst (Refuses d (move F P)) e (not_prefix F P b, λ m. removed_none d F m r)
   move_refused false (Some v) (Some m) kind b f r is = search (rules, found_resolves, removed_is, added_refused, not_prefix)
 
-  copy_leaves : (o : Option Data) (e : Data) → found d F ≡ o → copied d P o ≡ Ok e → Leaves d (copy F P) e
+  copy_leaves : (o : Option Data) (e : Data) → pointee d F ≡ o → after_copy d P o ≡ Ok e → Leaves d (copy F P) e
   copy_leaves None e f is = cc
   copy_leaves (Some v) e f is =
       let s : StandsAt d F v = found_resolves d F v f in (v, s, added_leaves d P v e hd (stands_document d F v hd s) is)
 
-  copy_refused : (o : Option Data) (kind : PatchErrorKind) → found d F ≡ o → copied d P o ≡ Err kind → Refuses d (copy F P) kind
+  copy_refused : (o : Option Data) (kind : PatchErrorKind) → pointee d F ≡ o → after_copy d P o ≡ Err kind → Refuses d (copy F P) kind
   copy_refused None kind f is = let e : InvalidFromPointer ≡ kind = cc in subst (Refuses d (copy F P)) e (found_never d F f)
   copy_refused (Some v) kind f is = search (rules, found_resolves d F v f, added_refused d P v kind is, found_resolves, added_refused)
 
 module _ (d : Data) (P : Pointer) (v : Data) where
-  test_leaves : (b : Bool) (w e : Data) → IsDocument v → found d P ≡ Some w → same w v ≡ b → (if b then Ok d else Err TestFailed) ≡ Ok e → Leaves d (test P v) e
+  test_leaves : (b : Bool) (w e : Data) → IsDocument v → pointee d P ≡ Some w → same w v ≡ b → (if b then Ok d else Err TestFailed) ≡ Ok e → Leaves d (test P v) e
   test_leaves b w e hv f s is = search (rules, found_resolves, same-is)
 
-  test_leaves_at : (o : Option Data) (e : Data) → IsDocument v → found d P ≡ o → tested d v o ≡ Ok e → Leaves d (test P v) e
+  test_leaves_at : (o : Option Data) (e : Data) → IsDocument v → pointee d P ≡ o → after_test d v o ≡ Ok e → Leaves d (test P v) e
   test_leaves_at o e hv f is = search (rules, test_leaves)
 
-  test_refused : (b : Bool) (w : Data) (kind : PatchErrorKind) → IsDocument v → found d P ≡ Some w → same w v ≡ b → (if b then Ok d else Err TestFailed) ≡ Err kind → Refuses d (test P v) kind
+  test_refused : (b : Bool) (w : Data) (kind : PatchErrorKind) → IsDocument v → pointee d P ≡ Some w → same w v ≡ b → (if b then Ok d else Err TestFailed) ≡ Err kind → Refuses d (test P v) kind
   test_refused true w kind hv f s is = cc
   test_refused false w kind hv f s is = search (rules, found_resolves d P w f, same-refl v, found_resolves, same-refl)
 
-  test_refused_at : (o : Option Data) (kind : PatchErrorKind) → IsDocument v → found d P ≡ o → tested d v o ≡ Err kind → Refuses d (test P v) kind
+  test_refused_at : (o : Option Data) (kind : PatchErrorKind) → IsDocument v → pointee d P ≡ o → after_test d v o ≡ Err kind → Refuses d (test P v) kind
   test_refused_at None kind hv f is = let e : InvalidPointer ≡ kind = cc in subst (Refuses d (test P v)) e (found_never d P f)
   test_refused_at (Some w) kind hv f is = test_refused (same w v) w kind hv f refl is
 
-pub stepped_leaves : (d : Data) (op : Operation) (e : Data) → IsDocument d → IsWholeOp op → stepped d op ≡ Ok e → Leaves d op e
+pub stepped_leaves : (d : Data) (op : Operation) (e : Data) → IsDocument d → IsWholeOp op → after_step d op ≡ Ok e → Leaves d op e
 stepped_leaves d op e hd hv is = search (rules, added_leaves, removed_is, or_ok, replaced_is, move_leaves, copy_leaves, test_leaves_at)
 
-pub stepped_refuses : (d : Data) (op : Operation) (kind : PatchErrorKind) → IsDocument d → IsWholeOp op → stepped d op ≡ Err kind → Refuses d op kind
+pub stepped_refuses : (d : Data) (op : Operation) (kind : PatchErrorKind) → IsDocument d → IsWholeOp op → after_step d op ≡ Err kind → Refuses d op kind
 stepped_refuses d (add P v) kind hd hv is = let h = added_refused d P v kind is in subst (Refuses d (add P v)) h.0 h.1
 stepped_refuses d (remove P) kind hd hv is =
-    let h = or_err InvalidPointer kind (removed d P) is in subst (Refuses d (remove P)) h.1 (λ e. removed_none d P e h.0)
+    let h = or_err InvalidPointer kind (after_remove d P) is in subst (Refuses d (remove P)) h.1 (λ e. removed_none d P e h.0)
 stepped_refuses d (replace P v) kind hd hv is =
-    let h = or_err InvalidPointer kind (replaced d P v) is in subst (Refuses d (replace P v)) h.1 (λ e. replaced_none d P v e h.0)
-stepped_refuses d (move F P) kind hd hv is = move_refused d F P hd (begins F P) (found d F) (removed d F) kind refl refl refl is
-stepped_refuses d (copy F P) kind hd hv is = copy_refused d F P hd (found d F) kind refl is
-stepped_refuses d (test P v) kind hd hv is = test_refused_at d P v (found d P) kind hv refl is
+    let h = or_err InvalidPointer kind (after_replace d P v) is in subst (Refuses d (replace P v)) h.1 (λ e. replaced_none d P v e h.0)
+stepped_refuses d (move F P) kind hd hv is = move_refused d F P hd (begins F P) (pointee d F) (after_remove d F) kind refl refl refl is
+stepped_refuses d (copy F P) kind hd hv is = copy_refused d F P hd (pointee d F) kind refl is
+stepped_refuses d (test P v) kind hd hv is = test_refused_at d P v (pointee d P) kind hv refl is
 
 pub leaves_document : (d : Data) (op : Operation) (e : Data) → IsDocument d → IsWholeOp op → Leaves d op e → IsDocument e
 leaves_document d (move F P) e hd hv h = IsAdded_document h.1.1 P h.1.0 e (stands_document d F h.1.0 hd h.1.2) h.1.4

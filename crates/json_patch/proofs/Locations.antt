@@ -2,25 +2,25 @@
 use Rattle.std.proofs.lemmas.Grind.{common_steps}
 use Rattle.std.proofs.Common.{◌≡◌, ℕ, List, [], ◌∷◌, ◌++◌, Option, Some, option_map, refl, ap, rules, arith}
 use Rattle.serde_json.specs.Data.{Data}
-use Rattle.json_patch.specs.Document.{IsDocument, Step, child}
+use Rattle.json_patch.specs.Document.{IsDocument, Segment, child}
 use Rattle.json_patch.specs.Resolve.{Names, Resolves}
-use Rattle.json_patch.specs.ChangeComputed.{step_of, front_of, last_of}
+use Rattle.json_patch.specs.ChangeComputed.{segment_of, front_of, last_of}
 use Rattle.json_patch.proofs.Children.{child_document}
 
 pub option_map_some : {A B P : Type 0} (f : A → B) (o : Option A) (y : B) → option_map f o ≡ Some y → ((x : A) → o ≡ Some x → f x ≡ y → P) → P
 option_map_some f o y is k = search rules
 
-pub names_step : (d : Data) (t : List ℕ) (s : Step) → Names d t s → step_of d t ≡ Some s
+pub names_step : (d : Data) (t : List ℕ) (s : Segment) → Names d t s → segment_of d t ≡ Some s
 names_step d t s h = search rules
 
-pub names_same : (d : Data) (t : List ℕ) (s r : Step) → Names d t s → Names d t r → s ≡ r
-names_same d t s r h k = let a : step_of d t ≡ Some s = names_step d t s h in let b : step_of d t ≡ Some r = names_step d t r k in cc
+pub names_same : (d : Data) (t : List ℕ) (s r : Segment) → Names d t s → Names d t r → s ≡ r
+names_same d t s r h k = let a : segment_of d t ≡ Some s = names_step d t s h in let b : segment_of d t ≡ Some r = names_step d t r k in cc
 
-pub resolves_same : (d : Data) (P : List (List ℕ)) (L M : List Step) (p q : Data) → Resolves d P L p → Resolves d P M q → (L ≡ M) × (p ≡ q)
+pub resolves_same : (d : Data) (P : List (List ℕ)) (L M : List Segment) (p q : Data) → Resolves d P L p → Resolves d P M q → (L ≡ M) × (p ≡ q)
 resolves_same d (t ∷ P) (s ∷ L) (r ∷ M) p q h k = search (rules, names_same d t s r h.1 k.1, resolves_same h.0 P L M p q h.3, names_same)
 resolves_same d P L M p q h k = search rules
 
-pub resolves_document : (d : Data) (P : List (List ℕ)) (L : List Step) (p : Data) → IsDocument d → Resolves d P L p → IsDocument p
+pub resolves_document : (d : Data) (P : List (List ℕ)) (L : List Segment) (p : Data) → IsDocument d → Resolves d P L p → IsDocument p
 resolves_document d (t ∷ P) (s ∷ L) p hd h = resolves_document h.0 P L p (child_document s d h.0 hd h.2) h.3
 resolves_document d P L p hd h = search rules
 
@@ -37,25 +37,25 @@ split_is t P A b h = search rules
 
 -- ---- the last step
 
-pub no_end : (L : List Step) (s : Step) (c e : Data) → Resolves c [] (L ++ s ∷ []) e → ⊥
+pub no_end : (L : List Segment) (s : Segment) (c e : Data) → Resolves c [] (L ++ s ∷ []) e → ⊥
 no_end L s c e h = grind (arith, common_steps)
 
 -- s is the step that the last token names, from p, which stands where the others lead
-pub record Ends (d : Data) (t : List ℕ) (P : List (List ℕ)) (L : List Step) (s : Step) (c : Data) : Type 0 where
+pub record Ends (d : Data) (t : List ℕ) (P : List (List ℕ)) (L : List Segment) (s : Segment) (c : Data) : Type 0 where
   pub p : Data
   pub front : Resolves d (front_of t P) L p
   pub names : Names p (last_of t P) s
   pub stands : child s p ≡ Some c
 
-pub ends : (d : Data) (t : List ℕ) (P : List (List ℕ)) (L : List Step) (s : Step) (c : Data) → Resolves d (t ∷ P) (L ++ s ∷ []) c → Ends d t P L s c
+pub ends : (d : Data) (t : List ℕ) (P : List (List ℕ)) (L : List Segment) (s : Segment) (c : Data) → Resolves d (t ∷ P) (L ++ s ∷ []) c → Ends d t P L s c
 ends d t [] (r ∷ L) s c h = absurd (no_end L s h.0 c h.3)
 ends d t (u ∷ P) (r ∷ L) s c h = grind (arith, common_steps, ends h.0 u P L s c h.3)
 ends d t P L s c h = search rules
 
-pub ended : (d : Data) (t : List ℕ) (P : List (List ℕ)) (L : List Step) (s : Step) (c p : Data) → Resolves d (front_of t P) L p → Names p (last_of t P) s → child s p ≡ Some c
+pub ended : (d : Data) (t : List ℕ) (P : List (List ℕ)) (L : List Segment) (s : Segment) (c p : Data) → Resolves d (front_of t P) L p → Names p (last_of t P) s → child s p ≡ Some c
     → Resolves d (t ∷ P) (L ++ s ∷ []) c
 ended d t (u ∷ P) (r ∷ L) s c p h names stands = (h.0, h.1, h.2, ended h.0 u P L s c p h.3 names stands)
 ended d t P L s c p h names stands = search rules
 
-pub last_same : (L M : List Step) (s r : Step) → L ++ s ∷ [] ≡ M ++ r ∷ [] → (L ≡ M) × (s ≡ r)
+pub last_same : (L M : List Segment) (s r : Segment) → L ++ s ∷ [] ≡ M ++ r ∷ [] → (L ≡ M) × (s ≡ r)
 last_same L M s r h = grind (arith, common_steps)

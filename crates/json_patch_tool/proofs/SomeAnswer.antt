@@ -19,7 +19,7 @@ use Rattle.json_patch_tool.specs.declared.mode.Mode.TheVariants.{Patch, Record, 
 use Rattle.json_patch_tool.specs.declared.fault.ToolFault.{ToolFault}
 use Rattle.json_patch_tool.specs.declared.fault.ToolFault.TheVariants.{TooLarge, Syntax, NotAPair, NotWhole, Unreadable, Refused}
 use Rattle.json_patch_tool.proofs.Below.{Below}
-use Rattle.json_patch_tool.proofs.EditOnce.{edited_given}
+use Rattle.json_patch_tool.proofs.OneEdit.{edited_given}
 
 -- the operation that is refused has a path
 path_at : (d : Data) (ops : List Operation) (k : ℕ) (kind : PatchErrorKind) → RefusesAt d ops k kind

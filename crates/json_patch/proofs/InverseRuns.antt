@@ -7,36 +7,36 @@ use Rattle.json_patch.specs.Operation.{Operation, add, remove, replace, move, co
 use Rattle.json_patch.specs.declared.error.PatchErrorKind.TheVariants.{InvalidPointer}
 use Rattle.json_patch.specs.Step.{Leaves}
 use Rattle.json_patch.specs.Run.{Accepts}
-use Rattle.json_patch.specs.ChangeComputed.{found, removed}
-use Rattle.json_patch.specs.RunComputed.{or_refused, stepped, ran}
+use Rattle.json_patch.specs.ChangeComputed.{pointee, after_remove}
+use Rattle.json_patch.specs.RunComputed.{or_refused, after_step, after_run}
 use Rattle.json_patch.specs.InverseComputed.{undo_in, undo_add, with_left, block, inverse}
-use Rattle.json_patch.proofs.Found.{resolves_found}
-use Rattle.json_patch.proofs.Exact.{added_exact, removed_exact, replaced_exact}
-use Rattle.json_patch.proofs.Stepped.{stands_found, stands_document, removed_document, leaves_stepped, leaves_document}
+use Rattle.json_patch.proofs.Pointees.{resolves_found}
+use Rattle.json_patch.proofs.OneResult.{added_exact, removed_exact, replaced_exact}
+use Rattle.json_patch.proofs.StepOutcomes.{stands_found, stands_document, removed_document, leaves_stepped, leaves_document}
 use Rattle.json_patch.proofs.Runs.{ran_accepts, accepts_document, accepts_joined}
-use Rattle.json_patch.proofs.Undone.{found_document, undo_added, undo_removed, undo_replaced}
+use Rattle.json_patch.proofs.BlocksLeadBack.{found_document, undo_added, undo_removed, undo_replaced}
 
-ran_one : (u : Operation) (e d : Data) → stepped e u ≡ Ok d → ran e (u ∷ []) ≡ Ok d
+ran_one : (u : Operation) (e d : Data) → after_step e u ≡ Ok d → after_run e (u ∷ []) ≡ Ok d
 ran_one u e d is = rw is refl
 
-ran_two : (u w : Operation) (e m d : Data) → stepped e u ≡ Ok m → stepped m w ≡ Ok d → ran e (u ∷ w ∷ []) ≡ Ok d
+ran_two : (u w : Operation) (e m d : Data) → after_step e u ≡ Ok m → after_step m w ≡ Ok d → after_run e (u ∷ w ∷ []) ≡ Ok d
 ran_two u w e m d is next = rw (is, next) refl
 
 -- on the document that the operation left, its block leads to the one before
-block_ran : (d : Data) (op : Operation) (e : Data) → IsDocument d → IsWholeOp op → Leaves d op e → ran e (block d op) ≡ Ok d
+block_ran : (d : Data) (op : Operation) (e : Data) → IsDocument d → IsWholeOp op → Leaves d op e → after_run e (block d op) ≡ Ok d
 block_ran d (add P v) e hd hv h = ran_one (undo_add d P) e d (undo_added d P v e hd hv (added_exact d P v e hd hv h))
 block_ran d (remove P) e hd hv h =
-    let was : found d P ≡ Some h.2 = resolves_found d P _ h.2 h.3 in
+    let was : pointee d P ≡ Some h.2 = resolves_found d P _ h.2 h.3 in
     rw was (ran_one (add P h.2) e d (ap (or_refused InvalidPointer) (undo_removed d P h.2 e hd (removed_exact d P e hd h) was).1))
 block_ran d (replace P v) e hd hv h =
-    let was : found d P ≡ Some h.1 = resolves_found d P h.0 h.1 h.2 in
+    let was : pointee d P ≡ Some h.1 = resolves_found d P h.0 h.1 h.2 in
     rw was (ran_one (replace P h.1) e d (ap (or_refused InvalidPointer) (undo_replaced d P v h.1 e hd hv (replaced_exact d P v e hd hv h) was)))
 block_ran d (move F P) e hd hv h =
     let v = h.1.0 in let m = h.1.1 in
     let hw : IsDocument v = stands_document d F v hd h.1.2 in
     let hm : IsDocument m = removed_document d F m h.1.3 in
-    let was : found d F ≡ Some v = stands_found d F v h.1.2 in
-    let left : removed d F ≡ Some m = removed_exact d F m hd h.1.3 in
+    let was : pointee d F ≡ Some v = stands_found d F v h.1.2 in
+    let left : after_remove d F ≡ Some m = removed_exact d F m hd h.1.3 in
     rw (was, left)
     (ran_two (undo_add m P) (add F v) e m d (undo_added m P v e hm hw (added_exact m P v e hm hw h.1.4)) (ap (or_refused InvalidPointer) (undo_removed d F v m hd left was).1))
 block_ran d (copy F P) e hd hv h =

@@ -1,22 +1,22 @@
--- What `altered` leaves, at every location.
+-- What `after_change` leaves, at every location.
 use Rattle.std.proofs.Common.{◌≡◌, ℕ, List, [], ◌∷◌, ◌++◌, ⊎_elim, Option, Some, option_and_then, refl, sym, ap, ◌∙◌, subst, rules}
 use Rattle.std.proofs.lemmas.Option.{option_and_then_some}
 use Rattle.serde_json.specs.Data.{Data}
-use Rattle.json_patch.specs.Document.{IsDocument, Step, child, look, sight, standing}
+use Rattle.json_patch.specs.Document.{IsDocument, Segment, child, look, sight, value_at}
 use Rattle.json_patch.specs.Resolve.{Resolves}
-use Rattle.json_patch.specs.ChangeComputed.{step_of, set_child, altered}
+use Rattle.json_patch.specs.ChangeComputed.{segment_of, set_child, after_change}
 use Rattle.json_patch.proofs.Children.{child_document, child_set, child_set_other, sight_set, set_document, step_cases}
 use Rattle.json_patch.proofs.Places.{IsApart}
-use Rattle.json_patch.proofs.Resolved.{option_map_some, names_step}
+use Rattle.json_patch.proofs.Locations.{option_map_some, names_step}
 
 -- e is d with q in place of p, which stands at L
-pub record Grafts (d e : Data) (L : List Step) (p q : Data) : Type 0 where
-  pub before : (R : List Step) → look d (L ++ R) ≡ look p R
-  pub after : (R : List Step) → look e (L ++ R) ≡ look q R
-  pub apart : (X : List Step) → IsApart L X → look e X ≡ look d X
+pub record Grafts (d e : Data) (L : List Segment) (p q : Data) : Type 0 where
+  pub before : (R : List Segment) → look d (L ++ R) ≡ look p R
+  pub after : (R : List Segment) → look e (L ++ R) ≡ look q R
+  pub apart : (X : List Segment) → IsApart L X → look e X ≡ look d X
 
 pub record IsAltered (f : Data → Option Data) (d : Data) (P : List (List ℕ)) (e : Data) : Type 0 where
-  pub L : List Step
+  pub L : List Segment
   pub p : Data
   pub q : Data
   pub resolves : Resolves d P L p
@@ -24,18 +24,18 @@ pub record IsAltered (f : Data → Option Data) (d : Data) (P : List (List ℕ))
   pub grafts : Grafts d e L p q
   pub keeps : IsDocument d → (IsDocument p → IsDocument q) → IsDocument e
 
-look_child : (s : Step) (d c : Data) (R : List Step) → child s d ≡ Some c → look d (s ∷ R) ≡ look c R
-look_child s d c R is = ap (λ o. sight (option_and_then (λ x. standing x R) o)) is
+look_child : (s : Segment) (d c : Data) (R : List Segment) → child s d ≡ Some c → look d (s ∷ R) ≡ look c R
+look_child s d c R is = ap (λ o. sight (option_and_then (λ x. value_at x R) o)) is
 
-module _ (s : Step) (d c e : Data) (L : List Step) (p q : Data) (is : child s d ≡ Some c) (g : Grafts c e L p q) where
-  apart_step : (X : List Step) → IsApart (s ∷ L) X → look (set_child s e d) X ≡ look d X
+module _ (s : Segment) (d c e : Data) (L : List Segment) (p q : Data) (is : child s d ≡ Some c) (g : Grafts c e L p q) where
+  apart_step : (X : List Segment) → IsApart (s ∷ L) X → look (set_child s e d) X ≡ look d X
   apart_step [] out = sight_set s d e
   apart_step (r ∷ Y) out =
       ⊎_elim
       (λ (same : r ≡ s). subst (λ x. IsApart (s ∷ L) (x ∷ Y) → look (set_child s e d) (x ∷ Y) ≡ look d (x ∷ Y)) (sym same) (search (rules, look_child, child_set)) out)
-      (λ (other : r ≡ s → ⊥). ap (λ o. sight (option_and_then (λ x. standing x Y) o)) (child_set_other r s d e other)) (step_cases r s)
+      (λ (other : r ≡ s → ⊥). ap (λ o. sight (option_and_then (λ x. value_at x Y) o)) (child_set_other r s d e other)) (step_cases r s)
 
-altered_step : (f : Data → Option Data) (d : Data) (t : List ℕ) (P : List (List ℕ)) (s : Step) (c b : Data) → step_of d t ≡ Some s → child s d ≡ Some c
+altered_step : (f : Data → Option Data) (d : Data) (t : List ℕ) (P : List (List ℕ)) (s : Segment) (c b : Data) → segment_of d t ≡ Some s → child s d ≡ Some c
     → IsAltered f c P b → IsAltered f d (t ∷ P) (set_child s b d)
 altered_step f d t P s c b named is a = record {
   L = s ∷ a.L;
@@ -47,7 +47,7 @@ altered_step f d t P s c b named is a = record {
   keeps = λ hd keep. set_document s d b hd (a.keeps (child_document s d c hd is) keep);
 }
 
-pub altered_is : (f : Data → Option Data) (d : Data) (P : List (List ℕ)) (e : Data) → altered f d P ≡ Some e → IsAltered f d P e
+pub altered_is : (f : Data → Option Data) (d : Data) (P : List (List ℕ)) (e : Data) → after_change f d P ≡ Some e → IsAltered f d P e
 altered_is f d [] e is = record {
   L = [];
   p = d;
@@ -58,14 +58,14 @@ altered_is f d [] e is = record {
   keeps = λ hd keep. keep hd;
 }
 altered_is f d (t ∷ P) e is =
-    option_and_then_some _ (step_of d t) e is (λ s named more.
+    option_and_then_some _ (segment_of d t) e is (λ s named more.
     option_and_then_some _ (child s d) e more (λ c stands rest.
-    option_map_some _ (altered f c P) e rest (λ b inner whole.
+    option_map_some _ (after_change f c P) e rest (λ b inner whole.
     subst (IsAltered f d (t ∷ P)) whole (altered_step f d t P s c b named stands (altered_is f c P b inner)))))
 
-pub altered_some : (f : Data → Option Data) (d : Data) (P : List (List ℕ)) (L : List Step) (p q : Data) → Resolves d P L p → f p ≡ Some q → (e : Data) × (altered f d P ≡ Some e)
+pub altered_some : (f : Data → Option Data) (d : Data) (P : List (List ℕ)) (L : List Segment) (p q : Data) → Resolves d P L p → f p ≡ Some q → (e : Data) × (after_change f d P ≡ Some e)
 altered_some f d [] [] p q h is = (q, ap f h ∙ is)
 altered_some f d (t ∷ P) (s ∷ L) p q h is =
-    let i : (e : Data) × (altered f h.0 P ≡ Some e) = altered_some f h.0 P L p q h.3 is in
+    let i : (e : Data) × (after_change f h.0 P ≡ Some e) = altered_some f h.0 P L p q h.3 is in
     (set_child s i.0 d, rw (names_step d t s h.1, h.2, i.1))
 altered_some f d P L p q h is = search rules

@@ -5,35 +5,35 @@ use Rattle.serde_json.specs.Find.{get_member, get_item}
 use Rattle.serde_json.specs.Events.{items_len}
 use Rattle.serde_json.proofs.Views.{get_member-put, get_member-put_other}
 use Rattle.jsonptr.specs.Places.{place_of}
-use Rattle.json_patch.specs.Document.{IsDocument, AreMembers, Step, key, place, child, look, sight, sight_of, standing}
+use Rattle.json_patch.specs.Document.{IsDocument, AreMembers, Segment, key, place, child, look, sight, sight_of, value_at}
 use Rattle.json_patch.specs.Resolve.{Names}
-use Rattle.json_patch.specs.ChangeComputed.{step_of, set_child, drop_child, insert_item, remove_item, without, found, put_in, take_from}
+use Rattle.json_patch.specs.ChangeComputed.{segment_of, set_child, drop_child, insert_item, remove_item, without, pointee, put_in, take_from}
 use Rattle.json_patch.proofs.Alike.{alike}
 use Rattle.json_patch.proofs.Members.{put_members, without_members, get_without, get_without_other}
 use Rattle.json_patch.proofs.Items.{get_insert}
 use Rattle.json_patch.proofs.Children.{child_document, child_set, child_set_other, sight_set, set_document, step_cases}
 use Rattle.json_patch.proofs.Slots.{slot_some}
 
-same_at : (e f : Data) → sight_of e ≡ sight_of f → ((r : Step) → child r e ≡ child r f) → (L : List Step) → look e L ≡ look f L
+same_at : (e f : Data) → sight_of e ≡ sight_of f → ((r : Segment) → child r e ≡ child r f) → (L : List Segment) → look e L ≡ look f L
 same_at e f kind children [] = kind
-same_at e f kind children (s ∷ L) = ap (λ o. sight (option_and_then (λ x. standing x L) o)) (children s)
+same_at e f kind children (s ∷ L) = ap (λ o. sight (option_and_then (λ x. value_at x L) o)) (children s)
 
-pub one_level : (e f : Data) → IsDocument e → IsDocument f → sight_of e ≡ sight_of f → ((r : Step) → child r e ≡ child r f) → e ≡ f
+pub one_level : (e f : Data) → IsDocument e → IsDocument f → sight_of e ≡ sight_of f → ((r : Segment) → child r e ≡ child r f) → e ≡ f
 one_level e f he hf kind children = alike e f he hf (same_at e f kind children)
 
-pub set_back : (s : Step) (d c b : Data) → IsDocument d → IsDocument b → child s d ≡ Some c → set_child s c (set_child s b d) ≡ d
+pub set_back : (s : Segment) (d c b : Data) → IsDocument d → IsDocument b → child s d ≡ Some c → set_child s c (set_child s b d) ≡ d
 set_back s d c b hd hb is =
     let h : IsDocument (set_child s b d) = set_document s d b hd hb in
     one_level (set_child s c (set_child s b d)) d (set_document s (set_child s b d) c h (child_document s d c hd is)) hd (sight_set s (set_child s b d) c ∙ sight_set s d b)
     (λ r. ⊎_elim (λ (same : r ≡ s). rw same (child_set s (set_child s b d) b c (child_set s d c b is) ∙ sym is))
     (λ (other : r ≡ s → ⊥). child_set_other r s (set_child s b d) c other ∙ child_set_other r s d b other) (step_cases r s))
 
-pub step_of_set : (s : Step) (d b : Data) (t : List ℕ) → step_of (set_child s b d) t ≡ step_of d t
+pub step_of_set : (s : Segment) (d b : Data) (t : List ℕ) → segment_of (set_child s b d) t ≡ segment_of d t
 step_of_set s d b t = search rules
 
 -- ---- a member
 
-member_cases : (P : Step → Type 0) (k : List ℕ) → ((q : List ℕ) → (q ≡ k → ⊥) → P (key q)) → P (key k) → ((i : ℕ) → P (place i)) → (r : Step) → P r
+member_cases : (P : Segment → Type 0) (k : List ℕ) → ((q : List ℕ) → (q ≡ k → ⊥) → P (key q)) → P (key k) → ((i : ℕ) → P (place i)) → (r : Segment) → P r
 member_cases P k other here row (key q) = search (rules, step_cases (key q) (key k), step_cases)
 member_cases P k other here row (place i) = row i
 
@@ -72,10 +72,10 @@ pub take_member : (k : List ℕ) (v : Data) (ms : Members) → AreMembers ms →
 take_member k v ms h hv is = rw (get_member-put k v ms) (ap Some (without_put k v ms h hv is))
 
 -- what stands at t
-pub stands_one : (p : Data) (t : List ℕ) (s : Step) (w : Data) → Names p t s → found p (t ∷ []) ≡ Some w → child s p ≡ Some w
+pub stands_one : (p : Data) (t : List ℕ) (s : Segment) (w : Data) → Names p t s → pointee p (t ∷ []) ≡ Some w → child s p ≡ Some w
 stands_one p t s w names is = search rules
 
-pub put_taken : (t : List ℕ) (p w : Data) (s : Step) → IsDocument p → Names p t s → child s p ≡ Some w → put_in w t (drop_child s p) ≡ Some p
+pub put_taken : (t : List ℕ) (p w : Data) (s : Segment) → IsDocument p → Names p t s → child s p ≡ Some w → put_in w t (drop_child s p) ≡ Some p
 put_taken t (array ds) w (place i) h names is =
     ap (option_map (λ j. array (insert_item j w (remove_item i ds)))) (slot_some t (remove_item i ds) i (inl (names, within_removed i w ds is)))
     ∙ ap (λ x. Some (array x)) (insert_remove i w ds is)

@@ -4,5 +4,5 @@ use Rattle.serde_json.specs.View.{view}
 use Rattle.json_patch.specs.Operation as operation
 use Rattle.json_patch.specs.declared.parts.Parts.{Parts}
 
-abbrev pub held : Parts → operation.Parts
-held p = record { name = p.name.now; from = option_map (λ F. F.now) p.from; path = p.path.now; value = option_map (λ v. view v.now) p.value }
+abbrev pub parts_view : Parts → operation.Parts
+parts_view p = record { name = p.name.now; from = option_map (λ F. F.now) p.from; path = p.path.now; value = option_map (λ v. view v.now) p.value }

@@ -20,7 +20,7 @@ use Rattle.json_patch_tool.specs.declared.mode.Mode.TheVariants.{Patch, Record, 
 use Rattle.json_patch_tool.specs.declared.fault.ToolFault.{ToolFault}
 use Rattle.json_patch_tool.specs.declared.fault.ToolFault.TheVariants.{TooLarge, Syntax, NotAPair, NotWhole, Unreadable, Refused}
 use Rattle.json_patch_tool.proofs.Below.{Below}
-use Rattle.json_patch_tool.proofs.EditOnce.{edited_once, unedited_once, edited_or_not}
+use Rattle.json_patch_tool.proofs.OneEdit.{edited_once, unedited_once, edited_or_not}
 
 inside : {A : Type 0} {b : A} (a : A) → Some a ≡ Some b → a ≡ b
 inside a same = ap (λ o. unwrap_or o a) same

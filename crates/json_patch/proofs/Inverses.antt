@@ -1,7 +1,7 @@
 -- The inverse in the words of the definitions.
 use Rattle.std.proofs.Common.{◌≡◌, ◌≤◌, ◌*◌, ◌↔◌, ℕ, List, ◌++◌, length, Ok, Err, sym, subst, rules}
 use Rattle.serde_json.specs.Data.{Data}
-use Rattle.json_patch.specs.Document.{IsDocument, Step, look}
+use Rattle.json_patch.specs.Document.{IsDocument, Segment, look}
 use Rattle.json_patch.specs.Resolve.{Resolves}
 use Rattle.json_patch.specs.Change.{IsReplaced}
 use Rattle.jsonptr.specs.Text.{Pointer}
@@ -10,28 +10,28 @@ use Rattle.json_patch.specs.declared.error.PatchErrorKind.{PatchErrorKind}
 use Rattle.json_patch.specs.Step.{Leaves, Refuses}
 use Rattle.json_patch.specs.Run.{Accepts, RefusesAt}
 use Rattle.json_patch.specs.Inverse.{IsBlock, IsInverse}
-use Rattle.json_patch.specs.RunComputed.{fault, stepped, ran}
+use Rattle.json_patch.specs.RunComputed.{fault, after_step, after_run}
 use Rattle.json_patch.specs.InverseComputed.{block, inverse}
-use Rattle.json_patch.proofs.Resolved.{resolves_same}
-use Rattle.json_patch.proofs.Stepped.{leaves_stepped, stepped_leaves, refuses_stepped, stepped_refuses}
+use Rattle.json_patch.proofs.Locations.{resolves_same}
+use Rattle.json_patch.proofs.StepOutcomes.{leaves_stepped, stepped_leaves, refuses_stepped, stepped_refuses}
 use Rattle.json_patch.proofs.Runs.{accepts_ran, ran_accepts, refuses_ran, ran_refuses, accepts_split, accepts_joined, accepts_document}
-use Rattle.json_patch.proofs.Inverted.{block_back, block_whole, inverse_back, inverse_whole, inverse_length, inverse_joined, inverse_twice, whole_joined}
+use Rattle.json_patch.proofs.InverseRuns.{block_back, block_whole, inverse_back, inverse_whole, inverse_length, inverse_joined, inverse_twice, whole_joined}
 use Rattle.json_patch.proofs.Blocks.{block_is, block_only, inverse_is, inverse_only}
 
 -- ---- what is computed, both ways
 
 module _ (d : Data) (op : Operation) (hd : IsDocument d) (hv : IsWholeOp op) where
-  pub step_left : (e : Data) → Leaves d op e ↔ (stepped d op ≡ Ok e)
+  pub step_left : (e : Data) → Leaves d op e ↔ (after_step d op ≡ Ok e)
   step_left e = (λ h. leaves_stepped d op e hd hv h, λ h. stepped_leaves d op e hd hv h)
 
-  pub step_refused : (kind : PatchErrorKind) → Refuses d op kind ↔ (stepped d op ≡ Err kind)
+  pub step_refused : (kind : PatchErrorKind) → Refuses d op kind ↔ (after_step d op ≡ Err kind)
   step_refused kind = (λ h. refuses_stepped d op kind hd hv h, λ h. stepped_refuses d op kind hd hv h)
 
 module _ (d : Data) (ops : List Operation) (hd : IsDocument d) (hv : AreWhole ops) where
-  pub run_accepted : (e : Data) → Accepts d ops e ↔ (ran d ops ≡ Ok e)
+  pub run_accepted : (e : Data) → Accepts d ops e ↔ (after_run d ops ≡ Ok e)
   run_accepted e = (λ h. accepts_ran d ops e hd hv h, λ h. ran_accepts d ops e hd hv h)
 
-  pub run_refused : (k : ℕ) (kind : PatchErrorKind) → RefusesAt d ops k kind ↔ (ran d ops ≡ Err (fault k kind))
+  pub run_refused : (k : ℕ) (kind : PatchErrorKind) → RefusesAt d ops k kind ↔ (after_run d ops ≡ Err (fault k kind))
   run_refused k kind = (λ h. refuses_ran d ops k kind hd hv h, λ h. ran_refuses d ops k kind hd hv h)
 
 pub joined : (d : Data) (xs ys : List Operation) (e : Data) → Accepts d (xs ++ ys) e ↔ ((m : Data) × Accepts d xs m × Accepts m ys e)
@@ -64,5 +64,5 @@ passes_back d xs ys m e I hd hx hy h g i = search (rules, accepts_document, inve
 
 -- ---- replace
 
-pub replace_elsewhere : (d : Data) (P : Pointer) (v e : Data) (L : List Step) (c : Data) (X : List Step) → IsReplaced d P v e → Resolves d P L c → ((R : List Step) → X ≡ L ++ R → ⊥) → look e X ≡ look d X
+pub replace_elsewhere : (d : Data) (P : Pointer) (v e : Data) (L : List Segment) (c : Data) (X : List Segment) → IsReplaced d P v e → Resolves d P L c → ((R : List Segment) → X ≡ L ++ R → ⊥) → look e X ≡ look d X
 replace_elsewhere d P v e L c X h r out = search (rules, resolves_same)

@@ -5,7 +5,7 @@ use Rattle.std.proofs.lemmas.List.{map-append, reverse-append, reverse-reverse}
 use mathlib.Core.List.{reverse}
 use Rattle.std.specs.List.{slice_get}
 use Rattle.serde_json.specs.Data.{Data}
-use Rattle.json_patch.specs.Attempt.{Steps}
+use Rattle.json_patch.specs.Attempt.{ComesTo}
 use Rattle.json_patch.specs.Document.{IsDocument}
 use Rattle.json_patch.specs.Faulting.{Reports}
 use Rattle.json_patch.specs.InPlace.{AreInPlace, IsInPlace, NeverShort}
@@ -14,7 +14,7 @@ use Rattle.json_patch.specs.InverseComputed.{block, inverse}
 use Rattle.json_patch.specs.Operation.{Operation, AreWhole, IsWholeOp, operation_of, operations, path_of}
 use Rattle.json_patch.specs.Refusal.{NamesFirst, IfRefused}
 use Rattle.json_patch.specs.Run.{Accepts, RefusesAt, IsAccepted}
-use Rattle.json_patch.specs.RunComputed.{ran, stepped}
+use Rattle.json_patch.specs.RunComputed.{after_run, after_step}
 use Rattle.json_patch.specs.Step.{Leaves, Refuses}
 use Rattle.json_patch.specs.declared.error.PatchErrorKind.{PatchErrorKind}
 use Rattle.json_patch.specs.declared.error.PatchFault.{PatchFault}
@@ -22,10 +22,10 @@ use Rattle.json_patch.specs.declared.operation.PatchOperation.{PatchOperation}
 use Rattle.json_patch.specs.declared.error.StepFault.{StepFault}
 use Rattle.json_patch.specs.declared.error.StepFault.TheVariants.{Refused as step_refused, Memory as step_short}
 use Rattle.json_patch.proofs.Blocks.{inverse_is}
-use Rattle.json_patch.proofs.Inverted.{inverse_back, inverse_joined, inverse_length, inverse_whole}
+use Rattle.json_patch.proofs.InverseRuns.{inverse_back, inverse_joined, inverse_length, inverse_whole}
 use Rattle.json_patch.proofs.Plain.{inverse_plain}
 use Rattle.json_patch.proofs.Runs.{accepted, accepts_document, accepts_ran}
-use Rattle.json_patch.proofs.Stepped.{leaves_document, stepped_leaves, stepped_refuses}
+use Rattle.json_patch.proofs.StepOutcomes.{leaves_document, stepped_leaves, stepped_refuses}
 
 -- the state of the run before the operation at k
 abbrev pub IsState : Data → List PatchOperation → ℕ → Data → Type 0
@@ -37,21 +37,21 @@ IsAt os k o = o ≡ get_or os k o
 
 -- ---- one more step
 
-leaves_at : (d m e : Data) (x o : PatchOperation) → IsDocument d → AreWhole (operation_of x ∷ []) → d ≡ m → o ≡ x → stepped m (operation_of o) ≡ Ok e → Leaves d (operation_of x) e
-leaves_at d m e x o hd hv same is h = stepped_leaves d (operation_of x) e hd hv.0 (ap (λ c. stepped c (operation_of x)) same ∙ ap (λ y. stepped m (operation_of y)) (sym is) ∙ h)
+leaves_at : (d m e : Data) (x o : PatchOperation) → IsDocument d → AreWhole (operation_of x ∷ []) → d ≡ m → o ≡ x → after_step m (operation_of o) ≡ Ok e → Leaves d (operation_of x) e
+leaves_at d m e x o hd hv same is h = stepped_leaves d (operation_of x) e hd hv.0 (ap (λ c. after_step c (operation_of x)) same ∙ ap (λ y. after_step m (operation_of y)) (sym is) ∙ h)
 
-refuses_at : (d m : Data) (kind : PatchErrorKind) (x o : PatchOperation) → IsDocument d → AreWhole (operation_of x ∷ []) → d ≡ m → o ≡ x → stepped m (operation_of o) ≡ Err kind → Refuses d (operation_of x) kind
-refuses_at d m kind x o hd hv same is h = stepped_refuses d (operation_of x) kind hd hv.0 (ap (λ c. stepped c (operation_of x)) same ∙ ap (λ y. stepped m (operation_of y)) (sym is) ∙ h)
+refuses_at : (d m : Data) (kind : PatchErrorKind) (x o : PatchOperation) → IsDocument d → AreWhole (operation_of x ∷ []) → d ≡ m → o ≡ x → after_step m (operation_of o) ≡ Err kind → Refuses d (operation_of x) kind
+refuses_at d m kind x o hd hv same is h = stepped_refuses d (operation_of x) kind hd hv.0 (ap (λ c. after_step c (operation_of x)) same ∙ ap (λ y. after_step m (operation_of y)) (sym is) ∙ h)
 
-state_suc : (d m e : Data) (os : List PatchOperation) (k : ℕ) (o : PatchOperation) → IsDocument d → AreWhole (operations os) → k < length os → IsAt os k o → IsState d os k m → stepped m (operation_of o) ≡ Ok e → IsState d os (suc k) e
+state_suc : (d m e : Data) (os : List PatchOperation) (k : ℕ) (o : PatchOperation) → IsDocument d → AreWhole (operations os) → k < length os → IsAt os k o → IsState d os k m → after_step m (operation_of o) ≡ Ok e → IsState d os (suc k) e
 state_suc d m e (x ∷ os) (suc k) o hd hv less is h s =
     (h.0, h.1, state_suc h.0 m e os k o (leaves_document d (operation_of x) h.0 hd hv.0 h.1) hv.1 (omega arith) is h.2 s)
 state_suc d m e os k o hd hv less is h s = search (rules, leaves_at)
 
-pub state_more : (d m e : Data) (os : List PatchOperation) (k : ℕ) (o : PatchOperation) → IsDocument d → AreWhole (operations os) → k < length os → IsAt os k o → IsState d os k m → stepped m (operation_of o) ≡ Ok e → IsState d os (k + 1) e
+pub state_more : (d m e : Data) (os : List PatchOperation) (k : ℕ) (o : PatchOperation) → IsDocument d → AreWhole (operations os) → k < length os → IsAt os k o → IsState d os k m → after_step m (operation_of o) ≡ Ok e → IsState d os (k + 1) e
 state_more d m e os k o hd hv less is h s = subst (λ n. IsState d os n e) (sym (add-one k)) (state_suc d m e os k o hd hv less is h s)
 
-pub state_refused : (d m : Data) (kind : PatchErrorKind) (os : List PatchOperation) (k : ℕ) (o : PatchOperation) → IsDocument d → AreWhole (operations os) → k < length os → IsAt os k o → IsState d os k m → stepped m (operation_of o) ≡ Err kind → RefusesAt d (operations os) k kind
+pub state_refused : (d m : Data) (kind : PatchErrorKind) (os : List PatchOperation) (k : ℕ) (o : PatchOperation) → IsDocument d → AreWhole (operations os) → k < length os → IsAt os k o → IsState d os k m → after_step m (operation_of o) ≡ Err kind → RefusesAt d (operations os) k kind
 state_refused d m kind (x ∷ os) (suc k) o hd hv less is h s =
     (h.0, h.1, state_refused h.0 m kind os k o (leaves_document d (operation_of x) h.0 hd hv.0 h.1) hv.1 (omega arith) is h.2 s)
 state_refused d m kind os k o hd hv less is h s = search (rules, refuses_at)
@@ -73,12 +73,12 @@ pub path_at : (os : List PatchOperation) (k : ℕ) (o : PatchOperation) → k < 
 path_at (x ∷ os) (suc k) o less is = path_at os k o (omega arith) is
 path_at os k o less is = search rules
 
-refused_with : (fault : StepFault) (wanted : Result Data PatchErrorKind) (new : Data) (kind : PatchErrorKind) → fault ≡ step_refused kind → Steps {T = Unit {0}} (Err fault) wanted new → wanted ≡ Err kind
-refused_with fault wanted new kind is h = subst (λ f. Steps {T = Unit {0}} (Err f) wanted new) is h
+refused_with : (fault : StepFault) (wanted : Result Data PatchErrorKind) (new : Data) (kind : PatchErrorKind) → fault ≡ step_refused kind → ComesTo {T = Unit {0}} (Err fault) wanted new → wanted ≡ Err kind
+refused_with fault wanted new kind is h = subst (λ f. ComesTo {T = Unit {0}} (Err f) wanted new) is h
 
 -- the fault of a run names what the step refused
 pub reported_names : (U : Type 0) (out : PatchFault) (fault : StepFault) (d m new : Data) (os : List PatchOperation) (k : ℕ) (o : PatchOperation) → IsDocument d → AreWhole (operations os) → k < length os → IsAt os k o → IsState d os k m
-    → Steps {T = Unit {0}} (Err fault) (stepped m (operation_of o)) new → Reports fault k (path_of (operation_of o)) out → IfRefused {T = U} (Err out) (NamesFirst d (operations os))
+    → ComesTo {T = Unit {0}} (Err fault) (after_step m (operation_of o)) new → Reports fault k (path_of (operation_of o)) out → IfRefused {T = U} (Err out) (NamesFirst d (operations os))
 reported_names U out fault d m new os k o hd hv less is h s r = search (rules, refused_with, state_refused, path_at)
 
 -- ---- what a recorded run has recorded
@@ -97,11 +97,11 @@ take_whole os zero h = tt
 take_whole [] (suc k) h = tt
 take_whole (x ∷ os) (suc k) h = (h.0, take_whole os k h.1)
 
-block_after : (m : Data) (op : Operation) (e : Data) → stepped m op ≡ Ok e → inverse m (op ∷ []) ≡ block m op
+block_after : (m : Data) (op : Operation) (e : Data) → after_step m op ≡ Ok e → inverse m (op ∷ []) ≡ block m op
 block_after m op e is = rw is refl
 
 pub recorded_more : (d m e : Data) (os : List PatchOperation) (k : ℕ) (o : PatchOperation) (undo more : List PatchOperation) → IsDocument d → AreWhole (operations os) → k < length os → IsAt os k o → IsState d os k m
-    → stepped m (operation_of o) ≡ Ok e → operations more ≡ operations undo ++ reverse (block m (operation_of o)) → IsRecorded d os k undo → IsRecorded d os (k + 1) more
+    → after_step m (operation_of o) ≡ Ok e → operations more ≡ operations undo ++ reverse (block m (operation_of o)) → IsRecorded d os k undo → IsRecorded d os (k + 1) more
 recorded_more d m e os k o undo more hd hv less is h s wrote so_far =
     ap reverse wrote ∙ reverse-append (operations undo) (reverse (block m (operation_of o)))
     ∙ ap₂ (λ x y. x ++ y) (reverse-reverse (block m (operation_of o)) ∙ sym (block_after m (operation_of o) e s)) so_far
@@ -137,11 +137,11 @@ recorded_all d e os undo left hd hv end so_far is =
     })
 
 -- what is recorded leads back
-pub recorded_back : (d m : Data) (os : List PatchOperation) (k : ℕ) (undo : List PatchOperation) → IsDocument d → AreWhole (operations os) → IsState d os k m → IsRecorded d os k undo → ran m (reverse (operations undo)) ≡ Ok d
+pub recorded_back : (d m : Data) (os : List PatchOperation) (k : ℕ) (undo : List PatchOperation) → IsDocument d → AreWhole (operations os) → IsState d os k m → IsRecorded d os k undo → after_run m (reverse (operations undo)) ≡ Ok d
 recorded_back d m os k undo hd hv h so_far =
     let before = take k (operations os) in
     let hw : AreWhole before = take_whole os k hv in
-    ap (ran m) so_far ∙ accepts_ran m (inverse d before) d (state_document d m os k hd hv h) (inverse_whole d before m hd hw h) (inverse_back d before m hd hw h)
+    ap (after_run m) so_far ∙ accepts_ran m (inverse d before) d (state_document d m os k hd hv h) (inverse_whole d before m hd hw h) (inverse_back d before m hd hw h)
 
 -- ---- a run that takes no memory
 
@@ -150,7 +150,7 @@ in_place_at (x ∷ os) (suc k) o less is h = in_place_at os k o (omega arith) is
 in_place_at os k o less is h = search rules
 
 pub not_stopped : (fault : StepFault) (d m new e : Data) (os : List PatchOperation) (k : ℕ) (o : PatchOperation) → IsDocument d → AreWhole (operations os) → k < length os → IsAt os k o → IsState d os k m
-    → Steps {T = Unit {0}} (Err fault) (stepped m (operation_of o)) new → (IsInPlace (operation_of o) → NeverShort {T = Unit {0}} (Err fault)) → AreInPlace (operations os) → Accepts d (operations os) e → ⊥
+    → ComesTo {T = Unit {0}} (Err fault) (after_step m (operation_of o)) new → (IsInPlace (operation_of o) → NeverShort {T = Unit {0}} (Err fault)) → AreInPlace (operations os) → Accepts d (operations os) e → ⊥
 not_stopped (step_refused kind) d m new e os k o hd hv less is h s light all end =
     (accepted d (operations os) hd hv e (accepts_ran d (operations os) e hd hv end)).nowhere k kind (state_refused d m kind os k o hd hv less is h s)
 not_stopped (step_short error) d m new e os k o hd hv less is h s light all end = light (in_place_at os k o less is all)

@@ -12,9 +12,10 @@ use Rattle.serde_json.specs.Find.{get, get_member, as_null, as_object}
 use Rattle.serde_json.specs.View.{view, members_view}
 use Rattle.serde_json.specs.declared.value.Value.{Value, Object, the_lemmas}
 use Rattle.serde_json.proofs.Views.{Entry, get_member-put, members_view-insert_entry, view-lookup, view-Object}
-use Rattle.json_patch.specs.Document.{IsDocument, AreMembers, sight_of, key, map as an_object}
+use Rattle.json_patch.specs.Document.{IsDocument, AreMembers, sight_of, key}
+use Rattle.json_patch.specs.Sight.{Sight}
 use Rattle.json_patch.specs.ChangeComputed.{without}
-use Rattle.json_patch.specs.Filled.{IsFilled, IsFilledMember, AreFilled, replaces, by_key, stays, left, fills, Fills, FillsAt, IsPrunedMember, ArePruned, with_member, formerly, restored, members_before}
+use Rattle.json_patch.specs.Filled.{IsFilled, IsFilledMember, AreFilled, replaces, by_key, stays, left, fills, Fills, FillsAt, IsPrunedMember, ArePruned, with_member, former_value, restore_members, members_before}
 use Rattle.json_patch.specs.Merged as m
 use Rattle.json_patch.specs.Merged.{IsMerged}
 use Rattle.json_patch.specs.MergedComputed.{members_of}
@@ -22,8 +23,8 @@ use Rattle.json_patch.specs.declared.merging.Former.{Former, Filled, Replaced, N
 use Rattle.json_patch.specs.declared.merging.Former.TheOpen.{Former-F}
 use Rattle.json_patch.proofs.Members.{member_document}
 use Rattle.json_patch.proofs.Writes.{is_named, AreInOrder, members_view-remove_entry, members_view-set_value, members_view-set_same}
-use Rattle.json_patch.proofs.Level.{set_back, without_put}
-use Rattle.json_patch.proofs.Passing.{ChangesAt, changes_put}
+use Rattle.json_patch.proofs.ChildChanges.{set_back, without_put}
+use Rattle.json_patch.proofs.MergeLoops.{ChangesAt, changes_put}
 
 pub null_here : (d : Data) (b : Bool) → b ≡ is_some (as_null d) → b ≡ true → d ≡ null
 null_here d b is tested = search rules
@@ -31,7 +32,7 @@ null_here d b is tested = search rules
 pub other_here : (d : Data) (b : Bool) → b ≡ is_some (as_null d) → b ≡ false → d ≢ null
 other_here d b is tested h = search rules
 
-pub atom_here : (d : Data) (b : Bool) → b ≡ is_some (as_object d) → b ≡ false → sight_of d ≢ an_object
+pub atom_here : (d : Data) (b : Bool) → b ≡ is_some (as_object d) → b ≡ false → sight_of d ≢ Sight.object
 atom_here d b is tested h = search rules
 
 found_at : (t : List ℕ) (es : List Entry) (o : Option Value) → o ≡ lookup (is_named t) es → get_member t (members_view es) ≡ option_map view o
@@ -53,7 +54,7 @@ prunes_value q w e other step was left = absurd (other refl)
 prunes_value q w e other step was (fills o h) = m.merges o (step (unwrap_or was null) h)
 
 -- an atom needs no step
-pub prunes_atom : (q : Data) (now : Option Data) → q ≢ null → sight_of q ≢ an_object → IsPrunedMember now (Some q) now
+pub prunes_atom : (q : Data) (now : Option Data) → q ≢ null → sight_of q ≢ Sight.object → IsPrunedMember now (Some q) now
 prunes_atom q now other atom was left = absurd (other refl)
 prunes_atom q now other atom was (fills o (replaces out)) = m.merges o (m.replaces out)
 prunes_atom q now other atom was (fills o (by_key named held each)) = absurd (atom named)
@@ -69,13 +70,13 @@ prunes_found t es d q e found other step = subst (λ o. IsPrunedMember o (Some q
 pub prunes_missing : (t : List ℕ) (es : List Entry) (q : Data) → None ≡ lookup (is_named t) es → q ≢ null → IsPrunedMember (get_member t (members_view es)) (Some q) (get_member t (members_view es))
 prunes_missing t es q found other = subst (λ o. IsPrunedMember o (Some q) o) (sym (found_at t es None found)) (prunes_absent q other)
 
-no_object : (d : Data) → None ≡ as_object d → sight_of d ≢ an_object
+no_object : (d : Data) → None ≡ as_object d → sight_of d ≢ Sight.object
 no_object d none is = search rules
 
-pub other_value : (v : Value) → ((m : BTreeMap (String Global) Value) → v ≡ Object m → ⊥) → sight_of (view v) ≢ an_object
+pub other_value : (v : Value) → ((m : BTreeMap (String Global) Value) → v ≡ Object m → ⊥) → sight_of (view v) ≢ Sight.object
 other_value v out = no_object (view v) (search (rules, the_lemmas, out))
 
-pub pruned_other : {d p w : Data} → (sight_of p ≡ an_object → sight_of w ≢ an_object) → IsFilled d p w → IsMerged d p w
+pub pruned_other : {d p w : Data} → (sight_of p ≡ Sight.object → sight_of w ≢ Sight.object) → IsFilled d p w → IsMerged d p w
 pruned_other out (replaces other) = m.replaces other
 pruned_other out (by_key named held each) = absurd (out named held)
 
@@ -102,29 +103,29 @@ pub back_at : (t : List ℕ) (d : Data) (o : Option Data) (ms : Members) → Are
 back_at t d None ms h hd is = ap members_of (without_put t d ms h hd is)
 back_at t d (Some c) ms h hd is = ap members_of (set_back (key t) (object ms) c d h hd is)
 
-restored_last : (log : List (Bor (List ℕ) × (Option Data → Option Data))) (e : Bor (List ℕ) × (Option Data → Option Data)) (ms : Members) → restored (log ++ e ∷ []) ms ≡ restored log (restored (e ∷ []) ms)
+restored_last : (log : List (Bor (List ℕ) × (Option Data → Option Data))) (e : Bor (List ℕ) × (Option Data → Option Data)) (ms : Members) → restore_members (log ++ e ∷ []) ms ≡ restore_members log (restore_members (e ∷ []) ms)
 restored_last [] e ms = refl
 restored_last (f ∷ log) e ms = ap (λ ns. with_member f.0.now (f.1 (get_member f.0.now ns)) ns) (restored_last log e ms)
 
-pub before_last : (log : List (Bor (List ℕ) × Former)) (e : Bor (List ℕ) × Former) (ms : Members) → members_before (log ++ e ∷ []) ms ≡ members_before log (with_member e.0.now (formerly e.1 (get_member e.0.now ms)) ms)
-before_last log e ms = ap (λ l. restored l ms) (map-append (λ (f : Bor (List ℕ) × Former). (f.0, formerly f.1)) log (e ∷ [])) ∙ restored_last (map (λ (f : Bor (List ℕ) × Former). (f.0, formerly f.1)) log) (e.0, formerly e.1) ms
+pub before_last : (log : List (Bor (List ℕ) × Former)) (e : Bor (List ℕ) × Former) (ms : Members) → members_before (log ++ e ∷ []) ms ≡ members_before log (with_member e.0.now (former_value e.1 (get_member e.0.now ms)) ms)
+before_last log e ms = ap (λ l. restore_members l ms) (map-append (λ (f : Bor (List ℕ) × Former). (f.0, former_value f.1)) log (e ∷ [])) ∙ restored_last (map (λ (f : Bor (List ℕ) × Former). (f.0, former_value f.1)) log) (e.0, former_value e.1) ms
 
 -- ---- a member is put back
 
-pub puts_back : (t : List ℕ) (es new : List Entry) (f : Former) (d w : Value) → AreInOrder es → Some d ≡ lookup (is_named t) es → new ≡ set_value (is_named t) es w → formerly f (Some (view d)) ≡ Some (view w)
-    → members_view new ≡ with_member t (formerly f (get_member t (members_view es))) (members_view es)
+pub puts_back : (t : List ℕ) (es new : List Entry) (f : Former) (d w : Value) → AreInOrder es → Some d ≡ lookup (is_named t) es → new ≡ set_value (is_named t) es w → former_value f (Some (view d)) ≡ Some (view w)
+    → members_view new ≡ with_member t (former_value f (get_member t (members_view es))) (members_view es)
 puts_back t es new f d w order found is back = search (rules, view-lookup t es, members_view-set_value t es w d order (sym found), view-lookup, members_view-set_value)
 
-pub puts_nothing_back : (t : List ℕ) (es new : List Entry) (f : Former) → None ≡ lookup (is_named t) es → new ≡ es → formerly f None ≡ None
-    → members_view new ≡ with_member t (formerly f (get_member t (members_view es))) (members_view es)
+pub puts_nothing_back : (t : List ℕ) (es new : List Entry) (f : Former) → None ≡ lookup (is_named t) es → new ≡ es → former_value f None ≡ None
+    → members_view new ≡ with_member t (former_value f (get_member t (members_view es))) (members_view es)
 puts_nothing_back t es new f found is back = search (rules, view-lookup, without_absent)
 
-pub takes_out : (t : List ℕ) (es new : List Entry) (f : Former) → new ≡ remove_entry (is_named t) es → ((o : Option Data) → formerly f o ≡ None)
-    → members_view new ≡ with_member t (formerly f (get_member t (members_view es))) (members_view es)
+pub takes_out : (t : List ℕ) (es new : List Entry) (f : Former) → new ≡ remove_entry (is_named t) es → ((o : Option Data) → former_value f o ≡ None)
+    → members_view new ≡ with_member t (former_value f (get_member t (members_view es))) (members_view es)
 takes_out t es new f is back = ap members_view is ∙ members_view-remove_entry t es ∙ ap (λ o. with_member t o (members_view es)) (sym (back (get_member t (members_view es))))
 
 pub restored_object : (log : Vec (Bor (List ℕ) × Former) Global) (old new : Value) (m n : BTreeMap (String Global) Value) → old ≡ Object m → new ≡ Object n → members_view n.entries ≡ members_before log.items (members_view m.entries)
-    → formerly (Filled log) (Some (view old)) ≡ Some (view new)
+    → former_value (Filled log) (Some (view old)) ≡ Some (view new)
 restored_object log old new m n is after back = rw (is, after, view-Object m, view-Object n, back) (search (rules, of_formers))
 
 -- ---- filled
@@ -138,7 +139,7 @@ value_itself q h = fills (λ h. cc) h
 
 -- a value of the patch fills a name as it is: what the patch removes within it goes later
 mutual
-  pub filled_itself : (p d : Data) → (sight_of p ≡ an_object → sight_of d ≢ an_object) → IsFilled d p p
+  pub filled_itself : (p d : Data) → (sight_of p ≡ Sight.object → sight_of d ≢ Sight.object) → IsFilled d p p
   filled_itself (object ps) d other = by_key refl refl (λ k. subst (λ o. IsFilledMember o (get_member k ps) (get_member k ps)) (sym (search rules)) (member_itself k ps))
   filled_itself p d other = replaces (λ h. cc)
 
@@ -146,14 +147,14 @@ mutual
   member_itself k no_members = stays
   member_itself k (member l q ps) = on_cases (slice_cmp nat_cmp k l) (get_member k ps) q (member_itself k ps) (value_itself q (filled_itself q null (λ h. λ e. cc)))
 
-pub filled_whole : (target patch dest former : Value) → (sight_of (view patch) ≡ an_object → sight_of (view target) ≢ an_object) → view dest ≡ view patch → former ≡ target → IsDocument (view patch)
-    → IsFilled (view target) (view patch) (view dest) × IsDocument (view dest) × (formerly (Replaced former) (Some (view dest)) ≡ Some (view target))
+pub filled_whole : (target patch dest former : Value) → (sight_of (view patch) ≡ Sight.object → sight_of (view target) ≢ Sight.object) → view dest ≡ view patch → former ≡ target → IsDocument (view patch)
+    → IsFilled (view target) (view patch) (view dest) × IsDocument (view dest) × (former_value (Replaced former) (Some (view dest)) ≡ Some (view target))
 filled_whole target patch dest former other is was hp = (subst (IsFilled (view target) (view patch)) (sym is) (filled_itself (view patch) (view target) other), subst IsDocument (sym is) hp, rw was (search (rules, of_formers)))
 
 pub filled_object : (log : Vec (Bor (List ℕ) × Former) Global) (old new patch : Value) (m n ps : BTreeMap (String Global) Value) → old ≡ Object m → new ≡ Object n → patch ≡ Object ps
     → (AreMembers (members_view m.entries) → AreMembers (members_view ps.entries)
     → AreFilled (members_view m.entries) (members_view ps.entries) (members_view n.entries) × AreMembers (members_view n.entries) × (members_before log.items (members_view n.entries) ≡ members_view m.entries))
-    → IsDocument (view old) → IsDocument (view patch) → IsFilled (view old) (view patch) (view new) × IsDocument (view new) × (formerly (Filled log) (Some (view new)) ≡ Some (view old))
+    → IsDocument (view old) → IsDocument (view patch) → IsFilled (view old) (view patch) (view new) × IsDocument (view new) × (former_value (Filled log) (Some (view new)) ≡ Some (view old))
 filled_object log old new patch m n ps is after named h hd hp =
     let r = h (subst IsDocument (ap view is ∙ view-Object m) hd) (subst IsDocument (ap view named ∙ view-Object ps) hp) in
     let f : IsFilled (view old) (view patch) (view new) = rw (is, after, named, view-Object m, view-Object n, view-Object ps) (by_key refl refl r.0) in
@@ -169,7 +170,7 @@ pub fills_found : (r : Result Former AllocError) (t : List ℕ) (es new : List E
 fills_found r t es new d w q order found is h step = search (rules, found_at, found_document, members_view-set_value, unwrap_or, members_view-set_same)
 
 pub fills_missing : (t : List ℕ) (es new : List Entry) (k : String Global) (w : Value) (q : Data) → None ≡ lookup (is_named t) es → string_bytes k ≡ t → new ≡ insert_entry string_cmp es k w → view w ≡ q → IsDocument q
-    → (x : Data) × (members_view new ≡ put t x (members_view es)) × IsFilled (unwrap_or (get_member t (members_view es)) null) q x × IsDocument x × (formerly Nothing (Some x) ≡ get_member t (members_view es))
+    → (x : Data) × (members_view new ≡ put t x (members_view es)) × IsFilled (unwrap_or (get_member t (members_view es)) null) q x × IsDocument x × (former_value Nothing (Some x) ≡ get_member t (members_view es))
 fills_missing t es new k w q found named is same hq =
     let here = found_at t es None found in (
       q,
