@@ -17,6 +17,8 @@ mod hostile;
 #[cfg(test)]
 mod merges;
 #[cfg(test)]
+mod pointers;
+#[cfg(test)]
 mod printing;
 #[cfg(test)]
 mod reading;

@@ -16,6 +16,3 @@ pub use buf::PointerBuf;
 pub use error::{ParseError, PointerFault};
 pub use pointer::Pointer;
 pub use token::{Token, Tokens};
-
-#[cfg(test)]
-mod tests;

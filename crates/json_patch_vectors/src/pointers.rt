@@ -1,5 +1,7 @@
-use crate::index::{Index, OutOfBoundsError, ParseIndexError};
-use crate::{ParseError, Pointer, PointerBuf, PointerFault};
+//! Pointers: their texts and tokens, what they share, and the indexes that tokens name.
+
+use json_patch::jsonptr::index::{Index, OutOfBoundsError, ParseIndexError};
+use json_patch::jsonptr::{ParseError, Pointer, PointerBuf, PointerFault};
 use std::alloc::{AllocError, Global};
 use std::test::Fail;
 
