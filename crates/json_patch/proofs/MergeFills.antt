@@ -1,6 +1,7 @@
 -- What is filled and then pruned is merged, and what was found leads back.
-use Rattle.std.proofs.Common.{◌≡◌, ◌≢◌, Vec, BTreeMap, String, Global, Result, Ok, IsErr, Bool, true, false, is_some, string_bytes, string_cmp, rules, ℕ, suc, ◌+◌, arith, List, [], ◌∷◌, ◌++◌, map, Option, Some, None, option_map, unwrap_or, Ordering, nat_cmp, refl, sym, ap, ◌∙◌, subst}
+use Rattle.std.proofs.Common.{◌≡◌, ◌≢◌, Vec, BTreeMap, String, Global, Result, Ok, Err, IsOk, IsErr, Bool, true, false, is_some, string_bytes, string_cmp, rules, ℕ, suc, ◌+◌, arith, List, [], ◌∷◌, ◌++◌, map, Option, Some, None, option_map, unwrap_or, Ordering, nat_cmp, refl, sym, ap, ◌∙◌, subst}
 use Rattle.std.proofs.lemmas.List.{map-append}
+use Rattle.std.specs.Bool.{⊤}
 use Rattle.std.specs.Borrow.{Bor}
 use Rattle.std.specs.declared.alloc.AllocError.{AllocError}
 use Rattle.std.specs.BTreeMap.{insert_entry}
@@ -15,7 +16,7 @@ use Rattle.serde_json.proofs.Views.{Entry, get_member-put, members_view-insert_e
 use Rattle.json_patch.specs.Document.{IsDocument, AreMembers, sight_of, key}
 use Rattle.json_patch.specs.Sight.{Sight}
 use Rattle.json_patch.specs.ChangeComputed.{without}
-use Rattle.json_patch.specs.Filled.{IsFilled, IsFilledMember, AreFilled, replaces, by_key, stays, left, fills, Fills, FillsAt, IsPrunedMember, ArePruned, with_member, former_value, restore_members, members_before}
+use Rattle.json_patch.specs.Filled.{IsFilled, IsFilledMember, AreFilled, replaces, by_key, stays, left, fills, Fills, FillsAt, Logs, IsPrunedMember, ArePruned, with_member, former_value, restore_members, members_before}
 use Rattle.json_patch.specs.Merged as m
 use Rattle.json_patch.specs.Merged.{IsMerged}
 use Rattle.json_patch.specs.MergedComputed.{members_of}
@@ -89,6 +90,19 @@ pub pruned_object : (old new patch : Value) (m n ps : BTreeMap (String Global) V
     → IsDocument (view old) → IsDocument (view patch) → IsDocument (view new) × ((d : Data) → IsFilled d (view patch) (view old) → IsMerged d (view patch) (view new))
 pruned_object old new patch m n ps is after named h = search (rules, view-Object, merged_members)
 
+pub merged_object : (old new patch : Value) (m n ps : BTreeMap (String Global) Value) (ws : Members) → old ≡ Object m → new ≡ Object n → patch ≡ Object ps
+    → AreFilled (members_view m.entries) (members_view ps.entries) ws → ArePruned ws (members_view ps.entries) (members_view n.entries) → IsMerged (view old) (view patch) (view new)
+merged_object old new patch m n ps ws is after named filled pruned = rw (is, after, named, view-Object m, view-Object n, view-Object ps) (merged_members (members_view ps.entries) ws (members_view n.entries) pruned (object (members_view m.entries)) (by_key refl refl filled))
+
+pub same_object : (old new : Value) (m n : BTreeMap (String Global) Value) → old ≡ Object m → new ≡ Object n → members_view n.entries ≡ members_view m.entries → view new ≡ view old
+same_object old new m n is after same = search (rules, view-Object)
+
+pub object_members : (d : Value) (m : BTreeMap (String Global) Value) → d ≡ Object m → IsDocument (view d) → AreMembers (members_view m.entries)
+object_members d m is h = subst IsDocument (ap view is ∙ view-Object m) h
+
+pub members_object : (d : Value) (m : BTreeMap (String Global) Value) → d ≡ Object m → AreMembers (members_view m.entries) → IsDocument (view d)
+members_object d m is h = subst IsDocument (sym (ap view is ∙ view-Object m)) h
+
 -- ---- taken back
 
 absent_at : (o : Ordering) (found : Option Data) (l : List ℕ) (d : Data) (ms ns : Members) → match_ordering o found (Some d) found ≡ None → (found ≡ None → ns ≡ ms)
@@ -160,11 +174,6 @@ filled_object log old new patch m n ps is after named h hd hp =
     let f : IsFilled (view old) (view patch) (view new) = rw (is, after, named, view-Object m, view-Object n, view-Object ps) (by_key refl refl r.0) in
     (f, subst IsDocument (sym (ap view after ∙ view-Object n)) r.1, restored_object log new old n m after is (sym r.2))
 
-pub filled_no_object : (r : Result Former AllocError) (old new patch : Value) (m n ps : BTreeMap (String Global) Value) → IsErr r → old ≡ Object m → new ≡ Object n → patch ≡ Object ps
-    → (AreMembers (members_view m.entries) → AreMembers (members_view ps.entries) → members_view n.entries ≡ members_view m.entries)
-    → IsDocument (view old) → IsDocument (view patch) → Fills r (view old) (view patch) (view new)
-filled_no_object r old new patch m n ps err is after named h = search (rules, view-Object)
-
 pub fills_found : (r : Result Former AllocError) (t : List ℕ) (es new : List Entry) (d w : Value) (q : Data) → AreInOrder es → Some d ≡ lookup (is_named t) es → new ≡ set_value (is_named t) es w
     → AreMembers (members_view es) → (IsDocument (view d) → Fills r (view d) q (view w)) → FillsAt r t (members_view es) q (members_view new)
 fills_found r t es new d w q order found is h step = search (rules, found_at, found_document, members_view-set_value, unwrap_or, members_view-set_same)
@@ -180,13 +189,27 @@ fills_missing t es new k w q found named is same hq =
       search (rules, of_formers) ∙ sym here,
     )
 
-pub fills_step : (t : List ℕ) (ms ns : Members) (q : Data) (former : Former) → q ≢ null → AreMembers ms → FillsAt (Ok former) t ms q ns
+pub logs_other : (r : Result ⊤ AllocError) (t : List ℕ) (was now : List (Bor (List ℕ) × Former)) (P Q : Result Former AllocError → Type 0) → ((x : Result Former AllocError) → P x → Q x) → Logs r t was now P → Logs r t was now Q
+logs_other (Ok done) t was now P Q turn h = (h.0, h.1, h.2, h.3, turn (Ok h.1) h.4)
+logs_other (Err e) t was now P Q turn h = (h.0, turn (Err e) h.1)
+
+pub logs_nothing : (r : Result ⊤ AllocError) (t : List ℕ) (was now : List (Bor (List ℕ) × Former)) (P : Result Former AllocError → Type 0) → IsErr r → now ≡ was → ((e : AllocError) → P (Err e)) → Logs r t was now P
+logs_nothing (Ok done) t was now P bad is h = search rules
+logs_nothing (Err e) t was now P bad is h = (is, h e)
+
+fills_step : (t : List ℕ) (ms ns : Members) (q : Data) (former : Former) → q ≢ null → AreMembers ms → FillsAt (Ok former) t ms q ns
     → (o : Option Data) × ChangesAt t ms ns o × IsFilledMember (get_member t ms) (Some q) o
 fills_step t ms ns q former other h r = (Some r.0, changes_put t r.0 ms ns h r.3 r.1, fills other r.2)
 
-pub fills_back : (log held now : List (Bor (List ℕ) × Former)) (name : Bor (List ℕ)) (ms ns : Members) (q : Data) (former : Former) → held ≡ log → now ≡ held ++ (name, former) ∷ [] → AreMembers ms
-    → FillsAt (Ok former) name.now ms q ns → members_before now ns ≡ members_before log ms
-fills_back log held now name ms ns q former keeps pushed h r = search (rules, before_last, get_member-put, back_at)
+fills_back : (was : List (Bor (List ℕ) × Former)) (name : Bor (List ℕ)) (ms ns : Members) (q : Data) (former : Former) → AreMembers ms → FillsAt (Ok former) name.now ms q ns
+    → members_before (was ++ (name, former) ∷ []) ns ≡ members_before was ms
+fills_back was name ms ns q former h r = search (rules, before_last, get_member-put, back_at)
+
+pub fills_next : (r : Result ⊤ AllocError) (t : List ℕ) (was now : List (Bor (List ℕ) × Former)) (ms ns : Members) (q : Data) → IsOk r → q ≢ null → AreMembers ms → Logs r t was now (λ x. FillsAt x t ms q ns)
+    → ((o : Option Data) × ChangesAt t ms ns o × IsFilledMember (get_member t ms) (Some q) o) × (members_before now ns ≡ members_before was ms)
+fills_next (Err e) t was now ms ns q ok other hm h = search rules
+fills_next (Ok done) t was now ms ns q ok other hm h =
+    (fills_step t ms ns q h.1 other hm h.4, ap (λ l. members_before l ns) h.3 ∙ fills_back was h.0 ms ns q h.1 hm (subst (λ k. FillsAt (Ok h.1) k ms q ns) (sym h.2) h.4))
 
 -- ---- a log ends
 

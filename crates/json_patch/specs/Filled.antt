@@ -1,5 +1,5 @@
 -- For private clauses: a merge but for its removals, and what takes it back.
-use Rattle.std.specs.Prelude.{◌≡◌, ◌≢◌, ℕ, List, [], ◌∷◌, map, Option, Some, None, unwrap_or, Result, Ok, Err, Vec}
+use Rattle.std.specs.Prelude.{◌≡◌, ◌≢◌, ⊤, ℕ, List, [], ◌∷◌, ◌++◌, map, Option, Some, None, unwrap_or, Result, Ok, Err, Vec}
 use Rattle.std.specs.Borrow.{Bor}
 use Rattle.std.specs.declared.alloc.AllocError.{AllocError}
 use Rattle.std.specs.declared.alloc.Global.{Global}
@@ -68,6 +68,11 @@ FillsAll (Err e) ms ps ns = ns ≡ ms
 abbrev pub FillsAt : Result Former AllocError → List ℕ → Members → Data → Members → Type 0
 FillsAt (Ok former) t ms q ns = (w : Data) × (ns ≡ put t w ms) × IsFilled (unwrap_or (get_member t ms) null) q w × IsDocument w × (former_value former (Some w) ≡ get_member t ms)
 FillsAt (Err e) t ms q ns = ns ≡ ms
+
+-- and the log has what was found, under this name; or it is as it was
+abbrev pub Logs : Result ⊤ AllocError → List ℕ → List (Bor (List ℕ) × Former) → List (Bor (List ℕ) × Former) → (Result Former AllocError → Type 0) → Type 0
+Logs (Ok done) t was now Holds = (name : Bor (List ℕ)) × (former : Former) × (name.now ≡ t) × (now ≡ was ++ (name, former) ∷ []) × Holds (Ok former)
+Logs (Err e) t was now Holds = (now ≡ was) × Holds (Err e)
 
 -- one member that is filled, whatever it was before, and is left or removed
 abbrev pub IsPrunedMember : Option Data → Option Data → Option Data → Type 0

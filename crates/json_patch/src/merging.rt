@@ -1,7 +1,7 @@
 //! JSON Merge Patch (RFC 7396, section 2).
 
 ghost use Rattle.json_patch.specs.Document.{AreMembers, IsDocument};
-ghost use Rattle.json_patch.specs.Filled.{AreFilled, ArePruned, Fills, FillsAll, FillsAt, IsFilled, former_value, members_before, with_member};
+ghost use Rattle.json_patch.specs.Filled.{AreFilled, ArePruned, Fills, FillsAll, FillsAt, IsFilled, Logs, former_value, members_before, with_member};
 ghost use Rattle.json_patch.specs.Merged.{IsMerged};
 ghost use Rattle.json_patch.specs.declared.merging.Former.{Filled};
 ghost use Rattle.serde_json.specs.Data.{Data};
@@ -40,29 +40,21 @@ pub fn merge(alloc: Global, doc: &mut Value, patch: &Value) -> Result<(), AllocE
     ensures unchanged { OnErr result (view doc.new ≡ view doc.old) }
     ensures document { IsDocument (view doc.new) }
 {
-    drop(fill(alloc, patch, doc)?);
+    if let Value::Object(changes) = patch {
+        if let Value::Object(members) = doc {
+            drop(fill(alloc, changes, members)?);
+            prune_members(changes, members);
+            return Ok(());
+        }
+    }
+    *doc = patch.clone()?;
     prune(patch, doc);
     Ok(())
 }
 
-/// Merges the patch but for its removals, and answers what it found.
+/// Merges the changes but for their removals, and answers what it found, in their order.
 #[cycle(filling)]
-fn fill<'a>(alloc: Global, patch: &'a Value, target: &mut Value) -> Result<Former<'a>, AllocError>
-    ensures { IsDocument (view target.old) → IsDocument (view patch.now)
-        → Fills result (view target.old) (view patch.now) (view target.new) }
-{
-    if let Value::Object(changes) = patch {
-        if let Value::Object(members) = target {
-            return Ok(Former::Filled(fill_members(alloc, changes, members)?));
-        }
-    }
-    let value = patch.clone()?;
-    Ok(Former::Replaced(mem::replace(target, value)))
-}
-
-/// Fills the members, and answers what it found, in the order of the changes.
-#[cycle(filling)]
-fn fill_members<'a>(
+fn fill<'a>(
     alloc: Global,
     changes: &'a Map<String, Value>,
     members: &mut Map<String, Value>,
@@ -100,9 +92,7 @@ fn fill_each<'a>(
 {
     for (name, change) in changes {
         if !change.is_null() {
-            log.reserve(1)?;
-            let former = fill_member(alloc, name, change, members)?;
-            log.push_reserved((name.as_str(), former));
+            fill_member(alloc, name, change, members, log)?;
         }
     }
     Ok(())
@@ -111,19 +101,50 @@ fn fill_each<'a>(
 #[cycle(filling)]
 fn fill_member<'a>(
     alloc: Global,
-    name: &String,
+    name: &'a String,
     change: &'a Value,
     members: &mut Map<String, Value>,
-) -> Result<Former<'a>, AllocError>
+    log: &mut Vec<(&'a str, Former<'a>)>,
+) -> Result<(), AllocError>
     ensures { AreMembers (members_view members.old.entries) → IsDocument (view change.now)
-        → FillsAt result (string_bytes name.now) (members_view members.old.entries)
-        (view change.now) (members_view members.new.entries) }
+        → Logs result (string_bytes name.now) log.old.items log.new.items
+        (λ r. FillsAt r (string_bytes name.now) (members_view members.old.entries)
+        (view change.now) (members_view members.new.entries)) }
 {
-    if let Some(member) = members.get_mut(name.as_str()) {
-        return fill(alloc, change, member);
+    let name_text = name.as_str();
+    if let Some(member) = members.get_mut(name_text) {
+        return fill_found(alloc, name_text, change, member, log);
     }
+    log.reserve(1)?;
     drop(members.insert(name.clone()?, change.clone()?)?);
-    Ok(Former::Nothing)
+    log.push_reserved((name_text, Former::Nothing));
+    Ok(())
+}
+
+/// Fills a member that is there.
+#[cycle(filling)]
+fn fill_found<'a>(
+    alloc: Global,
+    name: &'a str,
+    change: &'a Value,
+    member: &mut Value,
+    log: &mut Vec<(&'a str, Former<'a>)>,
+) -> Result<(), AllocError>
+    ensures { IsDocument (view member.old) → IsDocument (view change.now)
+        → Logs result name.now log.old.items log.new.items
+        (λ r. Fills r (view member.old) (view change.now) (view member.new)) }
+{
+    log.reserve(1)?;
+    if let Value::Object(changes) = change {
+        if let Value::Object(members) = member {
+            let within = fill(alloc, changes, members)?;
+            log.push_reserved((name, Former::Filled(within)));
+            return Ok(());
+        }
+    }
+    let value = change.clone()?;
+    log.push_reserved((name, Former::Replaced(mem::replace(member, value))));
+    Ok(())
 }
 
 /// Takes back the changes of this log, the last one first.
