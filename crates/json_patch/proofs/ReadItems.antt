@@ -1,12 +1,12 @@
 -- The operation that `op` names, and the items of a list, read one by one.
 use Rattle.std.proofs.Common.{◌≡◌, ◌<◌, ℕ, suc, List, [], ◌∷◌, ◌++◌, take, length, get_or, arith, Some, codes, Result, rules}
 use Rattle.std.specs.Prelude.{IsErrAnd}
-use Rattle.serde_json.specs.Data.{Data, Items, item, string}
+use Rattle.serde_json.specs.Data.{Data, Items, array, item, string}
 use Rattle.serde_json.specs.Find.{get}
 use Rattle.serde_json.specs.View.{view, items_view}
 use Rattle.serde_json.specs.declared.value.Value.{Value}
 use Rattle.json_patch.specs.Operation.{Operation, AreWhole, operation_of, operations}
-use Rattle.json_patch.specs.PatchValue.{ReadsItems, ReadsOperation, RefusesItem, RefusesFields, RefusesOperation, name_of, field_names}
+use Rattle.json_patch.specs.PatchValue.{ReadsItems, ReadsOperation, ReadsPatch, RefusesItem, RefusesFields, RefusesOperation, name_of, field_names}
 use Rattle.json_patch.specs.ReadSteps.{IfUnread, OfKind}
 use Rattle.json_patch.specs.declared.reading.ItemFault.{ItemFault}
 use Rattle.json_patch.specs.declared.error.ReadKind.{ReadKind}
@@ -16,6 +16,10 @@ use Rattle.json_patch.specs.declared.operation.PatchOperation.{PatchOperation}
 pub reads_whole : (ds : Items) (ops : List Operation) → ReadsItems ds ops → AreWhole ops
 reads_whole (item d ds) (op ∷ ops) h = (h.0.1, reads_whole ds ops h.1)
 reads_whole ds ops h = search rules
+
+pub patch_whole : (v : Data) (ops : List Operation) → ReadsPatch v ops → AreWhole ops
+patch_whole (array ds) ops h = reads_whole ds ops h
+patch_whole v ops h = absurd h
 
 -- the next item is read
 pub item_read : (vs : List Value) (os : List PatchOperation) (n : ℕ) (v : Value) (o : PatchOperation) → n < length vs → v ≡ get_or vs n v
