@@ -6,9 +6,8 @@ use Rattle.serde_json.specs.Find.{get}
 use Rattle.serde_json.specs.View.{view, items_view}
 use Rattle.serde_json.specs.declared.value.Value.{Value}
 use Rattle.json_patch.specs.Operation.{Operation, AreWhole, operation_of, operations}
-use Rattle.json_patch.specs.PatchValue.{ReadsItems, ReadsOperation, ReadsPatch, RefusesItem, RefusesFields, RefusesOperation, name_of, field_names}
-use Rattle.json_patch.specs.ReadSteps.{IfUnread, OfKind}
-use Rattle.json_patch.specs.declared.reading.ItemFault.{ItemFault}
+use Rattle.json_patch.specs.PatchValue.{IfUnreadAlone, OfKind, ReadsItems, ReadsOperation, ReadsPatch, RefusesItem, RefusesFields, RefusesOperation, name_of, field_names}
+use Rattle.json_patch.specs.declared.error.ReadFault.{ReadFault}
 use Rattle.json_patch.specs.declared.error.ReadKind.{ReadKind}
 use Rattle.json_patch.specs.declared.operation.PatchOperation.{PatchOperation}
 
@@ -34,6 +33,6 @@ item_refused (w ∷ vs) (p ∷ os) (suc n) v kind l is h g = (operation_of p, h.
 item_refused vs os n v kind l is h g = search rules
 
 -- the members of the operation that `op` names are at fault
-pub named_fault : {U : Type 0} (op : Operation) (v : Data) (n : List ℕ) (f : ItemFault) (r : Result U ItemFault) → get (codes "op") v ≡ Some (string n) → n ≡ name_of op
-    → OfKind (RefusesFields (field_names op) v) f → IsErrAnd r (λ g. g ≡ f) → IfUnread r (RefusesOperation v)
+pub named_fault : {U : Type 0} (op : Operation) (v : Data) (n : List ℕ) (f : ReadFault) (r : Result U ReadFault) → get (codes "op") v ≡ Some (string n) → n ≡ name_of op
+    → OfKind (RefusesFields (field_names op) v) f → IsErrAnd r (λ g. g ≡ f) → IfUnreadAlone r (RefusesOperation v)
 named_fault op v n f r e is h at = search rules
