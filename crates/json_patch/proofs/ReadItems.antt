@@ -1,14 +1,13 @@
 -- The operation that `op` names, and the items of a list, read one by one.
 use Rattle.std.proofs.Common.{◌≡◌, ◌<◌, ℕ, suc, List, [], ◌∷◌, ◌++◌, take, length, get_or, arith, Some, codes, Result, rules}
 use Rattle.std.specs.Prelude.{IsErrAnd}
-use Rattle.serde_json.specs.Data.{Data, Items, item, string}
+use Rattle.serde_json.specs.Data.{Data, Items, array, item, string}
 use Rattle.serde_json.specs.Find.{get}
 use Rattle.serde_json.specs.View.{view, items_view}
 use Rattle.serde_json.specs.declared.value.Value.{Value}
 use Rattle.json_patch.specs.Operation.{Operation, AreWhole, operation_of, operations}
-use Rattle.json_patch.specs.PatchValue.{ReadsItems, ReadsOperation, RefusesItem, RefusesFields, RefusesOperation, name_of, field_names}
-use Rattle.json_patch.specs.ReadSteps.{IfUnread, OfKind}
-use Rattle.json_patch.specs.declared.reading.ItemFault.{ItemFault}
+use Rattle.json_patch.specs.PatchValue.{IfUnreadAlone, OfKind, ReadsItems, ReadsOperation, ReadsPatch, RefusesItem, RefusesFields, RefusesOperation, name_of, field_names}
+use Rattle.json_patch.specs.declared.error.ReadFault.{ReadFault}
 use Rattle.json_patch.specs.declared.error.ReadKind.{ReadKind}
 use Rattle.json_patch.specs.declared.operation.PatchOperation.{PatchOperation}
 
@@ -16,6 +15,10 @@ use Rattle.json_patch.specs.declared.operation.PatchOperation.{PatchOperation}
 pub reads_whole : (ds : Items) (ops : List Operation) → ReadsItems ds ops → AreWhole ops
 reads_whole (item d ds) (op ∷ ops) h = (h.0.1, reads_whole ds ops h.1)
 reads_whole ds ops h = search rules
+
+pub patch_whole : (v : Data) (ops : List Operation) → ReadsPatch v ops → AreWhole ops
+patch_whole (array ds) ops h = reads_whole ds ops h
+patch_whole v ops h = absurd h
 
 -- the next item is read
 pub item_read : (vs : List Value) (os : List PatchOperation) (n : ℕ) (v : Value) (o : PatchOperation) → n < length vs → v ≡ get_or vs n v
@@ -30,6 +33,6 @@ item_refused (w ∷ vs) (p ∷ os) (suc n) v kind l is h g = (operation_of p, h.
 item_refused vs os n v kind l is h g = search rules
 
 -- the members of the operation that `op` names are at fault
-pub named_fault : {U : Type 0} (op : Operation) (v : Data) (n : List ℕ) (f : ItemFault) (r : Result U ItemFault) → get (codes "op") v ≡ Some (string n) → n ≡ name_of op
-    → OfKind (RefusesFields (field_names op) v) f → IsErrAnd r (λ g. g ≡ f) → IfUnread r (RefusesOperation v)
+pub named_fault : {U : Type 0} (op : Operation) (v : Data) (n : List ℕ) (f : ReadFault) (r : Result U ReadFault) → get (codes "op") v ≡ Some (string n) → n ≡ name_of op
+    → OfKind (RefusesFields (field_names op) v) f → IsErrAnd r (λ g. g ≡ f) → IfUnreadAlone r (RefusesOperation v)
 named_fault op v n f r e is h at = search rules

@@ -179,6 +179,13 @@ OfRefusal P (Memory e) = Unit {0}
 abbrev pub IfUnreadable : {T : Type 0} → Result T ReadFault → (ReadError → Type 0) → Type 0
 IfUnreadable r P = IfErr r (OfRefusal P)
 
+-- what is said of the kind of a refusal that has no number: that of a single operation
+abbrev pub OfKind : (ReadKind → Type 0) → ReadFault → Type 0
+OfKind P = OfRefusal (λ e. (e.operation ≡ None) × P e.kind)
+
+abbrev pub IfUnreadAlone : {T : Type 0} → Result T ReadFault → (ReadKind → Type 0) → Type 0
+IfUnreadAlone r P = IfErr r (OfKind P)
+
 -- ---- what is written_value
 
 -- these members, in the order of their names

@@ -5,9 +5,9 @@ ghost use Rattle.serde_json.specs.Data.{string};
 ghost use Rattle.serde_json.specs.Find.{get};
 ghost use Rattle.serde_json.specs.View.{view};
 ghost use Rattle.json_patch.specs.Operation.{AreWhole, add, copy, move, operation_of, operations, remove, replace, test};
-ghost use Rattle.json_patch.specs.PatchValue.{IfUnreadable, OfRefusal, ReadsFields, ReadsOperation, ReadsPatch, RefusesFields, RefusesOperation, RefusesPatch};
-ghost use Rattle.json_patch.specs.ReadSteps.{HasAnyFrom, IfUnread, IsPointerAt, without_number};
-ghost use Rattle.json_patch.specs.declared.reading.ItemFault.TheVariants.{Memory, Refused};
+ghost use Rattle.json_patch.specs.PatchValue.{IfUnreadAlone, IfUnreadable, ReadsFields, ReadsOperation, ReadsPatch, RefusesFields, RefusesOperation, RefusesPatch};
+ghost use Rattle.json_patch.specs.ReadSteps.{HasAnyFrom, IsPointerAt};
+ghost use Rattle.json_patch.specs.declared.error.ReadFault.TheVariants.{Refused};
 
 use crate::error::{ReadError, ReadFault, ReadKind};
 use crate::operation::{
@@ -19,54 +19,27 @@ use jsonptr::{Pointer, PointerBuf};
 use serde_json::Value;
 use std::alloc::{AllocError, Global};
 
-/// Why a value isn't read as an operation, whatever number it has.
-#[derive(Drop)]
-enum ItemFault {
-    Refused(ReadKind),
-    Memory(AllocError),
-}
+impl From<ReadKind> for ReadFault {
+    ghost from_gives = { λ kind fault. fault ≡ Refused (record { operation = None; kind = kind }) };
 
-impl From<ReadKind> for ItemFault {
-    ghost from_gives = { λ kind fault. fault ≡ Refused kind };
-
-    fn from(kind: ReadKind) -> ItemFault {
-        ItemFault::Refused(kind)
-    }
-}
-
-impl From<AllocError> for ItemFault {
-    ghost from_gives = { λ error fault. fault ≡ Memory error };
-
-    fn from(error: AllocError) -> ItemFault {
-        ItemFault::Memory(error)
-    }
-}
-
-impl From<ItemFault> for ReadFault {
-    ghost from_gives = { λ item fault. (fault ≡ without_number item)
-        × OfRefusal (λ e. e.operation ≡ None) fault };
-
-    fn from(fault: ItemFault) -> ReadFault {
-        match fault {
-            ItemFault::Refused(kind) => ReadFault::Refused(ReadError {
-                operation: None,
-                kind,
-            }),
-            ItemFault::Memory(error) => ReadFault::Memory(error),
-        }
+    fn from(kind: ReadKind) -> ReadFault {
+        ReadFault::Refused(ReadError {
+            operation: None,
+            kind,
+        })
     }
 }
 
 /// The member `path`, which is looked for after `from`, where there is to be one.
 #[tactic(auto, using(crate::proofs::PatchFaults::past_from))]
-fn read_path(alloc: Global, value: &Value) -> Result<PointerBuf, ItemFault>
+fn read_path(alloc: Global, value: &Value) -> Result<PointerBuf, ReadFault>
     ensures read { IfOk result (IsPointerAt (view value.now) (codes "path")) }
     ensures refused { (names : List (List ℕ)) → HasAnyFrom names (view value.now)
-        → IfUnread result (RefusesFields names (view value.now)) }
-    ensures alone { IfUnread result (RefusesFields (codes "path" ∷ []) (view value.now)) }
+        → IfUnreadAlone result (RefusesFields names (view value.now)) }
+    ensures alone { IfUnreadAlone result (RefusesFields (codes "path" ∷ []) (view value.now)) }
 {
     if !value.is_object() {
-        return Err(ItemFault::Refused(ReadKind::NotAnObject));
+        return Err(ReadFault::from(ReadKind::NotAnObject));
     }
     let member = value.get("path").ok_or(ReadKind::MissingPath)?;
     let text = member.as_str().ok_or(ReadKind::PathNotText)?;
@@ -76,27 +49,27 @@ fn read_path(alloc: Global, value: &Value) -> Result<PointerBuf, ItemFault>
 
 /// The members `path` and `value`, in this order.
 #[tactic(auto, using(crate::proofs::PatchFaults::past_path))]
-fn read_path_and_value(alloc: Global, value: &Value) -> Result<(PointerBuf, Value), ItemFault>
+fn read_path_and_value(alloc: Global, value: &Value) -> Result<(PointerBuf, Value), ReadFault>
     ensures read { IfOk result (λ r. ReadsFields (view value.now) (add r.0 (view r.1))) }
-    ensures refused { IfUnread result
+    ensures refused { IfUnreadAlone result
         (RefusesFields (codes "path" ∷ codes "value" ∷ []) (view value.now)) }
 {
     let path = read_path(alloc, value)?;
     let member = value.get("value").ok_or(ReadKind::MissingValue)?;
     if !is_whole(member) {
-        return Err(ItemFault::Refused(ReadKind::ValueNotWhole));
+        return Err(ReadFault::from(ReadKind::ValueNotWhole));
     }
     Ok((path, member.clone()?))
 }
 
 /// The members `from` and `path`, in this order.
-fn read_from_and_path(alloc: Global, value: &Value) -> Result<(PointerBuf, PointerBuf), ItemFault>
+fn read_from_and_path(alloc: Global, value: &Value) -> Result<(PointerBuf, PointerBuf), ReadFault>
     ensures read { IfOk result (λ r. ReadsFields (view value.now) (move r.0 r.1)) }
-    ensures refused { IfUnread result
+    ensures refused { IfUnreadAlone result
         (RefusesFields (codes "from" ∷ codes "path" ∷ []) (view value.now)) }
 {
     if !value.is_object() {
-        return Err(ItemFault::Refused(ReadKind::NotAnObject));
+        return Err(ReadFault::from(ReadKind::NotAnObject));
     }
     let member = value.get("from").ok_or(ReadKind::MissingFrom)?;
     let text = member.as_str().ok_or(ReadKind::FromNotText)?;
@@ -110,9 +83,8 @@ impl AddOperation {
     /// the first fault in the order of [`ReadKind`], or `Memory` where a growth was refused.
     pub fn from_value(alloc: Global, value: &Value) -> Result<AddOperation, ReadFault>
         ensures read { IfOk result (λ o. ReadsFields (view value.now) (add o.path (view o.value))) }
-        ensures refused { IfUnreadable result (λ e.
-            RefusesFields (codes "path" ∷ codes "value" ∷ []) (view value.now) e.kind) }
-        ensures unnumbered { IfUnreadable result (λ e. e.operation ≡ None) }
+        ensures refused { IfUnreadAlone result
+            (RefusesFields (codes "path" ∷ codes "value" ∷ []) (view value.now)) }
     {
         let (path, value) = read_path_and_value(alloc, value)?;
         Ok(AddOperation { path, value })
@@ -124,9 +96,7 @@ impl RemoveOperation {
     /// fault in the order of [`ReadKind`], or `Memory` where a growth was refused.
     pub fn from_value(alloc: Global, value: &Value) -> Result<RemoveOperation, ReadFault>
         ensures read { IfOk result (λ o. ReadsFields (view value.now) (remove o.path)) }
-        ensures refused { IfUnreadable result (λ e.
-            RefusesFields (codes "path" ∷ []) (view value.now) e.kind) }
-        ensures unnumbered { IfUnreadable result (λ e. e.operation ≡ None) }
+        ensures refused { IfUnreadAlone result (RefusesFields (codes "path" ∷ []) (view value.now)) }
     {
         let path = read_path(alloc, value)?;
         Ok(RemoveOperation { path })
@@ -139,9 +109,8 @@ impl ReplaceOperation {
     pub fn from_value(alloc: Global, value: &Value) -> Result<ReplaceOperation, ReadFault>
         ensures read { IfOk result (λ o.
             ReadsFields (view value.now) (replace o.path (view o.value))) }
-        ensures refused { IfUnreadable result (λ e.
-            RefusesFields (codes "path" ∷ codes "value" ∷ []) (view value.now) e.kind) }
-        ensures unnumbered { IfUnreadable result (λ e. e.operation ≡ None) }
+        ensures refused { IfUnreadAlone result
+            (RefusesFields (codes "path" ∷ codes "value" ∷ []) (view value.now)) }
     {
         let (path, value) = read_path_and_value(alloc, value)?;
         Ok(ReplaceOperation { path, value })
@@ -153,9 +122,8 @@ impl MoveOperation {
     /// the first fault in the order of [`ReadKind`], or `Memory` where a growth was refused.
     pub fn from_value(alloc: Global, value: &Value) -> Result<MoveOperation, ReadFault>
         ensures read { IfOk result (λ o. ReadsFields (view value.now) (move o.from o.path)) }
-        ensures refused { IfUnreadable result (λ e.
-            RefusesFields (codes "from" ∷ codes "path" ∷ []) (view value.now) e.kind) }
-        ensures unnumbered { IfUnreadable result (λ e. e.operation ≡ None) }
+        ensures refused { IfUnreadAlone result
+            (RefusesFields (codes "from" ∷ codes "path" ∷ []) (view value.now)) }
     {
         let (from, path) = read_from_and_path(alloc, value)?;
         Ok(MoveOperation { from, path })
@@ -167,9 +135,8 @@ impl CopyOperation {
     /// the first fault in the order of [`ReadKind`], or `Memory` where a growth was refused.
     pub fn from_value(alloc: Global, value: &Value) -> Result<CopyOperation, ReadFault>
         ensures read { IfOk result (λ o. ReadsFields (view value.now) (copy o.from o.path)) }
-        ensures refused { IfUnreadable result (λ e.
-            RefusesFields (codes "from" ∷ codes "path" ∷ []) (view value.now) e.kind) }
-        ensures unnumbered { IfUnreadable result (λ e. e.operation ≡ None) }
+        ensures refused { IfUnreadAlone result
+            (RefusesFields (codes "from" ∷ codes "path" ∷ []) (view value.now)) }
     {
         let (from, path) = read_from_and_path(alloc, value)?;
         Ok(CopyOperation { from, path })
@@ -182,9 +149,8 @@ impl TestOperation {
     pub fn from_value(alloc: Global, value: &Value) -> Result<TestOperation, ReadFault>
         ensures read { IfOk result (λ o.
             ReadsFields (view value.now) (test o.path (view o.value))) }
-        ensures refused { IfUnreadable result (λ e.
-            RefusesFields (codes "path" ∷ codes "value" ∷ []) (view value.now) e.kind) }
-        ensures unnumbered { IfUnreadable result (λ e. e.operation ≡ None) }
+        ensures refused { IfUnreadAlone result
+            (RefusesFields (codes "path" ∷ codes "value" ∷ []) (view value.now)) }
     {
         let (path, value) = read_path_and_value(alloc, value)?;
         Ok(TestOperation { path, value })
@@ -197,57 +163,30 @@ impl PatchOperation {
     /// of [`ReadKind`], or `Memory` where a growth was refused.
     pub fn from_value(alloc: Global, value: &Value) -> Result<PatchOperation, ReadFault>
         ensures read { IfOk result (λ o. ReadsOperation (view value.now) (operation_of o)) }
-        ensures refused { IfUnreadable result (λ e. RefusesOperation (view value.now) e.kind) }
-        ensures unnumbered { IfUnreadable result (λ e. e.operation ≡ None) }
+        ensures refused { IfUnreadAlone result (RefusesOperation (view value.now)) }
     {
-        Ok(read_operation(alloc, value)?)
+        match read_name(value)? {
+            "add" => Ok(PatchOperation::Add(AddOperation::from_value(alloc, value)?)),
+            "remove" => Ok(PatchOperation::Remove(RemoveOperation::from_value(alloc, value)?)),
+            "replace" => Ok(PatchOperation::Replace(ReplaceOperation::from_value(alloc, value)?)),
+            "move" => Ok(PatchOperation::Move(MoveOperation::from_value(alloc, value)?)),
+            "copy" => Ok(PatchOperation::Copy(CopyOperation::from_value(alloc, value)?)),
+            "test" => Ok(PatchOperation::Test(TestOperation::from_value(alloc, value)?)),
+            _ => Err(ReadFault::from(ReadKind::UnknownOp)),
+        }
     }
 }
 
 /// The member `op`.
-fn read_name(value: &Value) -> Result<&str, ItemFault>
+fn read_name(value: &Value) -> Result<&str, ReadFault>
     ensures read { IfOk result (λ n. get (codes "op") (view value.now) ≡ Some (string n.now)) }
-    ensures refused { IfUnread result (RefusesOperation (view value.now)) }
+    ensures refused { IfUnreadAlone result (RefusesOperation (view value.now)) }
 {
     if !value.is_object() {
-        return Err(ItemFault::Refused(ReadKind::NotAnObject));
+        return Err(ReadFault::from(ReadKind::NotAnObject));
     }
     let member = value.get("op").ok_or(ReadKind::MissingOp)?;
     Ok(member.as_str().ok_or(ReadKind::OpNotText)?)
-}
-
-/// The operation that the member `op` names, with its members.
-fn read_operation(alloc: Global, value: &Value) -> Result<PatchOperation, ItemFault>
-    ensures read { IfOk result (λ o. ReadsOperation (view value.now) (operation_of o)) }
-    ensures refused { IfUnread result (RefusesOperation (view value.now)) }
-{
-    match read_name(value)? {
-        "add" => {
-            let (path, value) = read_path_and_value(alloc, value)?;
-            Ok(PatchOperation::Add(AddOperation { path, value }))
-        }
-        "remove" => {
-            let path = read_path(alloc, value)?;
-            Ok(PatchOperation::Remove(RemoveOperation { path }))
-        }
-        "replace" => {
-            let (path, value) = read_path_and_value(alloc, value)?;
-            Ok(PatchOperation::Replace(ReplaceOperation { path, value }))
-        }
-        "move" => {
-            let (from, path) = read_from_and_path(alloc, value)?;
-            Ok(PatchOperation::Move(MoveOperation { from, path }))
-        }
-        "copy" => {
-            let (from, path) = read_from_and_path(alloc, value)?;
-            Ok(PatchOperation::Copy(CopyOperation { from, path }))
-        }
-        "test" => {
-            let (path, value) = read_path_and_value(alloc, value)?;
-            Ok(PatchOperation::Test(TestOperation { path, value }))
-        }
-        _ => Err(ItemFault::Refused(ReadKind::UnknownOp)),
-    }
 }
 
 impl Patch {
@@ -260,17 +199,18 @@ impl Patch {
             RefusesPatch (view value.now) e.operation e.kind) }
     {
         let Value::Array(items) = value else {
-            return Err(ReadFault::from(ItemFault::Refused(ReadKind::NotAList)));
+            return Err(ReadFault::from(ReadKind::NotAList));
         };
         let mut operations = Vec::new(alloc);
         for (number, item) in items.iter().enumerate() {
-            match read_operation(alloc, item) {
+            match PatchOperation::from_value(alloc, item) {
                 Ok(operation) => operations.push(operation).map_err(AllocError::from)?,
-                Err(ItemFault::Refused(kind)) => {
+                Err(ReadFault::Refused(error)) => {
                     let operation = Some(number);
+                    let kind = error.kind;
                     return Err(ReadFault::Refused(ReadError { operation, kind }));
                 }
-                Err(ItemFault::Memory(error)) => return Err(ReadFault::Memory(error)),
+                Err(fault) => return Err(fault),
             }
         }
         Ok(Patch(operations))

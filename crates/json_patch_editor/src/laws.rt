@@ -8,7 +8,7 @@ ghost use Rattle.json_patch_editor.specs.Shown.{redo_patches, undo_patches, vers
 ghost use Rattle.json_patch_editor.specs.Versions.{Versions};
 
 use crate::Editor;
-use json_patch::laws::runs;
+use json_patch::laws;
 
 /// One more command after a list of them.
 pub fn one_more_reply()
@@ -30,8 +30,7 @@ pub fn replied_once()
         → AreVersions vs → All IsWholeCommand cs
         → RepliesInTurn vs cs rs ws → RepliesInTurn vs cs ss us → (rs ≡ ss) × (ws ≡ us) }
 {
-    runs::run_ends();
-    runs::run_keeps_documents();
+    laws::runs();
 }
 
 /// Each list of commands has replies.
@@ -39,8 +38,7 @@ pub fn always_replied()
     ensures { (vs : Versions) (cs : List Command) → AreVersions vs → All IsWholeCommand cs
         → (rs : List Reply) × (ws : Versions) × RepliesInTurn vs cs rs ws × AreVersions ws }
 {
-    runs::run_ends();
-    runs::run_keeps_documents();
+    laws::runs();
 }
 
 /// At most `depth` versions stand beside the one here, after any commands.
@@ -61,7 +59,5 @@ pub fn stored_patches_lead(editor: &Editor)
         ≤ (versions editor.now).depth }
     ensures documents { AreVersions (versions editor.now) }
 {
-    runs::run_accepted();
-    runs::run_ends();
-    runs::run_keeps_documents();
+    laws::runs();
 }

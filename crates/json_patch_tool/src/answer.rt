@@ -70,8 +70,7 @@ fn record(alloc: Global, mut document: Value, value: &Value) -> Result<Value, To
     ensures fault { IfErr result (λ fault.
         fault ≢ Memory → IsNotPatched (view document) (view value.now) fault) }
 {
-    laws::values::written_reads_back();
-    laws::values::written_is_document();
+    laws::values();
     let operations = read_patch(alloc, &document, value)?;
     let undo = apply_patches(alloc, &mut document, operations.as_slice())?;
     Ok(pair(alloc, document, undo.to_value(alloc)?)?)

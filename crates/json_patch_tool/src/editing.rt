@@ -15,7 +15,6 @@ ghost use Rattle.json_patch_tool.specs.declared.fault.ToolFault.TheVariants.{Mem
 use crate::answer::pair;
 use crate::fault::ToolFault;
 use crate::input::line_of;
-use json_patch::laws::values;
 use json_patch::{Patch, PatchError, PatchErrorKind, PatchFault, ReadError, ReadKind, is_whole};
 use json_patch_editor::{Editor, laws};
 use serde_json::{Value, json};
@@ -70,7 +69,7 @@ fn read_items(alloc: Global, items: &Vec<Value>) -> Result<Vec<Command>, ToolFau
     ensures whole { IfOk result (λ commands. All IsWholeCommand (commands_of commands.items)) }
     ensures fault { IfErr result (IsNoCommands (array (items_view items.now.items))) }
 {
-    values::read_is_whole();
+    json_patch::laws::values();
     let mut commands = Vec::new(alloc);
     for item in items {
         match read_command(alloc, item) {

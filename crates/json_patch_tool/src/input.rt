@@ -59,7 +59,7 @@ pub(crate) fn line_of(alloc: Global, value: &Value) -> Result<String, AllocError
     ensures line { IfOk result (λ line. string_bytes line ≡ spec.line_of (view value.now)) }
     ensures reads_back { OnOk result (ReadsBack (view value.now)) }
 {
-    laws::documents::no_float();
+    laws::documents();
     let mut line = value.to_string(alloc)?;
     line.push('\n')?;
     Ok(line)

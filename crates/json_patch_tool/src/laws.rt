@@ -15,11 +15,10 @@ pub fn answered_once()
     ensures { (mode : Mode) (input : List ℕ) (a b : Result (List ℕ) ToolFault)
         → Answer mode input a → Answer mode input b → a ≡ b }
 {
-    values::read_or_refused();
-    values::read_is_whole();
-    runs::run_ends();
-    inverse::inverse_is_computed();
-    merging::merged_is_one();
+    values();
+    runs();
+    inverse();
+    merging();
     laws::replied_once();
     laws::always_replied();
 }
@@ -29,12 +28,11 @@ pub fn each_input_has_an_answer()
     ensures { (mode : Mode) (input : List ℕ)
         → (answer : Result (List ℕ) ToolFault) × Answer mode input answer }
 {
-    documents::document_or_not();
-    values::read_or_refused();
-    values::read_is_whole();
-    runs::run_ends();
-    inverse::inverse_is_computed();
-    merging::merged_is_one();
+    documents();
+    values();
+    runs();
+    inverse();
+    merging();
     laws::replied_once();
     laws::always_replied();
 }

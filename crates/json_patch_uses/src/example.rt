@@ -6,8 +6,7 @@ ghost use Rattle.serde_json.specs.View.{view};
 ghost use Rattle.json_patch.specs.Refusal.{IfRefused};
 
 use json_patch::jsonptr::PointerBuf;
-use json_patch::laws::runs;
-use json_patch::{AddOperation, PatchFault, PatchOperation, patch};
+use json_patch::{AddOperation, PatchFault, PatchOperation, laws, patch};
 use serde_json::{Value, json};
 use std::alloc::{AllocError, Global};
 
@@ -25,8 +24,7 @@ pub fn first_example(alloc: Global) -> Result<Value, PatchFault>
         (member (codes "foo") (string (codes "bar")) no_members))) }
     ensures accepted { IfRefused result (λ _. ⊥) }
 {
-    runs::run_accepted();
-    runs::run_refused();
+    laws::runs();
     let mut document = example_document(alloc)?;
     let mut path = PointerBuf::new();
     path.push_back(alloc, "baz")?;

@@ -11,8 +11,7 @@ ghost use Rattle.json_patch.specs.Step.{Never};
 ghost use Rattle.json_patch_uses.specs.Layers.{AreMerged, LeavesOut};
 
 use json_patch::jsonptr::Pointer;
-use json_patch::laws::{documents, merging};
-use json_patch::{lookup, merge};
+use json_patch::{laws, lookup, merge};
 use serde_json::Value;
 use std::alloc::{AllocError, Global};
 
@@ -26,7 +25,7 @@ pub fn merge_all(alloc: Global, base: &Value, layers: &[Value]) -> Result<Value,
     ensures unnamed { (k : List ℕ) → LeavesOut k layers.now
         → IfOk result (λ v. get k (view v) ≡ get k (view base.now)) }
 {
-    merging::unnamed_stays();
+    laws::merging();
     let mut settings = base.clone()?;
     for layer in layers {
         merge(alloc, &mut settings, layer)?;
@@ -41,7 +40,7 @@ pub fn number_or(settings: &Value, path: Pointer<'_>, default: u64) -> u64
     ensures unset { Never (StandsAt (view settings.now) (tokens_of path.entry))
         → result ≡ default }
 {
-    documents::found_is_computed();
+    laws::documents();
     match lookup(settings, path) {
         Some(value) => value.as_u64().unwrap_or(default),
         None => default,

@@ -9,8 +9,7 @@ ghost use Rattle.json_patch_uses.specs.Versioned.{HasVersion, IsVersionFault};
 ghost use Rattle.json_patch_uses.specs.declared.versioned.VersionFault.TheVariants.{Memory};
 
 use json_patch::jsonptr::PointerBuf;
-use json_patch::laws::documents;
-use json_patch::{Patch, PatchError, PatchFault, PatchOperation, TestOperation, patch};
+use json_patch::{Patch, PatchError, PatchFault, PatchOperation, TestOperation, laws, patch};
 use serde_json::Value;
 use std::alloc::{AllocError, Global};
 use thiserror::Error;
@@ -53,7 +52,7 @@ pub fn update_version(
     ensures unchanged { OnErr result (view doc.new ≡ view doc.old) }
     ensures document { IsDocument (view doc.new) }
 {
-    documents::found_is_computed();
+    laws::documents();
     let mut path = PointerBuf::new();
     path.push_back(alloc, "version")?;
     let value = Value::from(version);

@@ -3,17 +3,17 @@ use Rattle.json_patch_editor.proofs.Histories.{documents_of, lead, length-docume
 use Rattle.json_patch_editor.proofs.laws.stored_patches_lead.Goals as goal
 
 pub returns-clause-before : goal.returns-clause-before
-returns-clause-before c = lead c.run_accepted.ensures c.run_ends.ensures c.run_keeps_documents.ensures _ _ c.args.editor.now.whole c.args.editor.now.undoable
+returns-clause-before c = lead c.runs.ensures.run_accepted c.runs.ensures.run_ends c.runs.ensures.run_keeps_documents _ _ c.args.editor.now.whole c.args.editor.now.undoable
 
 pub returns-clause-after : goal.returns-clause-after
-returns-clause-after c = lead c.run_accepted.ensures c.run_ends.ensures c.run_keeps_documents.ensures _ _ c.args.editor.now.whole c.args.editor.now.redoable
+returns-clause-after c = lead c.runs.ensures.run_accepted c.runs.ensures.run_ends c.runs.ensures.run_keeps_documents _ _ c.args.editor.now.whole c.args.editor.now.redoable
 
 pub returns-clause-bounded : goal.returns-clause-bounded
 returns-clause-bounded c = omega (arith, length-documents_along _ _ c.args.editor.now.undoable, length-documents_along _ _ c.args.editor.now.redoable, c.args.editor.now.bounded)
 
 pub returns-clause-documents : goal.returns-clause-documents
 returns-clause-documents c = record {
-  before = documents_of c.run_accepted.ensures c.run_ends.ensures c.run_keeps_documents.ensures _ _ c.args.editor.now.whole c.args.editor.now.undoable;
+  before = documents_of c.runs.ensures.run_accepted c.runs.ensures.run_ends c.runs.ensures.run_keeps_documents _ _ c.args.editor.now.whole c.args.editor.now.undoable;
   here = c.args.editor.now.whole;
-  after = documents_of c.run_accepted.ensures c.run_ends.ensures c.run_keeps_documents.ensures _ _ c.args.editor.now.whole c.args.editor.now.redoable;
+  after = documents_of c.runs.ensures.run_accepted c.runs.ensures.run_ends c.runs.ensures.run_keeps_documents _ _ c.args.editor.now.whole c.args.editor.now.redoable;
 }

@@ -17,4 +17,4 @@ loop-item-preserved c =
     (rw e at c.loop-item-test.true) (rw e at c.item-item.is) c.loop-item.invariant c.in-Ok.ensures.read)
 
 pub returns-clause-whole : goal.returns-clause-whole
-returns-clause-whole c = commands_whole c.read_is_whole.ensures (items_view (take c.loop-item.item-index c.args.items.now.items)) _ c.loop-item.invariant
+returns-clause-whole c = commands_whole c.values.ensures.read_is_whole (items_view (take c.loop-item.item-index c.args.items.now.items)) _ c.loop-item.invariant

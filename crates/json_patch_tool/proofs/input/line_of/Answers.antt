@@ -4,9 +4,9 @@ use Rattle.serde_json.specs.Read.{read}
 use Rattle.json_patch_tool.proofs.input.line_of.Goals as goal
 
 pub returns-clause-line : goal.returns-clause-line
-returns-clause-line c = let text = c.in_ok-line.ensures.text (c.no_float.ensures _ c.requires) in search rules
+returns-clause-line c = let text = c.in_ok-line.ensures.text (c.documents.ensures.no_float _ c.requires) in search rules
 
 pub returns-clause-reads_back : goal.returns-clause-reads_back
 returns-clause-reads_back c fits nests =
-    let text = c.in_ok-line.ensures.text (c.no_float.ensures _ c.requires) in
+    let text = c.in_ok-line.ensures.text (c.documents.ensures.no_float _ c.requires) in
     (fits, subst IsUtf8 text (IsUtf8-string_bytes c.in_ok-line.line), ap read (sym text) ∙ c.in_ok-line.ensures.reads_back nests)

@@ -5,12 +5,12 @@ use Rattle.json_patch_tool.proofs.laws.each_input_has_an_answer.Goals as goal
 pub returns : goal.returns
 returns c =
     let below : Below = record {
-      read_or_refused = c.read_or_refused.ensures;
-      read_is_whole = c.read_is_whole.ensures;
-      run_ends = c.run_ends.ensures;
-      inverse_is_computed = c.inverse_is_computed.ensures;
-      merged_is_one = c.merged_is_one.ensures;
+      read_or_refused = c.values.ensures.read_or_refused;
+      read_is_whole = c.values.ensures.read_is_whole;
+      run_ends = c.runs.ensures.run_ends;
+      inverse_is_computed = c.inverse.ensures.inverse_is_computed;
+      merged_is_one = c.merging.ensures.merged_is_one;
       replied_once = c.replied_once.ensures;
       always_replied = c.always_replied.ensures;
     } in
-    each_has_an_answer below c.document_or_not.ensures
+    each_has_an_answer below c.documents.ensures.document_or_not

@@ -36,7 +36,7 @@ never_refused law d P v k kind h is at holds =
     let made : after_run before change ≡ Err (fault k kind) = (law before change (tt, tt, tt) (tt, tt) k kind).0 refused in cc
 
 pub returns-clause-made : goal.returns-clause-made
-returns-clause-made c = computed c.run_accepted.ensures (view c.in_ok-document.document) c.push_back.new.self (view c.in_ok-value.value) _ c.in_ok-patch.ensures.accepted c.in_ok-document.ensures (search rules) (search rules)
+returns-clause-made c = computed c.runs.ensures.run_accepted (view c.in_ok-document.document) c.push_back.new.self (view c.in_ok-value.value) _ c.in_ok-patch.ensures.accepted c.in_ok-document.ensures (search rules) (search rules)
 
 unrefused : {T : Type 0} → Refused → (d : Data) (P : List (List ℕ)) (v : Data) (r : Result T PatchFault) → IfRefused r (NamesFirst d (add P v ∷ [])) → d ≡ before → P ≡ codes "baz" ∷ [] → v ≡ string (codes "qux") → IfRefused r (λ e. ⊥)
 unrefused law d P v (Ok x) h is at holds = tt
@@ -44,4 +44,4 @@ unrefused law d P v (Err (fault_variants.Refused e)) h is at holds = never_refus
 unrefused law d P v (Err (fault_variants.Memory e)) h is at holds = tt
 
 pub returns-in_err-patch-clause-accepted : goal.returns-in_err-patch-clause-accepted
-returns-in_err-patch-clause-accepted c = unrefused c.run_refused.ensures (view c.in_ok-document.document) c.push_back.new.self (view c.in_ok-value.value) c.from_residual-in_err-patch.result (search rules) c.in_ok-document.ensures (search rules) (search rules)
+returns-in_err-patch-clause-accepted c = unrefused c.runs.ensures.run_refused (view c.in_ok-document.document) c.push_back.new.self (view c.in_ok-value.value) c.from_residual-in_err-patch.result (search rules) c.in_ok-document.ensures (search rules) (search rules)

@@ -12,4 +12,4 @@ loop-layer-preserved c =
 pub returns-clause-unnamed : goal.returns-clause-unnamed
 returns-clause-unnamed c =
     let merged : AreMerged (view c.args.base.now) (map view c.args.layers.now) (view c.loop-layer.settings) = grind (arith, common_steps) in
-    λ k. stays c.unnamed_stays.ensures k _ _ _ merged
+    λ k. stays c.merging.ensures.unnamed_stays k _ _ _ merged

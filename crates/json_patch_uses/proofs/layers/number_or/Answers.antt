@@ -14,7 +14,7 @@ as_read d n r default o e is u = u ∙ ap (λ x. unwrap_or x default) (is ∙ ap
 
 pub returns-in-Some-clause-set : goal.returns-in-Some-clause-set
 returns-in-Some-clause-set c = λ n h.
-    as_read _ n _ _ _ (one_stands c.found_is_computed.ensures _ _ _ _ c.in-Some.ensures.found h) c.as_u64.ensures c.unwrap_or.ensures
+    as_read _ n _ _ _ (one_stands c.documents.ensures.found_is_computed _ _ _ _ c.in-Some.ensures.found h) c.as_u64.ensures c.unwrap_or.ensures
 
 pub returns-in-Some-clause-unset : goal.returns-in-Some-clause-unset
 returns-in-Some-clause-unset c = λ never. absurd (never _ c.in-Some.ensures.found)

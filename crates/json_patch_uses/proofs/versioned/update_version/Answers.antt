@@ -10,10 +10,10 @@ pub returns-then-error-eq0-clause-fault : goal.returns-then-error-eq0-clause-fau
 returns-then-error-eq0-clause-fault c =
     let is : operations c.as_slice.result.now ≡ test (codes "version" ∷ []) (number (unsigned c.args.version)) ∷ operations c.args.changes.0.items = search rules in
     let named : NamesFirst (view c.args.doc.now) (operations c.as_slice.result.now) c.in-Err-Refused.error = search rules in
-    refused_first c.found_is_computed.ensures _ _ _ _ _ _ is named c.if-error-eq0.true
+    refused_first c.documents.ensures.found_is_computed _ _ _ _ _ _ is named c.if-error-eq0.true
 
 pub returns-clause-fault : goal.returns-clause-fault
 returns-clause-fault c =
     let is : operations c.as_slice.result.now ≡ test (codes "version" ∷ []) (number (unsigned c.args.version)) ∷ operations c.args.changes.0.items = search rules in
     let named : NamesFirst (view c.args.doc.now) (operations c.as_slice.result.now) c.in-Err-Refused.error = search rules in
-    refused_later c.found_is_computed.ensures _ _ _ _ _ _ is named (omega (arith, c.if-error-eq0.false))
+    refused_later c.documents.ensures.found_is_computed _ _ _ _ _ _ is named (omega (arith, c.if-error-eq0.false))

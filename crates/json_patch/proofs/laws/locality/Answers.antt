@@ -1,0 +1,13 @@
+use Rattle.json_patch.proofs.Locality.{runs_alike}
+use Rattle.json_patch.proofs.InversesBelow.{inverses_alike}
+use Rattle.json_patch.proofs.SharedTokens.{shared_iff}
+use Rattle.json_patch.proofs.laws.locality.Goals as goal
+
+pub returns-clause-local_run : goal.returns-clause-local_run
+returns-clause-local_run c = runs_alike
+
+pub returns-clause-local_inverse : goal.returns-clause-local_inverse
+returns-clause-local_inverse c = inverses_alike
+
+pub returns-clause-shared_is_computed : goal.returns-clause-shared_is_computed
+returns-clause-shared_is_computed c = shared_iff

@@ -1,5 +1,0 @@
-use Rattle.json_patch.proofs.PatchValues.{read_like_or_refused}
-use Rattle.json_patch.proofs.laws.values.read_like_or_refused.Goals as goal
-
-pub returns : goal.returns
-returns c = read_like_or_refused
