@@ -12,12 +12,13 @@ use Rattle.json_patch.specs.InPlace.{AreInPlace, IsInPlace, NeverShort}
 use Rattle.json_patch.specs.Inverse.{ArePlain, IsInverse}
 use Rattle.json_patch.specs.InverseComputed.{block, inverse}
 use Rattle.json_patch.specs.Operation.{Operation, AreWhole, IsWholeOp, operation_of, operations, path_of}
-use Rattle.json_patch.specs.Refusal.{NamesFirst, IfRefused}
+use Rattle.json_patch.specs.Refusal.{NamesFirst, IfRefused, IfShort}
 use Rattle.json_patch.specs.Run.{Accepts, RefusesAt, IsAccepted}
 use Rattle.json_patch.specs.RunComputed.{after_run, after_step}
 use Rattle.json_patch.specs.Step.{Leaves, Refuses}
 use Rattle.json_patch.specs.declared.error.PatchErrorKind.{PatchErrorKind}
 use Rattle.json_patch.specs.declared.error.PatchFault.{PatchFault}
+use Rattle.json_patch.specs.declared.error.PatchFault.TheVariants.{Memory}
 use Rattle.json_patch.specs.declared.operation.PatchOperation.{PatchOperation}
 use Rattle.json_patch.specs.declared.error.StepFault.{StepFault}
 use Rattle.json_patch.specs.declared.error.StepFault.TheVariants.{Refused as step_refused, Memory as step_short}
@@ -80,6 +81,10 @@ refused_with fault wanted new kind is h = subst (λ f. ComesTo {T = Unit {0}} (E
 pub reported_names : (U : Type 0) (out : PatchFault) (fault : StepFault) (d m new : Data) (os : List PatchOperation) (k : ℕ) (o : PatchOperation) → IsDocument d → AreWhole (operations os) → k < length os → IsAt os k o → IsState d os k m
     → ComesTo {T = Unit {0}} (Err fault) (after_step m (operation_of o)) new → Reports fault k (path_of (operation_of o)) out → IfRefused {T = U} (Err out) (NamesFirst d (operations os))
 reported_names U out fault d m new os k o hd hv less is h s r = search (rules, refused_with, state_refused, path_at)
+
+pub short_at : {P : Type 0} (r : Result (Unit {0}) PatchFault) → P → IfShort r P
+short_at (Err (Memory e)) p = p
+short_at r p = search rules
 
 -- ---- what a recorded run has recorded
 
