@@ -70,9 +70,5 @@ fn same_maps(xs: &Map<String, Value>, ys: &Map<String, Value>) -> bool
 fn same_numbers(x: &Number, y: &Number) -> bool
     ensures { result ≡ same_num (number_view x.now) (number_view y.now) }
 {
-    match (x.as_u64(), y.as_u64()) {
-        (Some(m), Some(n)) => m == n,
-        (None, None) => x.as_i64() == y.as_i64(),
-        _ => false,
-    }
+    x.as_u64() == y.as_u64() && x.as_i64() == y.as_i64()
 }

@@ -3,6 +3,8 @@
 ghost use Rattle.std.specs.Prelude.{◌≡◌, alloc_error};
 ghost use Rattle.json_patch.specs.declared.error.PatchErrorKind.TheVariants.{InvalidPointer};
 ghost use Rattle.json_patch.specs.declared.error.PatchFault.TheVariants.{Memory};
+ghost use Rattle.json_patch.specs.declared.error.ReadFault.TheVariants as read;
+ghost use Rattle.json_patch.specs.declared.error.StepFault.TheVariants as step;
 
 use jsonptr::index::{OutOfBoundsError, ParseIndexError};
 use jsonptr::{ParseError, PointerBuf};
@@ -50,9 +52,7 @@ pub(crate) enum StepFault {
 }
 
 impl From<PatchErrorKind> for StepFault {
-    ghost use Rattle.json_patch.specs.declared.error.StepFault.TheVariants.{Refused};
-
-    ghost from_gives = { λ kind fault. fault ≡ Refused kind };
+    ghost from_gives = { λ kind fault. fault ≡ step.Refused kind };
 
     fn from(kind: PatchErrorKind) -> StepFault {
         StepFault::Refused(kind)
@@ -60,9 +60,7 @@ impl From<PatchErrorKind> for StepFault {
 }
 
 impl<T: Drop> From<AllocFailed<T>> for StepFault {
-    ghost use Rattle.json_patch.specs.declared.error.StepFault.TheVariants.{Memory};
-
-    ghost from_gives = { λ _ fault. fault ≡ Memory alloc_error };
+    ghost from_gives = { λ _ fault. fault ≡ step.Memory alloc_error };
 
     fn from(_failed: AllocFailed<T>) -> StepFault {
         StepFault::Memory(AllocError)
@@ -70,9 +68,7 @@ impl<T: Drop> From<AllocFailed<T>> for StepFault {
 }
 
 impl From<AllocError> for StepFault {
-    ghost use Rattle.json_patch.specs.declared.error.StepFault.TheVariants.{Memory};
-
-    ghost from_gives = { λ error fault. fault ≡ Memory error };
+    ghost from_gives = { λ error fault. fault ≡ step.Memory error };
 
     fn from(error: AllocError) -> StepFault {
         StepFault::Memory(error)
@@ -196,9 +192,7 @@ pub enum ReadFault {
 }
 
 impl From<AllocError> for ReadFault {
-    ghost use Rattle.json_patch.specs.declared.error.ReadFault.TheVariants.{Memory};
-
-    ghost from_gives = { λ error fault. fault ≡ Memory error };
+    ghost from_gives = { λ error fault. fault ≡ read.Memory error };
 
     fn from(error: AllocError) -> ReadFault {
         ReadFault::Memory(error)

@@ -205,9 +205,8 @@ impl Patch {
         for (number, item) in items.iter().enumerate() {
             match PatchOperation::from_value(alloc, item) {
                 Ok(operation) => operations.push(operation).map_err(AllocError::from)?,
-                Err(ReadFault::Refused(error)) => {
+                Err(ReadFault::Refused(ReadError { kind, .. })) => {
                     let operation = Some(number);
-                    let kind = error.kind;
                     return Err(ReadFault::Refused(ReadError { operation, kind }));
                 }
                 Err(fault) => return Err(fault),

@@ -38,10 +38,7 @@ impl PatchOperation {
     fn is_whole(&self) -> bool
         ensures { IsTrue result ↔ IsWholeOp (operation_of self.now) }
     {
-        match self.parts().value {
-            Some(value) => is_whole(value),
-            None => true,
-        }
+        self.parts().value.is_none_or(is_whole)
     }
 }
 
@@ -88,8 +85,5 @@ fn is_whole_number(number: &Number) -> bool
     ensures no_float { result ≡ not (is_float (number_view number.now)) }
     ensures whole { IsTrue result → IsWhole (number_view number.now) }
 {
-    match number.as_u64() {
-        Some(_n) => true,
-        None => number.as_i64().is_some(),
-    }
+    number.as_u64().is_some() || number.as_i64().is_some()
 }

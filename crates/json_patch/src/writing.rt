@@ -38,12 +38,8 @@ pub(crate) fn to_object(
     let mut members = Map::new(alloc);
     put_value(alloc, &mut members, "value", parts.value)?;
     put_text(alloc, &mut members, "path", Some(parts.path.as_str()))?;
-    put_text(
-        alloc,
-        &mut members,
-        "from",
-        parts.from.map(PointerBuf::as_str),
-    )?;
+    let from = parts.from.map(PointerBuf::as_str);
+    put_text(alloc, &mut members, "from", from)?;
     put_text(alloc, &mut members, "op", name)?;
     Ok(Value::Object(members))
 }
@@ -82,9 +78,7 @@ fn put_text(
     let Some(text) = text else {
         return Ok(());
     };
-    members.insert(
-        String::from_str(alloc, name)?,
-        Value::String(String::from_str(alloc, text)?),
-    )?;
+    let value = Value::String(String::from_str(alloc, text)?);
+    members.insert(String::from_str(alloc, name)?, value)?;
     Ok(())
 }
