@@ -1,5 +1,5 @@
 -- For private clauses: what a run has log_of, and which operations can be taken back with no memory.
-use Rattle.std.specs.Prelude.{◌≡◌, ℕ, List, [], ◌∷◌, ◌++◌, Option, Some, None, Result, Ok, Err, take}
+use Rattle.std.specs.Prelude.{◌≡◌, ◌≤◌, ◌<◌, ℕ, List, [], ◌∷◌, ◌++◌, Option, Some, None, Result, Ok, Err, take}
 use mathlib.Core.List.{reverse}
 use Rattle.serde_json.specs.Data.{Data, array}
 use Rattle.serde_json.specs.Events.{items_len}
@@ -10,9 +10,11 @@ use Rattle.json_patch.specs.InPlace.{AreUnescaped}
 use Rattle.json_patch.specs.InverseComputed.{inverse}
 use Rattle.json_patch.specs.Operation.{Operation, IsMove, add, remove, replace, move, copy, test}
 use Rattle.json_patch.specs.PartRun.{block_at}
+use Rattle.json_patch.specs.Refusal.{IfRefused, NamesFirst}
 use Rattle.json_patch.specs.Run.{Accepts}
 use Rattle.json_patch.specs.RunComputed.{after_step}
 use Rattle.json_patch.specs.SharedComputed.{strip}
+use Rattle.json_patch.specs.declared.error.PatchFault.{PatchFault}
 use Rattle.json_patch.specs.declared.error.StepFault.{StepFault}
 use Rattle.json_patch.specs.declared.record.Keep.{Keep}
 use Rattle.json_patch.specs.declared.record.Keep.TheVariants.{Inverse, Nothing}
@@ -81,3 +83,20 @@ pub record IsNotLogged (fault : StepFault) (d e : Data) (S : Pointer) (op : Oper
 abbrev pub Records : {T : Type 0} → Keep → Result T StepFault → Data → Data → Pointer → Operation → List Operation → List Operation → Type 0
 Records keep (Ok x) d e S op olds news = IsLogged keep d e S op olds news
 Records keep (Err fault) d e S op olds news = IsNotLogged fault d e S op olds news
+
+-- the operations from `start` to before `end` make e of m, and the log, if it is kept, is that of all before `end`
+pub record AreMade (keep : Keep) (m e : Data) (ops : List Operation) (start end : ℕ) (olds news : List Operation) : Type 0 where
+  pub accepted : From m ops start (λ d. Accepts d (take end ops) e)
+  pub recorded : keep ≡ Inverse → From m ops start (λ d. AreRecorded d ops start olds → AreRecorded d ops end news)
+
+-- none of them is made: the document and the log are as they were, and a refusal is the first of the run, and one of these
+pub record AreNotMade (fault : PatchFault) (m e : Data) (ops : List Operation) (start end : ℕ) (olds news : List Operation) : Type 0 where
+  pub refused : From m ops start (λ d. IfRefused {T = Unit {0}} (Err fault) (NamesFirst d ops))
+  pub at : IfRefused {T = Unit {0}} (Err fault) (λ refusal. (start ≤ refusal.operation) × (refusal.operation < end))
+  pub unchanged : e ≡ m
+  pub kept : news ≡ olds
+
+-- what a run of these operations leaves
+abbrev pub RunsPart : Keep → Result (Unit {0}) PatchFault → Data → Data → List Operation → ℕ → ℕ → List Operation → List Operation → Type 0
+RunsPart keep (Ok x) m e ops start end olds news = AreMade keep m e ops start end olds news
+RunsPart keep (Err fault) m e ops start end olds news = AreNotMade fault m e ops start end olds news

@@ -12,7 +12,7 @@ ghost use Rattle.json_patch.specs.InverseComputed.{inverse};
 ghost use Rattle.json_patch.specs.Operation.{AreWhole, IsMove, operation_of, operations, path_of};
 ghost use Rattle.json_patch.specs.Refusal.{IfRefused, NamesFirst, IfShort};
 ghost use Rattle.json_patch.specs.Run.{Accepts, IsAccepted};
-ghost use Rattle.json_patch.specs.Undoing.{AreRecorded, From};
+ghost use Rattle.json_patch.specs.Undoing.{From, RunsPart};
 ghost use Rattle.json_patch.specs.declared.record.Keep.TheVariants.{Inverse, Nothing};
 
 use crate::error::{PatchError, PatchFault, StepFault};
@@ -163,16 +163,8 @@ fn run_part(
     requires whole { AreWhole (operations patch.now) }
     requires order { start ≤ end }
     requires within { end ≤ length patch.now }
-    ensures accepted { OnOk result (From (view doc.old) (operations patch.now) start
-        (λ d. Accepts d (take end (operations patch.now)) (view doc.new))) }
-    ensures recorded { OnOk result (keep ≡ Inverse → From (view doc.old) (operations patch.now) start
-        (λ d. AreRecorded d (operations patch.now) start (operations undo.old.items)
-        → AreRecorded d (operations patch.now) end (operations undo.new.items))) }
-    ensures refused { From (view doc.old) (operations patch.now) start
-        (λ d. IfRefused result (NamesFirst d (operations patch.now))) }
-    ensures at { IfRefused result (λ e. (start ≤ e.operation) × (e.operation < end)) }
-    ensures unchanged { OnErr result (view doc.new ≡ view doc.old) }
-    ensures kept { OnErr result (operations undo.new.items ≡ operations undo.old.items) }
+    ensures made { RunsPart keep result (view doc.old) (view doc.new) (operations patch.now)
+        start end (operations undo.old.items) (operations undo.new.items) }
     ensures in_place { keep ≡ Nothing → end ≤ start + 1 → AreInPlace (operations patch.now)
         → From (view doc.old) (operations patch.now) start
         (λ d. (e : Data) → Accepts d (operations patch.now) e → IsOk result) }
@@ -213,16 +205,8 @@ fn run_on_copy(
     requires whole { AreWhole (operations patch.now) }
     requires order { start ≤ end }
     requires within { end ≤ length patch.now }
-    ensures accepted { OnOk result (From (view doc.old) (operations patch.now) start
-        (λ d. Accepts d (take end (operations patch.now)) (view doc.new))) }
-    ensures recorded { OnOk result (keep ≡ Inverse → From (view doc.old) (operations patch.now) start
-        (λ d. AreRecorded d (operations patch.now) start (operations undo.old.items)
-        → AreRecorded d (operations patch.now) end (operations undo.new.items))) }
-    ensures refused { From (view doc.old) (operations patch.now) start
-        (λ d. IfRefused result (NamesFirst d (operations patch.now))) }
-    ensures at { IfRefused result (λ e. (start ≤ e.operation) × (e.operation < end)) }
-    ensures unchanged { OnErr result (view doc.new ≡ view doc.old) }
-    ensures kept { OnErr result (operations undo.new.items ≡ operations undo.old.items) }
+    ensures made { RunsPart keep result (view doc.old) (view doc.new) (operations patch.now)
+        start end (operations undo.old.items) (operations undo.new.items) }
 {
     let kept = undo.len();
     let (base, part) = copied_part(doc, &patch[start..end])?;

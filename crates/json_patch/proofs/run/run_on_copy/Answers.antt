@@ -1,4 +1,4 @@
-use Rattle.std.proofs.Common.{◌≡◌, ◌<◌, ◌≤◌, take, length, ap, ◌∙◌, arith, rules}
+use Rattle.std.proofs.Common.{◌≡◌, ◌<◌, ◌≤◌, take, length, refl, ap, ◌∙◌, arith, rules}
 use Rattle.std.proofs.lemmas.List.{length-map, take-map}
 use Rattle.serde_json.specs.View.{view}
 use Rattle.jsonptr.specs.Pointers.{tokens_of}
@@ -16,18 +16,22 @@ step_keeping-requires c =
     begun_part (tokens_of c.in_ok-base.base) (operation_of c.index-patch-number.result)
     (part_at (tokens_of c.in_ok-base.base) c.args.patch.now c.args.start c.args.end c.loop-number.number c.index-patch-number.result c.loop-number.invariant.from c.loop-number-test.true c.requires.within c.index-patch-number.is c.in_ok-base.ensures.0)
 
-pub returns-in-Err-clause-refused : goal.returns-in-Err-clause-refused
-returns-in-Err-clause-refused c = λ d hd s.
-    let o = c.index-patch-number.result in let k = c.loop-number.number in
-    let less : k < c.args.end = c.loop-number-test.true in let most : c.args.end ≤ length c.args.patch.now = c.requires.within in
-    let p : Part d (view c.args.doc.now) c.args.patch.now k (tokens_of c.in_ok-base.base) (view c.loop-number.work) = c.loop-number.invariant.part d hd s in
-    let at : IsAtPart (tokens_of c.in_ok-base.base) (operation_of o) =
-    part_at (tokens_of c.in_ok-base.base) c.args.patch.now c.args.start c.args.end k o c.loop-number.invariant.from less most c.index-patch-number.is c.in_ok-base.ensures.0 in
-    reported_names (Unit {0}) c.reported.result c.in-Err.fault d p.x p.x c.args.patch.now k o hd c.requires.whole (omega arith) c.index-patch-number.is p.state
-    (part_stops p.x (tokens_of c.in_ok-base.base) (view c.loop-number.work) (operation_of o) p.document p.there (Unit {0}) (Unit {0}) c.in-Err.fault (view c.step_keeping.new.doc) p.x at c.in-Err.ensures.made.refused) c.reported.ensures
-
-pub returns-in-Err-clause-kept : goal.returns-in-Err-clause-kept
-returns-in-Err-clause-kept c = search (rules, take-map)
+pub returns-in-Err : goal.returns-in-Err
+returns-in-Err c = record {
+  made = record {
+    refused = λ d hd s.
+        let o = c.index-patch-number.result in let k = c.loop-number.number in
+        let less : k < c.args.end = c.loop-number-test.true in let most : c.args.end ≤ length c.args.patch.now = c.requires.within in
+        let p : Part d (view c.args.doc.now) c.args.patch.now k (tokens_of c.in_ok-base.base) (view c.loop-number.work) = c.loop-number.invariant.part d hd s in
+        let at : IsAtPart (tokens_of c.in_ok-base.base) (operation_of o) =
+        part_at (tokens_of c.in_ok-base.base) c.args.patch.now c.args.start c.args.end k o c.loop-number.invariant.from less most c.index-patch-number.is c.in_ok-base.ensures.0 in
+        reported_names (Unit {0}) c.reported.result c.in-Err.fault d p.x p.x c.args.patch.now k o hd c.requires.whole (omega arith) c.index-patch-number.is p.state
+        (part_stops p.x (tokens_of c.in_ok-base.base) (view c.loop-number.work) (operation_of o) p.document p.there (Unit {0}) (Unit {0}) c.in-Err.fault (view c.step_keeping.new.doc) p.x at c.in-Err.ensures.made.refused) c.reported.ensures;
+    at = search (rules, arith);
+    unchanged = refl;
+    kept = search (rules, take-map);
+  };
+}
 
 pub loop-number-preserved : goal.loop-number-preserved
 loop-number-preserved c =
@@ -49,8 +53,8 @@ loop-number-preserved c =
           ∙ take_more c.len-kept.result (operations c.loop-number.undo.items) _ (operations c.args.undo.now.items) c.loop-number.invariant.kept (same ∙ same_count c.args.undo.now c.len-kept.result c.len-kept.ensures);
     }
 
-pub returns-then-is_err-clause-kept : goal.returns-then-is_err-clause-kept
-returns-then-is_err-clause-kept c = search (rules, take-map)
+pub returns-then-is_err : goal.returns-then-is_err
+returns-then-is_err c = record { made = record { refused = search rules; at = search rules; unchanged = search rules; kept = search (rules, take-map) } }
 
-pub returns-clause-accepted : goal.returns-clause-accepted
-returns-clause-accepted c = search (rules, ended_at, part_end, made_put)
+pub returns : goal.returns
+returns c = search (rules, ended_at, part_end, made_put)
