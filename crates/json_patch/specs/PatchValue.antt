@@ -100,6 +100,13 @@ HasNoDocument v k = (d : Data) × (get k v ≡ Some d) × (IsDocument d → ⊥)
 abbrev pub IsOneOf : List (List ℕ) → List ℕ → Type 0
 IsOneOf names k = IsTrue (list_any (bytes_eq k) names)
 
+-- which members an operation has besides `op`, where there are two
+abbrev pub path_and_value : List (List ℕ)
+path_and_value = codes "path" ∷ codes "value" ∷ []
+
+abbrev pub from_and_path : List (List ℕ)
+from_and_path = codes "from" ∷ codes "path" ∷ []
+
 -- what is at fault with v, where an operation is to be read that has members of these names
 abbrev pub IsFieldFault : List (List ℕ) → Data → ReadKind → Type 0
 IsFieldFault names v NotAnObject = IsObject v → ⊥

@@ -41,11 +41,9 @@ fn same_lists(xs: &Vec<Value>, ys: &Vec<Value>) -> bool
 {
     let mut others = ys.iter();
     for x in xs {
-        let Some(y) = others.next() else {
-            return false;
-        };
-        if !same_values(x, y) {
-            return false;
+        match others.next() {
+            Some(y) if same_values(x, y) => {}
+            _ => return false,
         }
     }
     others.next().is_none()
@@ -57,11 +55,9 @@ fn same_maps(xs: &Map<String, Value>, ys: &Map<String, Value>) -> bool
 {
     let mut others = ys.iter();
     for (name, x) in xs.iter() {
-        let Some((other, y)) = others.next() else {
-            return false;
-        };
-        if name.as_str() != other.as_str() || !same_values(x, y) {
-            return false;
+        match others.next() {
+            Some((other, y)) if name.as_str() == other.as_str() && same_values(x, y) => {}
+            _ => return false,
         }
     }
     others.next().is_none()

@@ -42,10 +42,9 @@ impl AddOperation {
     pub fn clone(&self, alloc: Global) -> Result<AddOperation, AllocError>
         ensures { IfOk result (λ copy. add_of copy ≡ add_of self.now) }
     {
-        Ok(AddOperation {
-            path: self.path.clone(alloc)?,
-            value: self.value.clone()?,
-        })
+        let path = self.path.clone(alloc)?;
+        let value = self.value.clone()?;
+        Ok(AddOperation { path, value })
     }
 
     /// The object of the members `path` and `value`.
@@ -72,9 +71,8 @@ impl RemoveOperation {
     pub fn clone(&self, alloc: Global) -> Result<RemoveOperation, AllocError>
         ensures { IfOk result (λ copy. remove_of copy ≡ remove_of self.now) }
     {
-        Ok(RemoveOperation {
-            path: self.path.clone(alloc)?,
-        })
+        let path = self.path.clone(alloc)?;
+        Ok(RemoveOperation { path })
     }
 
     /// The object of the member `path`.
@@ -101,10 +99,9 @@ impl ReplaceOperation {
     pub fn clone(&self, alloc: Global) -> Result<ReplaceOperation, AllocError>
         ensures { IfOk result (λ copy. replace_of copy ≡ replace_of self.now) }
     {
-        Ok(ReplaceOperation {
-            path: self.path.clone(alloc)?,
-            value: self.value.clone()?,
-        })
+        let path = self.path.clone(alloc)?;
+        let value = self.value.clone()?;
+        Ok(ReplaceOperation { path, value })
     }
 
     /// The object of the members `path` and `value`.
@@ -131,10 +128,9 @@ impl MoveOperation {
     pub fn clone(&self, alloc: Global) -> Result<MoveOperation, AllocError>
         ensures { IfOk result (λ copy. move_of copy ≡ move_of self.now) }
     {
-        Ok(MoveOperation {
-            from: self.from.clone(alloc)?,
-            path: self.path.clone(alloc)?,
-        })
+        let from = self.from.clone(alloc)?;
+        let path = self.path.clone(alloc)?;
+        Ok(MoveOperation { from, path })
     }
 
     /// The object of the members `from` and `path`.
@@ -161,10 +157,9 @@ impl CopyOperation {
     pub fn clone(&self, alloc: Global) -> Result<CopyOperation, AllocError>
         ensures { IfOk result (λ copy. copy_of copy ≡ copy_of self.now) }
     {
-        Ok(CopyOperation {
-            from: self.from.clone(alloc)?,
-            path: self.path.clone(alloc)?,
-        })
+        let from = self.from.clone(alloc)?;
+        let path = self.path.clone(alloc)?;
+        Ok(CopyOperation { from, path })
     }
 
     /// The object of the members `from` and `path`.
@@ -191,10 +186,9 @@ impl TestOperation {
     pub fn clone(&self, alloc: Global) -> Result<TestOperation, AllocError>
         ensures { IfOk result (λ copy. test_of copy ≡ test_of self.now) }
     {
-        Ok(TestOperation {
-            path: self.path.clone(alloc)?,
-            value: self.value.clone()?,
-        })
+        let path = self.path.clone(alloc)?;
+        let value = self.value.clone()?;
+        Ok(TestOperation { path, value })
     }
 
     /// The object of the members `path` and `value`.

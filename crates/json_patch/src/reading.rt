@@ -4,8 +4,8 @@ ghost use Rattle.std.specs.Prelude.{◌≡◌, ◌∷◌, [], codes, IfOk, List,
 ghost use Rattle.serde_json.specs.Data.{string};
 ghost use Rattle.serde_json.specs.Find.{get};
 ghost use Rattle.serde_json.specs.View.{view};
-ghost use Rattle.json_patch.specs.Operation.{AreWhole, add, copy, move, operation_of, operations, remove, replace, test};
-ghost use Rattle.json_patch.specs.PatchValue.{IfUnreadAlone, IfUnreadable, ReadsFields, ReadsOperation, ReadsPatch, RefusesFields, RefusesOperation, RefusesPatch};
+ghost use Rattle.json_patch.specs.Operation.{AreWhole, add, add_of, copy_of, move, move_of, operation_of, operations, remove_of, replace_of, test_of};
+ghost use Rattle.json_patch.specs.PatchValue.{IfUnreadAlone, IfUnreadable, from_and_path, path_and_value, ReadsFields, ReadsOperation, ReadsPatch, RefusesFields, RefusesOperation, RefusesPatch};
 ghost use Rattle.json_patch.specs.ReadSteps.{HasAnyFrom, IsPointerAt};
 ghost use Rattle.json_patch.specs.declared.error.ReadFault.TheVariants.{Refused};
 
@@ -51,8 +51,7 @@ fn read_path(alloc: Global, value: &Value) -> Result<PointerBuf, ReadFault>
 #[tactic(auto, using(crate::proofs::PatchFaults::past_path))]
 fn read_path_and_value(alloc: Global, value: &Value) -> Result<(PointerBuf, Value), ReadFault>
     ensures read { IfOk result (λ r. ReadsFields (view value.now) (add r.0 (view r.1))) }
-    ensures refused { IfUnreadAlone result
-        (RefusesFields (codes "path" ∷ codes "value" ∷ []) (view value.now)) }
+    ensures refused { IfUnreadAlone result (RefusesFields path_and_value (view value.now)) }
 {
     let path = read_path(alloc, value)?;
     let member = value.get("value").ok_or(ReadKind::MissingValue)?;
@@ -65,8 +64,7 @@ fn read_path_and_value(alloc: Global, value: &Value) -> Result<(PointerBuf, Valu
 /// The members `from` and `path`, in this order.
 fn read_from_and_path(alloc: Global, value: &Value) -> Result<(PointerBuf, PointerBuf), ReadFault>
     ensures read { IfOk result (λ r. ReadsFields (view value.now) (move r.0 r.1)) }
-    ensures refused { IfUnreadAlone result
-        (RefusesFields (codes "from" ∷ codes "path" ∷ []) (view value.now)) }
+    ensures refused { IfUnreadAlone result (RefusesFields from_and_path (view value.now)) }
 {
     if !value.is_object() {
         return Err(ReadFault::from(ReadKind::NotAnObject));
@@ -82,9 +80,8 @@ impl AddOperation {
     /// Reads the members `path` and `value` of an object; others, `op` too, are ignored. Answers
     /// the first fault in the order of [`ReadKind`], or `Memory` where a growth was refused.
     pub fn from_value(alloc: Global, value: &Value) -> Result<AddOperation, ReadFault>
-        ensures read { IfOk result (λ o. ReadsFields (view value.now) (add o.path (view o.value))) }
-        ensures refused { IfUnreadAlone result
-            (RefusesFields (codes "path" ∷ codes "value" ∷ []) (view value.now)) }
+        ensures read { IfOk result (λ o. ReadsFields (view value.now) (add_of o)) }
+        ensures refused { IfUnreadAlone result (RefusesFields path_and_value (view value.now)) }
     {
         let (path, value) = read_path_and_value(alloc, value)?;
         Ok(AddOperation { path, value })
@@ -95,7 +92,7 @@ impl RemoveOperation {
     /// Reads the member `path` of an object; others, `op` too, are ignored. Answers the first
     /// fault in the order of [`ReadKind`], or `Memory` where a growth was refused.
     pub fn from_value(alloc: Global, value: &Value) -> Result<RemoveOperation, ReadFault>
-        ensures read { IfOk result (λ o. ReadsFields (view value.now) (remove o.path)) }
+        ensures read { IfOk result (λ o. ReadsFields (view value.now) (remove_of o)) }
         ensures refused { IfUnreadAlone result (RefusesFields (codes "path" ∷ []) (view value.now)) }
     {
         let path = read_path(alloc, value)?;
@@ -107,10 +104,8 @@ impl ReplaceOperation {
     /// Reads the members `path` and `value` of an object; others, `op` too, are ignored. Answers
     /// the first fault in the order of [`ReadKind`], or `Memory` where a growth was refused.
     pub fn from_value(alloc: Global, value: &Value) -> Result<ReplaceOperation, ReadFault>
-        ensures read { IfOk result (λ o.
-            ReadsFields (view value.now) (replace o.path (view o.value))) }
-        ensures refused { IfUnreadAlone result
-            (RefusesFields (codes "path" ∷ codes "value" ∷ []) (view value.now)) }
+        ensures read { IfOk result (λ o. ReadsFields (view value.now) (replace_of o)) }
+        ensures refused { IfUnreadAlone result (RefusesFields path_and_value (view value.now)) }
     {
         let (path, value) = read_path_and_value(alloc, value)?;
         Ok(ReplaceOperation { path, value })
@@ -121,9 +116,8 @@ impl MoveOperation {
     /// Reads the members `from` and `path` of an object; others, `op` too, are ignored. Answers
     /// the first fault in the order of [`ReadKind`], or `Memory` where a growth was refused.
     pub fn from_value(alloc: Global, value: &Value) -> Result<MoveOperation, ReadFault>
-        ensures read { IfOk result (λ o. ReadsFields (view value.now) (move o.from o.path)) }
-        ensures refused { IfUnreadAlone result
-            (RefusesFields (codes "from" ∷ codes "path" ∷ []) (view value.now)) }
+        ensures read { IfOk result (λ o. ReadsFields (view value.now) (move_of o)) }
+        ensures refused { IfUnreadAlone result (RefusesFields from_and_path (view value.now)) }
     {
         let (from, path) = read_from_and_path(alloc, value)?;
         Ok(MoveOperation { from, path })
@@ -134,9 +128,8 @@ impl CopyOperation {
     /// Reads the members `from` and `path` of an object; others, `op` too, are ignored. Answers
     /// the first fault in the order of [`ReadKind`], or `Memory` where a growth was refused.
     pub fn from_value(alloc: Global, value: &Value) -> Result<CopyOperation, ReadFault>
-        ensures read { IfOk result (λ o. ReadsFields (view value.now) (copy o.from o.path)) }
-        ensures refused { IfUnreadAlone result
-            (RefusesFields (codes "from" ∷ codes "path" ∷ []) (view value.now)) }
+        ensures read { IfOk result (λ o. ReadsFields (view value.now) (copy_of o)) }
+        ensures refused { IfUnreadAlone result (RefusesFields from_and_path (view value.now)) }
     {
         let (from, path) = read_from_and_path(alloc, value)?;
         Ok(CopyOperation { from, path })
@@ -147,10 +140,8 @@ impl TestOperation {
     /// Reads the members `path` and `value` of an object; others, `op` too, are ignored. Answers
     /// the first fault in the order of [`ReadKind`], or `Memory` where a growth was refused.
     pub fn from_value(alloc: Global, value: &Value) -> Result<TestOperation, ReadFault>
-        ensures read { IfOk result (λ o.
-            ReadsFields (view value.now) (test o.path (view o.value))) }
-        ensures refused { IfUnreadAlone result
-            (RefusesFields (codes "path" ∷ codes "value" ∷ []) (view value.now)) }
+        ensures read { IfOk result (λ o. ReadsFields (view value.now) (test_of o)) }
+        ensures refused { IfUnreadAlone result (RefusesFields path_and_value (view value.now)) }
     {
         let (path, value) = read_path_and_value(alloc, value)?;
         Ok(TestOperation { path, value })

@@ -1,5 +1,6 @@
-//! Laws over the definitions, each the contract of a public function that does nothing: it is for
-//! proofs to cite, and never called. `specs::PlaceLaws` and `specs::TextLaws` have them as lemmas.
+//! Laws over the definitions: the clauses of functions that do nothing, one for each subject. They
+//! are for proofs to cite, and never called by a program. `specs::PlaceLaws` and `specs::TextLaws`
+//! have them as lemmas.
 
 ghost use Rattle.std.specs.Prelude.{◌≡◌, ◌↔◌, ◌⊎◌, ◌<◌, ◌^◌, ℕ, List, Some, None, decimal};
 ghost use Rattle.jsonptr.specs.Faults.{IsFault};
@@ -8,55 +9,37 @@ ghost use Rattle.jsonptr.specs.Text.{Pointer, IsPointerText, encoded, text_of};
 
 use crate::ParseError;
 
-/// A token names a place exactly where it is the decimal text of that place.
-#[tactic(auto, using(crate::specs::PlaceLaws::place_is_token))]
-pub fn place_is_token()
-    ensures { (t : List ℕ) (i : ℕ) → (place_of t ≡ Some i) ↔ (t ≡ decimal_token i) }
+/// Which places tokens name.
+#[tactic(auto, using(crate::specs::PlaceLaws::place_is_token, crate::specs::PlaceLaws::token_is_decimal, crate::specs::PlaceLaws::place_is_plain, crate::specs::PlaceLaws::next_is_no_place))]
+pub fn places()
+    // A token names a place exactly where it is the decimal text of that place.
+    ensures place_is_token { (t : List ℕ) (i : ℕ) → (place_of t ≡ Some i) ↔ (t ≡ decimal_token i) }
+
+    // The decimal text of a place that a machine's number holds is the one that is printed for it.
+    ensures token_is_decimal { (i : ℕ) → i < 2 ^ 64 → decimal_token i ≡ decimal i }
+
+    // The decimal text of a place stands in a pointer's text as it is.
+    ensures place_is_plain { (i : ℕ) → encoded (decimal_token i) ≡ decimal_token i }
+
+    // The token `-` names no place.
+    ensures next_is_no_place { place_of next_token ≡ None }
 {}
 
-/// The decimal text of a place that a machine's number holds is the one that is printed for it.
-#[tactic(auto, using(crate::specs::PlaceLaws::token_is_decimal))]
-pub fn token_is_decimal()
-    ensures { (i : ℕ) → i < 2 ^ 64 → decimal_token i ≡ decimal i }
-{}
+/// Texts, and the pointers that they are.
+#[tactic(auto, using(crate::specs::TextLaws::encoded_once, crate::specs::TextLaws::one_pointer, crate::specs::TextLaws::pointer_has_no_fault, crate::specs::TextLaws::one_fault))]
+pub fn texts()
+    // An encoded text is that of one token: what is encoded and decoded again is the same.
+    ensures encoded_once { (t u : List ℕ) → encoded t ≡ encoded u → t ≡ u }
 
-/// The decimal text of a place stands in a pointer's text as it is.
-#[tactic(auto, using(crate::specs::PlaceLaws::place_is_plain))]
-pub fn place_is_plain()
-    ensures { (i : ℕ) → encoded (decimal_token i) ≡ decimal_token i }
-{}
+    // A text is that of one pointer.
+    ensures one_pointer { (P Q : Pointer) → text_of P ≡ text_of Q → P ≡ Q }
 
-/// The token `-` names no place.
-#[tactic(auto, using(crate::specs::PlaceLaws::next_is_no_place))]
-pub fn next_is_no_place()
-    ensures { place_of next_token ≡ None }
-{}
+    // A text is a pointer's, or has a fault.
+    ensures pointer_or_fault { (t : List ℕ) → IsPointerText t ⊎ ((e : ParseError) × IsFault t e) }
 
-/// An encoded text is that of one token: what is encoded and decoded again is the same.
-#[tactic(auto, using(crate::specs::TextLaws::encoded_once))]
-pub fn encoded_once()
-    ensures { (t u : List ℕ) → encoded t ≡ encoded u → t ≡ u }
-{}
+    // The text of a pointer has no fault.
+    ensures pointer_has_no_fault { (P : Pointer) (e : ParseError) → ¬ IsFault (text_of P) e }
 
-/// A text is that of one pointer.
-#[tactic(auto, using(crate::specs::TextLaws::one_pointer))]
-pub fn one_pointer()
-    ensures { (P Q : Pointer) → text_of P ≡ text_of Q → P ≡ Q }
-{}
-
-/// A text is a pointer's, or has a fault.
-pub fn pointer_or_fault()
-    ensures { (t : List ℕ) → IsPointerText t ⊎ ((e : ParseError) × IsFault t e) }
-{}
-
-/// The text of a pointer has no fault.
-#[tactic(auto, using(crate::specs::TextLaws::pointer_has_no_fault))]
-pub fn pointer_has_no_fault()
-    ensures { (P : Pointer) (e : ParseError) → ¬ IsFault (text_of P) e }
-{}
-
-/// A text has one fault at most.
-#[tactic(auto, using(crate::specs::TextLaws::one_fault))]
-pub fn one_fault()
-    ensures { (t : List ℕ) (e f : ParseError) → IsFault t e → IsFault t f → e ≡ f }
+    // A text has one fault at most.
+    ensures one_fault { (t : List ℕ) (e f : ParseError) → IsFault t e → IsFault t f → e ≡ f }
 {}

@@ -1,5 +1,6 @@
-use Rattle.std.proofs.Common.{[], ◌∷◌, codes, rules}
+use Rattle.std.proofs.Common.{rules}
+use Rattle.json_patch.specs.PatchValue.{from_and_path}
 use Rattle.json_patch.proofs.reading.read_from_and_path.Goals as goal
 
 pub returns-in_err-path-clause-refused : goal.returns-in_err-path-clause-refused
-returns-in_err-path-clause-refused c = search (rules, c.in_err-path.ensures.refused (codes "from" ∷ codes "path" ∷ []) (λ _. search rules))
+returns-in_err-path-clause-refused c = search (rules, c.in_err-path.ensures.refused from_and_path (λ _. search rules))
