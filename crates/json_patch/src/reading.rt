@@ -58,7 +58,6 @@ impl From<ItemFault> for ReadFault {
 }
 
 /// The member `path`, which is looked for after `from`, where there is to be one.
-#[tactic(auto, using(crate::proofs::PatchFaults::past_from))]
 fn read_path(alloc: Global, value: &Value) -> Result<PointerBuf, ItemFault>
     ensures read { IfOk result (IsPointerAt (view value.now) (codes "path")) }
     ensures refused { (names : List (List ℕ)) → HasAnyFrom names (view value.now)
@@ -75,7 +74,6 @@ fn read_path(alloc: Global, value: &Value) -> Result<PointerBuf, ItemFault>
 }
 
 /// The members `path` and `value`, in this order.
-#[tactic(auto, using(crate::proofs::PatchFaults::past_path))]
 fn read_path_and_value(alloc: Global, value: &Value) -> Result<(PointerBuf, Value), ItemFault>
     ensures read { IfOk result (λ r. ReadsFields (view value.now) (add r.0 (view r.1))) }
     ensures refused { IfUnread result
