@@ -26,7 +26,6 @@ use std::mem;
 /// Makes the operation, without the tokens of `base`, on what stands there, and answers what it
 /// displaced. A refused one leaves that as it was, but for a `move`, which may have lost the value:
 /// it is for a copy.
-#[tactic(auto, using(crate::proofs::Parents::move_goes))]
 pub(crate) fn step(
     alloc: Global,
     doc: &mut Value,

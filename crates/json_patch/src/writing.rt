@@ -45,7 +45,6 @@ pub(crate) fn to_object(
 }
 
 /// Puts a copy of the value into the map under this name, if there is a value.
-#[tactic(auto, using(crate::proofs::Writes::inserts_if))]
 fn put_value(
     alloc: Global,
     members: &mut Map<String, Value>,

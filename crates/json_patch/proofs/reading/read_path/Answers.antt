@@ -1,0 +1,12 @@
+use Rattle.std.proofs.Common.{rules}
+use Rattle.json_patch.proofs.PatchFaults.{past_from}
+use Rattle.json_patch.proofs.reading.read_path.Goals as goal
+
+pub returns-in_err-member : goal.returns-in_err-member
+returns-in_err-member c = search (rules, past_from)
+
+pub returns-in_err-text : goal.returns-in_err-text
+returns-in_err-text c = search (rules, past_from)
+
+pub returns-in_err-pointer : goal.returns-in_err-pointer
+returns-in_err-pointer c = search (rules, past_from)
