@@ -61,8 +61,10 @@ fn is_unescaped(path: Pointer<'_>) -> bool
     true
 }
 
-/// Makes the operation as [`step`] does, and records what undoes it, where that is kept.
-pub(crate) fn step_keeping(
+/// Makes the operation as [`step`] does, and records, last first and where that is kept, the
+/// operations that undo it, with all tokens of their pointers. Where it fails, the record is left as
+/// it was.
+pub(crate) fn record_step(
     alloc: Global,
     doc: &mut Value,
     base: Pointer<'_>,
@@ -75,68 +77,24 @@ pub(crate) fn step_keeping(
         (operation_of operation.now) (operations undo.old.items) (operations undo.new.items) }
     ensures in_place { keep ≡ Nothing → IsInPlace (strip (tokens_of base.entry) (operation_of operation.now))
         → NeverShort result }
-{
-    match keep {
-        Keep::Inverse => record_step(alloc, doc, base, operation, undo),
-        Keep::Nothing => {
-            step(alloc, doc, base, operation)?;
-            Ok(())
-        }
-    }
-}
-
-/// Makes the operation as [`step`] does, and records, last first, the operations that undo it, with
-/// all tokens of their pointers. Where it fails, the record is left as it was.
-pub(crate) fn record_step(
-    alloc: Global,
-    doc: &mut Value,
-    base: Pointer<'_>,
-    operation: &PatchOperation,
-    undo: &mut Vec<PatchOperation>,
-) -> Result<(), StepFault>
-    requires { IsBegun (tokens_of base) (operation_of operation.now) }
-    ensures made { Records Inverse result (view doc.old) (view doc.new) (tokens_of base.entry)
-        (operation_of operation.now) (operations undo.old.items) (operations undo.new.items) }
-    ensures in_place { IsUndoable (operation_of operation.now)
+    ensures undoable { IsUndoable (operation_of operation.now)
         → IsInPlace (operation_of operation.now) → NeverShort result }
 {
-    match operation {
-        PatchOperation::Add(made) => {
-            let place = undo_place(alloc, doc, base, &made.path)?;
-            record_one(alloc, doc, base, operation, place, undo)
-        }
-        PatchOperation::Remove(_) | PatchOperation::Replace(_) => {
-            let place = operation.path().to_buf(alloc)?;
-            record_one(alloc, doc, base, operation, place, undo)
-        }
-        PatchOperation::Move(made) => record_move(alloc, doc, base, made, undo),
-        PatchOperation::Copy(made) => {
-            let place = undo_place(alloc, doc, base, &made.path)?;
-            record_one(alloc, doc, base, operation, place, undo)
-        }
+    if let Keep::Nothing = keep {
+        step(alloc, doc, base, operation)?;
+        return Ok(());
+    }
+    let place = match operation {
+        PatchOperation::Add(made) => undo_place(alloc, doc, base, &made.path)?,
+        PatchOperation::Remove(made) => made.path.clone(alloc)?,
+        PatchOperation::Replace(made) => made.path.clone(alloc)?,
+        PatchOperation::Move(made) => return record_move(alloc, doc, base, made, undo),
+        PatchOperation::Copy(made) => undo_place(alloc, doc, base, &made.path)?,
         PatchOperation::Test(_) => {
             step(alloc, doc, base, operation)?;
-            Ok(())
+            return Ok(());
         }
-    }
-}
-
-/// Makes the operation, and records the one that undoes it, which works at `place`.
-fn record_one(
-    alloc: Global,
-    doc: &mut Value,
-    base: Pointer<'_>,
-    operation: &PatchOperation,
-    place: PointerBuf,
-    undo: &mut Vec<PatchOperation>,
-) -> Result<(), StepFault>
-    requires begun { IsBegun (tokens_of base) (operation_of operation.now) }
-    requires one { IsOne (operation_of operation.now) }
-    requires at { place ≡ tokens_of base
-        ++ place_to_undo (view doc.old) (strip (tokens_of base) (operation_of operation.now)) }
-    ensures { Records Inverse result (view doc.old) (view doc.new) (tokens_of base.entry)
-        (operation_of operation.now) (operations undo.old.items) (operations undo.new.items) }
-{
+    };
     undo.reserve(1)?;
     let was = step(alloc, doc, base, operation)?;
     undo.push_reserved(undo_of(place, was));

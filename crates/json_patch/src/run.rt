@@ -17,7 +17,7 @@ ghost use Rattle.json_patch.specs.declared.record.Keep.TheVariants.{Inverse, Not
 
 use crate::error::{PatchError, PatchFault, StepFault};
 use crate::operation::{Patch, PatchOperation};
-use crate::record::{Keep, is_undoable, record_step, step_keeping, undo_recorded};
+use crate::record::{Keep, is_undoable, record_step, undo_recorded};
 use crate::shared::copied_part;
 use crate::step::replace;
 use jsonptr::Pointer;
@@ -136,7 +136,14 @@ fn run(
     let mut number = 0;
     while patch.len() - number > 1 && is_undoable(&patch[number]) {
         let operation = &patch[number];
-        if let Err(fault) = record_step(alloc, doc, Pointer::root(), operation, &mut undo) {
+        if let Err(fault) = record_step(
+            alloc,
+            doc,
+            Pointer::root(),
+            operation,
+            Keep::Inverse,
+            &mut undo,
+        ) {
             undo_recorded(alloc, doc, undo);
             return Err(reported(alloc, number, operation, fault));
         }
@@ -176,7 +183,7 @@ fn run_part(
     if end - start > 1 || is_move(operation) {
         return run_on_copy(alloc, doc, patch, start, end, keep, undo);
     }
-    match step_keeping(alloc, doc, Pointer::root(), operation, keep, undo) {
+    match record_step(alloc, doc, Pointer::root(), operation, keep, undo) {
         Ok(()) => Ok(()),
         Err(fault) => Err(reported(alloc, start, operation, fault)),
     }
@@ -213,7 +220,7 @@ fn run_on_copy(
     let mut work = part;
     for number in start..end {
         let operation = &patch[number];
-        if let Err(fault) = step_keeping(alloc, &mut work, base, operation, keep, undo) {
+        if let Err(fault) = record_step(alloc, &mut work, base, operation, keep, undo) {
             undo.truncate(kept);
             return Err(reported(alloc, number, operation, fault));
         }
