@@ -1,5 +1,5 @@
 -- The operation that `op` names, and the items of a list, read one by one.
-use Rattle.std.proofs.Common.{◌≡◌, ◌<◌, ℕ, suc, List, [], ◌∷◌, ◌++◌, take, length, get_or, arith, Some, codes, Result, rules}
+use Rattle.std.proofs.Common.{◌≡◌, ◌<◌, ℕ, zero, suc, subst, List, [], ◌∷◌, ◌++◌, take, length, get_or, arith, Some, codes, Result, rules}
 use Rattle.std.specs.Prelude.{IsErrAnd}
 use Rattle.serde_json.specs.Data.{Data, Items, array, item, string}
 use Rattle.serde_json.specs.Find.{get}
@@ -30,6 +30,7 @@ item_read vs os n v o l is h g = search rules
 pub item_refused : (vs : List Value) (os : List PatchOperation) (n : ℕ) (v : Value) (kind : ReadKind) → n < length vs → v ≡ get_or vs n v
     → ReadsItems (items_view (take n vs)) (operations os) → RefusesOperation (view v) kind → RefusesItem (items_view vs) n kind
 item_refused (w ∷ vs) (p ∷ os) (suc n) v kind l is h g = (operation_of p, h.0, item_refused vs os n v kind (omega arith) is h.1 g)
+item_refused (w ∷ vs) os zero v kind l is h g = subst (λ x. RefusesOperation (view x) kind) is g
 item_refused vs os n v kind l is h g = search rules
 
 -- the members of the operation that `op` names are at fault

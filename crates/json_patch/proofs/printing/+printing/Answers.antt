@@ -1,5 +1,6 @@
 use Rattle.std.proofs.Common.{◌≡◌, [], ◌∷◌, ◌++◌, ◌+◌, codes, drop, string_bytes, rules, sym, ap, ◌∙◌, arith}
 use Rattle.std.proofs.lemmas.List.{drop_more, drop_all}
+use Rattle.std.specs.Result.{is_ok}
 use Rattle.std.proofs.Output.{has_written_append, has_written_of_eq}
 use Rattle.serde_json.specs.Data.{item, no_items, member}
 use Rattle.serde_json.specs.View.{view, items_view, members_view}
@@ -15,8 +16,8 @@ write_items-items-preserved g c c' =
       search rules,
       λ plain.
           let (done, wrote, whole) = l.invariant.1 plain in
-          let one = c'.write_str-in-items.ensures.writes wrote.plain (search rules) in
-          let two = c'.write_value.ensures one.plain (search rules) in
+          let one = c'.write_str-in-items.ensures.writes wrote.plain (ap is_ok c'.in_ok-write_str-2.was) in
+          let two = c'.write_value.ensures one.plain (ap is_ok c'.in_ok-write_value.was) in
           let step : items_view (drop l.item-index xs) ≡ item (view x) (items_view (drop (l.item-index + 1) xs)) =
           ap items_view (drop_more xs l.item-index x (omega arith) ∙ ap (λ y. y ∷ drop (l.item-index + 1) xs) (sym c'.item-item.is)) in (
             (done ++ l.comma.now) ++ value_text (view x),
@@ -29,7 +30,7 @@ pub write_items-returns : goal.write_items-returns
 write_items-returns g c c' plain ok =
     let l = c'.items in
     let xs = c'.deref-item-items.result.now in
-    let opened = c'.write_str.ensures.writes plain (search rules) in
+    let opened = c'.write_str.ensures.writes plain (ap is_ok c'.in_ok-write_str.was) in
     let (done, wrote, whole) = l.invariant.1 opened.plain in
     let closed = c'.write_str-2.ensures.writes wrote.plain ok in
     let none : items_view (drop l.item-index xs) ≡ no_items = ap items_view (drop_all l.item-index xs (omega arith)) in
@@ -50,9 +51,9 @@ write_members-members-preserved g c c' =
       search rules,
       λ plain.
           let (done, wrote, whole) = l.invariant.1 plain in
-          let one = c'.write_str-in-members.ensures.writes wrote.plain (search rules) in
-          let two = c'.write_name.ensures one.plain (search rules) in
-          let three = c'.write_value.ensures two.plain (search rules) in
+          let one = c'.write_str-in-members.ensures.writes wrote.plain (ap is_ok c'.in_ok-write_str-2.was) in
+          let two = c'.write_name.ensures one.plain (ap is_ok c'.in_ok-write_name.was) in
+          let three = c'.write_value.ensures two.plain (ap is_ok c'.in_ok-write_value.was) in
           let step : members_view l.name-iterator ≡ member k d (members_view c'.next.new.self) = ap members_view c'.in-Some.ensures.steps ∙ ap (λ n. member n d (members_view c'.next.new.self)) named in (
             ((done ++ l.comma.now) ++ (quote k ++ codes ":")) ++ value_text d,
             has_written_append _ _ _ _ _ _ (has_written_append _ _ _ _ _ _ (has_written_append _ _ _ _ _ _ wrote one) two) three,
@@ -63,7 +64,7 @@ write_members-members-preserved g c c' =
 pub write_members-returns : goal.write_members-returns
 write_members-returns g c c' plain ok =
     let l = c'.members in
-    let opened = c'.write_str.ensures.writes plain (search rules) in
+    let opened = c'.write_str.ensures.writes plain (ap is_ok c'.in_ok-write_str.was) in
     let (done, wrote, whole) = l.invariant.1 opened.plain in
     let closed = c'.write_str-2.ensures.writes wrote.plain ok in
     let all = printed_members_end done l.comma.now (printed_members [] (members_view c'.args.members.now.entries)) (members_view l.name-iterator) (ap members_view c'.in-None.ensures.steps.0) whole in

@@ -1,4 +1,5 @@
-use Rattle.std.proofs.Common.{rules}
+use Rattle.std.proofs.Common.{ap, rules}
+use Rattle.std.specs.Result.{is_ok}
 use Rattle.std.proofs.Output.{has_written_append, has_written_of_eq}
 use Rattle.json_patch.specs.PartsView.{parts_view}
 use Rattle.json_patch.proofs.Texts.{printed_operation}
@@ -6,12 +7,12 @@ use Rattle.json_patch.proofs.printing.write_parts.Goals as goal
 
 pub returns : goal.returns
 returns g c plain ok =
-    let opened = c.write_str.ensures.writes plain (search rules) in
-    let name = c.write_leading.ensures opened.plain (search rules) in
-    let from = c.write_leading-2.ensures name.plain (search rules) in
-    let key = c.write_name.ensures from.plain (search rules) in
-    let path = c.write_text.ensures key.plain (search rules) in
-    let value = c.write_trailing.ensures path.plain (search rules) in
+    let opened = c.write_str.ensures.writes plain (ap is_ok c.in_ok-write_str.was) in
+    let name = c.write_leading.ensures opened.plain (ap is_ok c.in_ok-write_leading.was) in
+    let from = c.write_leading-2.ensures name.plain (ap is_ok c.in_ok-write_leading-2.was) in
+    let key = c.write_name.ensures from.plain (ap is_ok c.in_ok-write_name.was) in
+    let path = c.write_text.ensures key.plain (ap is_ok c.in_ok-write_text.was) in
+    let value = c.write_trailing.ensures path.plain (ap is_ok c.in_ok-write_trailing.was) in
     let closed = c.write_str-2.ensures.writes value.plain ok in
     let one = has_written_append _ _ _ _ _ _ opened name in
     let two = has_written_append _ _ _ _ _ _ one from in

@@ -1,5 +1,6 @@
-use Rattle.std.proofs.Common.{◌≡◌, [], ◌++◌, rules, refl}
+use Rattle.std.proofs.Common.{◌≡◌, [], ◌++◌, ap, rules, refl}
 use Rattle.std.proofs.lemmas.Str.{IsUtf8-past_char}
+use Rattle.std.specs.Result.{is_ok}
 use Rattle.std.proofs.Output.{has_written_append, has_written_of_eq}
 use Rattle.std.specs.Str.Iter.{chars_rest}
 use Rattle.json_patch.specs.Printed.{character_text}
@@ -18,7 +19,7 @@ loop-character-preserved g c =
       IsUtf8-past_char _ _ c.in-Some.character text step,
       λ plain.
           let (done, wrote, whole) = so_far plain in
-          let one = c.write_character.ensures wrote.plain (search rules) in (
+          let one = c.write_character.ensures wrote.plain (ap is_ok c.in_ok-write_character.was) in (
             done ++ character_text c.in-Some.character,
             has_written_append _ _ _ _ _ _ wrote one,
             escaped_more done _ _ _ c.in-Some.character text step whole,
@@ -27,7 +28,7 @@ loop-character-preserved g c =
 
 pub returns : goal.returns
 returns g c plain ok =
-    let opened = c.write_str.ensures.writes plain (search rules) in
+    let opened = c.write_str.ensures.writes plain (ap is_ok c.in_ok-write_str.was) in
     let (done, wrote, whole) = c.loop-character.invariant.1 opened.plain in
     let closed = c.write_str-2.ensures.writes wrote.plain ok in
     has_written_of_eq _ _ _ _ _ (quoted_end done _ _ c.in-None.ensures.steps.0.0 whole) (has_written_append _ _ _ _ _ _ (has_written_append _ _ _ _ _ _ opened wrote) closed)

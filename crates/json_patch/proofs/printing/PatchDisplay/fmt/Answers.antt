@@ -1,5 +1,6 @@
 use Rattle.std.proofs.Common.{◌≡◌, ◌∷◌, ◌++◌, ◌+◌, [], drop, rules, sym, ap, ◌∙◌, arith}
 use Rattle.std.proofs.lemmas.List.{drop_more, drop_all}
+use Rattle.std.specs.Result.{is_ok}
 use Rattle.std.proofs.Output.{has_written_append, has_written_of_eq}
 use Rattle.serde_json.specs.Data.{item, no_items}
 use Rattle.json_patch.specs.Operation.{operation_of, operations}
@@ -16,8 +17,8 @@ operations-preserved g c =
       search rules,
       λ plain.
           let (done, wrote, whole) = l.invariant.1 plain in
-          let one = c.write_str-in-operations.ensures.writes wrote.plain (search rules) in
-          let two = c.fmt.ensures.writes one.plain (search rules) in
+          let one = c.write_str-in-operations.ensures.writes wrote.plain (ap is_ok c.in_ok-write_str-2.was) in
+          let two = c.fmt.ensures.writes one.plain (ap is_ok c.in_ok-fmt.was) in
           let step : operation_items (operations (drop l.operation-index os)) ≡ item d (operation_items (operations (drop (l.operation-index + 1) os))) =
           ap (λ xs. operation_items (operations xs)) (drop_more os l.operation-index c.operation-item.result (omega arith) ∙ ap (λ o. o ∷ drop (l.operation-index + 1) os) (sym c.operation-item.is)) in (
             (done ++ l.comma.now) ++ value_text d,
@@ -30,7 +31,7 @@ pub returns-clause-writes : goal.returns-clause-writes
 returns-clause-writes g c plain ok =
     let l = c.operations in
     let os = c.deref-operation-items.result.now in
-    let opened = c.write_str.ensures.writes plain (search rules) in
+    let opened = c.write_str.ensures.writes plain (ap is_ok c.in_ok-write_str.was) in
     let (done, wrote, whole) = l.invariant.1 opened.plain in
     let closed = c.write_str-2.ensures.writes wrote.plain ok in
     let none : operation_items (operations (drop l.operation-index os)) ≡ no_items = ap (λ xs. operation_items (operations xs)) (drop_all l.operation-index os (omega arith)) in
