@@ -1,12 +1,6 @@
 -- The computed document is the one that add leaves, and the only one.
-use Rattle.std.proofs.lemmas.Grind.{common_steps}
-use Rattle.std.proofs.Common.{◌≡◌, ℕ, zero, suc, ◌<◌, ◌≤◌, List, [], ◌∷◌, ◌++◌, ⊎_elim, Some, None, sym, ◌∙◌, subst, arith, rules}
+use Rattle.json_patch.proofs.Common.{common_steps, ◌≡◌, ℕ, zero, suc, ◌<◌, ◌≤◌, List, [], ◌∷◌, ◌++◌, ⊎_elim, Some, None, sym, ◌∙◌, subst, arith, rules, Data, IsDocument, Segment, key, place, look, Resolves, Aims, HasTarget, IsBeside, ShiftsUp, PutsAt, IsAdded, front_of, last_of, put_in, after_add}
 use Rattle.std.proofs.lemmas.Bool.{cases_eq}
-use Rattle.serde_json.specs.Data.{Data}
-use Rattle.json_patch.specs.Document.{IsDocument, Segment, key, place, look}
-use Rattle.json_patch.specs.Resolve.{Resolves, Aims, HasTarget}
-use Rattle.json_patch.specs.Change.{IsBeside, ShiftsUp, PutsAt, IsAdded}
-use Rattle.json_patch.specs.ChangeComputed.{front_of, last_of, put_in, after_add}
 use Rattle.json_patch.proofs.Alike.{alike}
 use Rattle.json_patch.proofs.Places.{IsUnder, IsApart, IsMoved, under_cases, moved_cases, beside_inside}
 use Rattle.json_patch.proofs.Locations.{resolves_same, split_whole, split_is}

@@ -1,11 +1,5 @@
 -- Attempts at a change, by how they end.
-use Rattle.std.proofs.Common.{◌≡◌, Option, None, Result, rules}
-use Rattle.std.specs.Result.{IsErr, IsErrAnd}
-use Rattle.serde_json.specs.Data.{Data}
-use Rattle.json_patch.specs.Attempt.{Attempts}
-use Rattle.json_patch.specs.declared.error.PatchErrorKind.{PatchErrorKind}
-use Rattle.json_patch.specs.declared.error.PatchErrorKind.TheVariants.{InvalidPointer}
-use Rattle.json_patch.specs.declared.error.StepFault.{StepFault}
+use Rattle.json_patch.proofs.Common.{◌≡◌, Option, None, Result, rules, IsErr, IsErrAnd, Data, Attempts, PatchErrorKind, InvalidPointer, StepFault}
 use Rattle.json_patch.specs.declared.error.StepFault.TheVariants.{Refused}
 
 -- a refusal that `?` passed on

@@ -1,19 +1,6 @@
 -- A run that is about one part of the document changes that part alone, as the run without the shared beginning changes it.
-use Rattle.std.proofs.lemmas.Grind.{common_steps}
-use Rattle.std.proofs.Common.{◌≡◌, ⊎_elim, ℕ, List, [], ◌∷◌, ◌++◌, append_assoc, length, drop, Bool, if◌then◌else◌, Option, Some, None, option_map, option_and_then, Result, Ok, Err, refl, sym, ap, ◌∙◌, subst, rules, arith}
-use Rattle.std.proofs.lemmas.Option.{option_and_then_some}
-use Rattle.std.proofs.lemmas.Slice.Eq.{bytes_eq-Decides}
-use Rattle.serde_json.specs.Data.{Data}
-use Rattle.jsonptr.specs.Text.{Pointer, IsProperPrefix}
-use Rattle.json_patch.specs.Document.{IsDocument, Segment, child}
-use Rattle.json_patch.specs.Resolve.{Resolves}
-use Rattle.json_patch.specs.Operation.{Operation, remove, replace, move, IsWholeOp, AreWhole}
-use Rattle.json_patch.specs.declared.error.PatchErrorKind.{PatchErrorKind}
-use Rattle.json_patch.specs.declared.error.PatchErrorKind.TheVariants.{TestFailed, InvalidPointer, CannotMoveInsideItself}
+use Rattle.json_patch.proofs.Common.{common_steps, ◌≡◌, ⊎_elim, ℕ, List, [], ◌∷◌, ◌++◌, append_assoc, length, drop, Bool, if◌then◌else◌, Option, Some, None, option_map, option_and_then, Result, Ok, Err, refl, sym, ap, ◌∙◌, subst, rules, arith, option_and_then_some, bytes_eq-Decides, Data, Pointer, IsProperPrefix, IsDocument, Segment, child, Resolves, Operation, remove, replace, move, IsWholeOp, AreWhole, PatchErrorKind, TestFailed, InvalidPointer, CannotMoveInsideItself, segment_of, set_child, pointee, after_change, after_add, after_remove, after_replace, front_of, last_of, put_in, take_from, begins, or_refused, after_move, after_copy, after_test, after_step, Outcome, fault, one_later, then_run, after_run, strip, strip_all}
 use Rattle.json_patch.specs.Shared.{IsWithin, AreWithin}
-use Rattle.json_patch.specs.ChangeComputed.{segment_of, set_child, pointee, after_change, after_add, after_remove, after_replace, front_of, last_of, put_in, take_from}
-use Rattle.json_patch.specs.RunComputed.{begins, or_refused, after_move, after_copy, after_test, after_step, Outcome, fault, one_later, then_run, after_run}
-use Rattle.json_patch.specs.SharedComputed.{strip, strip_all}
 use Rattle.json_patch.proofs.Children.{child_document, child_set, child_set_other, sight_set, set_document, step_cases}
 use Rattle.json_patch.proofs.Locations.{option_map_some, split_whole}
 use Rattle.json_patch.proofs.Alterations.{altered_some}

@@ -1,16 +1,6 @@
 -- The blocks and the inverse that are computed are those that the definitions name, and no others are.
-use Rattle.std.proofs.Common.{◌≡◌, inl, inr, ⊎_elim, ℕ, List, [], ◌∷◌, bytes_eq, Option, Some, None, refl, sym, ap, ◌∙◌, subst, rules, ◌++◌}
-use Rattle.serde_json.specs.Data.{Data, array, object, Items}
-use Rattle.jsonptr.specs.Text.{Pointer}
-use Rattle.jsonptr.specs.Places.{place_of, next_token}
-use Rattle.json_patch.specs.Document.{IsDocument, Segment, key, place}
-use Rattle.json_patch.specs.Resolve.{Aims}
-use Rattle.json_patch.specs.Operation.{Operation, add, remove, replace, move, copy, test, IsWholeOp, AreWhole}
-use Rattle.json_patch.specs.Step.{Leaves}
-use Rattle.json_patch.specs.Run.{Accepts}
+use Rattle.json_patch.proofs.Common.{◌≡◌, inl, inr, ⊎_elim, ℕ, List, [], ◌∷◌, bytes_eq, Option, Some, None, refl, sym, ap, ◌∙◌, subst, rules, ◌++◌, Data, array, object, Items, Pointer, place_of, next_token, IsDocument, Segment, key, place, Aims, Operation, add, remove, replace, move, copy, test, IsWholeOp, AreWhole, Leaves, Accepts, pointee, after_add, front_of, last_of, put_in, settled_token, undo_at, undo_in, undo_add, block, inverse, place_is_token}
 use Rattle.json_patch.specs.Inverse.{TakesBack, UndoesAdd, IsBlock, IsInverse}
-use Rattle.json_patch.specs.ChangeComputed.{pointee, after_add, front_of, last_of, put_in}
-use Rattle.json_patch.specs.InverseComputed.{settled_token, undo_at, undo_in, undo_add, block, inverse}
 use Rattle.json_patch.proofs.Pointees.{found_resolves, resolves_found}
 use Rattle.json_patch.proofs.Locations.{split_whole, split_is}
 use Rattle.json_patch.proofs.Alterations.{IsAltered, altered_is}
@@ -18,7 +8,6 @@ use Rattle.json_patch.proofs.Slots.{PutsIn, put_in_puts}
 use Rattle.json_patch.proofs.OneResult.{added_exact, removed_exact}
 use Rattle.json_patch.proofs.StepOutcomes.{stands_found, stands_document, removed_document, found_never, never_found, leaves_document}
 use Rattle.json_patch.proofs.BlocksLeadBack.{settled_place}
-use Rattle.jsonptr.specs.PlaceLaws.{place_is_token}
 use Rattle.json_patch.proofs.InverseRuns.{inverse_step}
 
 -- ---- a last token as a number

@@ -1,19 +1,6 @@
 -- Each operation's block gives back the document before it.
-use Rattle.std.proofs.Common.{◌≡◌, ℕ, List, [], ◌∷◌, ◌++◌, Bool, bytes_eq, if◌then◌else◌, Option, Some, None, option_map, option_and_then, Ok, refl, sym, ap, ◌∙◌, subst, rules}
-use Rattle.std.proofs.lemmas.Option.{option_and_then_some}
-use Rattle.std.proofs.lemmas.Slice.Eq.{bytes_eq-Decides}
-use Rattle.serde_json.specs.Data.{Data, array, object, Items, Members, put}
-use Rattle.serde_json.specs.Find.{get_member}
+use Rattle.json_patch.proofs.Common.{◌≡◌, ℕ, List, [], ◌∷◌, ◌++◌, Bool, bytes_eq, if◌then◌else◌, Option, Some, None, option_map, option_and_then, Ok, refl, sym, ap, ◌∙◌, subst, rules, option_and_then_some, bytes_eq-Decides, Data, array, object, Items, Members, put, get_member, get_member-put, Pointer, place_of, next_token, decimal_token, IsDocument, Segment, key, place, child, Resolves, Aims, InvalidPointer, segment_of, set_child, slot_of, put_in, take_from, pointee, after_change, after_add, after_remove, after_replace, front_of, last_of, or_refused, after_step, settled_token, undo_at, undo_in, undo_add, place_is_token, next_is_no_place}
 use Rattle.serde_json.specs.Events.{items_len}
-use Rattle.serde_json.proofs.Views.{get_member-put}
-use Rattle.jsonptr.specs.Text.{Pointer}
-use Rattle.jsonptr.specs.Places.{place_of, next_token, decimal_token}
-use Rattle.json_patch.specs.Document.{IsDocument, Segment, key, place, child}
-use Rattle.json_patch.specs.Resolve.{Resolves, Aims}
-use Rattle.json_patch.specs.declared.error.PatchErrorKind.TheVariants.{InvalidPointer}
-use Rattle.json_patch.specs.ChangeComputed.{segment_of, set_child, slot_of, put_in, take_from, pointee, after_change, after_add, after_remove, after_replace, front_of, last_of}
-use Rattle.json_patch.specs.RunComputed.{or_refused, after_step}
-use Rattle.json_patch.specs.InverseComputed.{settled_token, undo_at, undo_in, undo_add}
 use Rattle.json_patch.proofs.Children.{child_document, child_set, set_document}
 use Rattle.json_patch.proofs.Locations.{option_map_some, resolves_document, split_whole}
 use Rattle.json_patch.proofs.Alterations.{IsAltered, altered_is}
@@ -22,7 +9,6 @@ use Rattle.json_patch.proofs.Removals.{TakesIn, take_from_takes, drop_document}
 use Rattle.json_patch.proofs.Slots.{put_in_puts, slot_aims, aims_within}
 use Rattle.json_patch.proofs.StepWalks.{front_append, last_append}
 use Rattle.json_patch.proofs.ChildChanges.{set_back, step_of_set, take_item, take_member, stands_one, put_taken}
-use Rattle.jsonptr.specs.PlaceLaws.{place_is_token, next_is_no_place}
 
 -- ---- pointers in two parts
 

@@ -1,13 +1,6 @@
 -- Documents with equal children are equal, and what a change to a child leaves is taken back by another.
-use Rattle.std.proofs.Common.{◌≡◌, ℕ, zero, suc, ◌≤◌, List, [], ◌∷◌, inl, ⊎_elim, Some, None, option_and_then, refl, sym, ap, ◌∙◌, arith, rules, option_map}
-use Rattle.serde_json.specs.Data.{Data, array, object, Items, item, Members, put}
-use Rattle.serde_json.specs.Find.{get_member, get_item}
+use Rattle.json_patch.proofs.Common.{◌≡◌, ℕ, zero, suc, ◌≤◌, List, [], ◌∷◌, inl, ⊎_elim, Some, None, option_and_then, refl, sym, ap, ◌∙◌, arith, rules, option_map, Data, array, object, Items, item, Members, put, get_member, get_item, get_member-put, get_member-put_other, place_of, IsDocument, AreMembers, Segment, key, place, child, look, sight, sight_of, value_at, Names, segment_of, set_child, drop_child, insert_item, remove_item, without, pointee, put_in, take_from}
 use Rattle.serde_json.specs.Events.{items_len}
-use Rattle.serde_json.proofs.Views.{get_member-put, get_member-put_other}
-use Rattle.jsonptr.specs.Places.{place_of}
-use Rattle.json_patch.specs.Document.{IsDocument, AreMembers, Segment, key, place, child, look, sight, sight_of, value_at}
-use Rattle.json_patch.specs.Resolve.{Names}
-use Rattle.json_patch.specs.ChangeComputed.{segment_of, set_child, drop_child, insert_item, remove_item, without, pointee, put_in, take_from}
 use Rattle.json_patch.proofs.Alike.{alike}
 use Rattle.json_patch.proofs.Members.{put_members, without_members, get_without, get_without_other}
 use Rattle.json_patch.proofs.Items.{get_insert}

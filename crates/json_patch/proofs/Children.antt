@@ -1,10 +1,6 @@
 -- A document with another child.
-use Rattle.std.proofs.Common.{◌≡◌, ℕ, List, ◌⊎◌, inl, inr, ⊎_elim, Bool, bytes_eq, Some, refl, ap, rules}
+use Rattle.json_patch.proofs.Common.{◌≡◌, ℕ, List, ◌⊎◌, inl, inr, ⊎_elim, Bool, bytes_eq, Some, refl, ap, rules, Data, get_member-put, get_member-put_other, IsDocument, Segment, key, place, child, sight_of, set_child}
 use Rattle.std.proofs.lemmas.Bool.{cases_eq}
-use Rattle.serde_json.specs.Data.{Data}
-use Rattle.serde_json.proofs.Views.{get_member-put, get_member-put_other}
-use Rattle.json_patch.specs.Document.{IsDocument, Segment, key, place, child, sight_of}
-use Rattle.json_patch.specs.ChangeComputed.{set_child}
 use Rattle.json_patch.proofs.Members.{put_members, member_document}
 use Rattle.json_patch.proofs.Items.{item_document, get_set, get_set_other, set_items}
 

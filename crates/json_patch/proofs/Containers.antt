@@ -1,16 +1,8 @@
 -- What an edit makes of a container that holds values, and what it finds there.
-use Rattle.std.proofs.Common.{◌≡◌, ℕ, ◌<◌, ◌≤◌, List, [], ◌∷◌, length, set, get_or, Vec, vec_len, Option, Some, None, option_map, option_and_then, String, Global, string_bytes, refl, sym, ap, ◌∙◌, arith, rules}
+use Rattle.json_patch.proofs.Common.{◌≡◌, ℕ, ◌<◌, ◌≤◌, List, [], ◌∷◌, length, set, get_or, Vec, vec_len, Option, Some, None, option_map, option_and_then, String, Global, string_bytes, refl, sym, ap, ◌∙◌, arith, rules, lookup, set_value, remove_entry, Data, array, object, view, items_view, members_view, Value, Entry, view-lookup, get_item_within, get_item_past, items_len-items_view, members_view-insert_entry, place_of, Segment, key, place, child, slot_in, segment_of, put_in, take_from, set_child, drop_child, pointee, after_change}
 use Rattle.std.specs.List.{insert, remove}
-use Rattle.std.specs.Map.{lookup, set_value, remove_entry}
 use Rattle.std.specs.BTreeMap.{insert_entry}
 use Rattle.std.specs.String.{string_cmp}
-use Rattle.serde_json.specs.Data.{Data, array, object}
-use Rattle.serde_json.specs.View.{view, items_view, members_view}
-use Rattle.serde_json.specs.declared.value.Value.{Value}
-use Rattle.serde_json.proofs.Views.{Entry, view-lookup, get_item_within, get_item_past, items_len-items_view, members_view-insert_entry}
-use Rattle.jsonptr.specs.Places.{place_of}
-use Rattle.json_patch.specs.Document.{Segment, key, place, child}
-use Rattle.json_patch.specs.ChangeComputed.{slot_in, segment_of, put_in, take_from, set_child, drop_child, pointee, after_change}
 use Rattle.json_patch.proofs.Writes.{is_named, AreInOrder, items_view-set, items_view-insert, items_view-remove, members_view-remove_entry, members_view-set_value}
 
 -- the token names the item at i, among so many

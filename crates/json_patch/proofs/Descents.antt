@@ -1,22 +1,9 @@
 -- A walk down a value: what an attempt at a child leaves of what holds the child, and what stands there.
-use Rattle.std.proofs.Common.{◌≡◌, ℕ, List, ◌∷◌, get_or, Vec, vec_len, Option, Some, None, option_map, option_and_then, Result, IfOk, BTreeMap, String, Global, rules}
-use Rattle.std.specs.Map.{lookup, set_value}
-use Rattle.std.specs.Result.{IsErr, IsErrAnd}
+use Rattle.json_patch.proofs.Common.{◌≡◌, ℕ, List, ◌∷◌, get_or, Vec, vec_len, Option, Some, None, option_map, option_and_then, Result, IfOk, BTreeMap, String, Global, rules, lookup, set_value, IsErr, IsErrAnd, Data, array, object, view, items_view, members_view, Value, Array, Object, view-Array, view-Object, Pointer, Attempts, segment_of, set_child, pointee, after_change, child, PatchErrorKind, InvalidPointer, StepFault}
 use Rattle.std.specs.Vec.{with_item}
-use Rattle.serde_json.specs.Data.{Data, array, object}
-use Rattle.serde_json.specs.View.{view, items_view, members_view}
-use Rattle.serde_json.specs.declared.value.Value.{Value, Array, Object}
-use Rattle.serde_json.proofs.Views.{view-Array, view-Object}
-use Rattle.jsonptr.specs.Text.{Pointer}
-use Rattle.json_patch.specs.Attempt.{Attempts}
-use Rattle.json_patch.specs.ChangeComputed.{segment_of, set_child, pointee, after_change}
-use Rattle.json_patch.specs.Document.{child}
 use Rattle.json_patch.specs.Edits.{Displaces, DisplacesAt}
-use Rattle.json_patch.specs.declared.error.PatchErrorKind.{PatchErrorKind}
-use Rattle.json_patch.specs.declared.error.PatchErrorKind.TheVariants.{InvalidPointer}
 use Rattle.json_patch.specs.declared.walk.Displaced.{Displaced}
 use Rattle.json_patch.specs.declared.walk.Edit.{Edit}
-use Rattle.json_patch.specs.declared.error.StepFault.{StepFault}
 use Rattle.json_patch.specs.declared.error.StepFault.TheVariants.{Refused}
 use Rattle.json_patch.proofs.Attempts.{refused}
 use Rattle.json_patch.proofs.Containers.{IsItem, IsNoItem, item_child, member_child, no_item, no_member, goes_none}

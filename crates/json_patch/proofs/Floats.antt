@@ -1,16 +1,10 @@
 -- A document has no float, and a value with none that a program holds is a document: what a map's order and a number's
 -- range give.
-use Rattle.std.proofs.Common.{◌≡◌, List, [], ◌∷◌, String, Global, Less, Bool, true, false, not, string_bytes, ◌↔◌, IsTrue, refl, ap, ◌∙◌, subst, rules}
+use Rattle.json_patch.proofs.Common.{◌≡◌, List, [], ◌∷◌, String, Global, Less, Bool, true, false, not, string_bytes, ◌↔◌, IsTrue, refl, ap, ◌∙◌, subst, rules, keys_of, Num, Data, array, object, Items, no_items, item, Members, no_members, member, is_float, view, members_view, Entry, IsWhole, IsDocument, AreDocuments, IsBelowMembers, AreMembers}
 use Rattle.std.specs.List.{AllByRecursion}
 use Rattle.std.specs.List.Sorted.{IsStrictlySortedBy}
-use Rattle.std.specs.Map.{keys_of}
 use Rattle.std.specs.String.{string_cmp}
-use Rattle.serde_json.specs.Data.{Num, Data, array, object, Items, no_items, item, Members, no_members, member}
-use Rattle.serde_json.specs.Find.{is_float}
-use Rattle.serde_json.specs.View.{view, members_view}
 use Rattle.serde_json.specs.Written.{has_float, items_have_float, members_have_float}
-use Rattle.serde_json.proofs.Views.{Entry}
-use Rattle.json_patch.specs.Document.{IsWhole, IsDocument, AreDocuments, IsBelowMembers, AreMembers}
 
 whole : (n : Num) → IsWhole n → is_float n ≡ false
 whole n h = search rules

@@ -1,15 +1,8 @@
 -- The item that a token names, and the place at which it puts a new one, by the index that is read of it.
-use Rattle.std.proofs.Common.{◌≡◌, ◌≢◌, ℕ, ◌<◌, ◌≤◌, List, Bool, true, false, leb, bytes_eq, Some, None, Result, MatchResult, ap, ◌∙◌, arith, rules}
+use Rattle.json_patch.proofs.Common.{◌≡◌, ◌≢◌, ℕ, ◌<◌, ◌≤◌, List, Bool, true, false, leb, bytes_eq, Some, None, Result, MatchResult, ap, ◌∙◌, arith, rules, bytes_eq-Decides, IsErr, IsErrAnd, next_is_no_place, place_of, next_token, slot_in, PatchErrorKind, InvalidPointer}
 use Rattle.std.proofs.lemmas.Bool.Decides.{nat_tests}
-use Rattle.std.proofs.lemmas.Slice.Eq.{bytes_eq-Decides}
-use Rattle.std.specs.Result.{IsErr, IsErrAnd}
 use Rattle.jsonptr.specs.Indexes.{IsIndexText, place_in}
-use Rattle.jsonptr.specs.PlaceLaws.{next_is_no_place}
-use Rattle.jsonptr.specs.Places.{place_of, next_token}
 use Rattle.jsonptr.specs.declared.index.Index.{Index}
-use Rattle.json_patch.specs.ChangeComputed.{slot_in}
-use Rattle.json_patch.specs.declared.error.PatchErrorKind.{PatchErrorKind}
-use Rattle.json_patch.specs.declared.error.PatchErrorKind.TheVariants.{InvalidPointer}
 use Rattle.json_patch.proofs.Containers.{IsNoItem}
 
 -- a refusal that `?` made of an index's

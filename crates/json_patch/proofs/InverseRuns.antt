@@ -1,15 +1,5 @@
 -- The inverse of an accepted list leads back, through every state.
-use Rattle.std.proofs.Common.{◌≡◌, ◌≤◌, ◌*◌, ℕ, List, [], ◌∷◌, ◌++◌, length, length-append, append_assoc, append-nil, Option, Some, Ok, refl, sym, ap, ◌∙◌, arith, rules, subst}
-use Rattle.serde_json.specs.Data.{Data}
-use Rattle.jsonptr.specs.Text.{Pointer}
-use Rattle.json_patch.specs.Document.{IsDocument}
-use Rattle.json_patch.specs.Operation.{Operation, add, remove, replace, move, copy, test, IsWholeOp, AreWhole}
-use Rattle.json_patch.specs.declared.error.PatchErrorKind.TheVariants.{InvalidPointer}
-use Rattle.json_patch.specs.Step.{Leaves}
-use Rattle.json_patch.specs.Run.{Accepts}
-use Rattle.json_patch.specs.ChangeComputed.{pointee, after_remove}
-use Rattle.json_patch.specs.RunComputed.{or_refused, after_step, after_run}
-use Rattle.json_patch.specs.InverseComputed.{undo_in, undo_add, with_left, block, inverse}
+use Rattle.json_patch.proofs.Common.{◌≡◌, ◌≤◌, ◌*◌, ℕ, List, [], ◌∷◌, ◌++◌, length, length-append, append_assoc, append-nil, Option, Some, Ok, refl, sym, ap, ◌∙◌, arith, rules, subst, Data, Pointer, IsDocument, Operation, add, remove, replace, move, copy, test, IsWholeOp, AreWhole, InvalidPointer, Leaves, Accepts, pointee, after_remove, or_refused, after_step, after_run, undo_in, undo_add, with_left, block, inverse}
 use Rattle.json_patch.proofs.Pointees.{resolves_found}
 use Rattle.json_patch.proofs.OneResult.{added_exact, removed_exact, replaced_exact}
 use Rattle.json_patch.proofs.StepOutcomes.{stands_found, stands_document, removed_document, leaves_stepped, leaves_document}

@@ -1,17 +1,6 @@
 -- The inverse in the words of the definitions.
-use Rattle.std.proofs.Common.{◌≡◌, ◌≤◌, ◌*◌, ◌↔◌, ℕ, List, ◌++◌, length, Ok, Err, sym, subst, rules}
-use Rattle.serde_json.specs.Data.{Data}
-use Rattle.json_patch.specs.Document.{IsDocument, Segment, look}
-use Rattle.json_patch.specs.Resolve.{Resolves}
-use Rattle.json_patch.specs.Change.{IsReplaced}
-use Rattle.jsonptr.specs.Text.{Pointer}
-use Rattle.json_patch.specs.Operation.{Operation, IsWholeOp, AreWhole}
-use Rattle.json_patch.specs.declared.error.PatchErrorKind.{PatchErrorKind}
-use Rattle.json_patch.specs.Step.{Leaves, Refuses}
-use Rattle.json_patch.specs.Run.{Accepts, RefusesAt}
+use Rattle.json_patch.proofs.Common.{◌≡◌, ◌≤◌, ◌*◌, ◌↔◌, ℕ, List, ◌++◌, length, Ok, Err, sym, subst, rules, Data, IsDocument, Segment, look, Resolves, IsReplaced, Pointer, Operation, IsWholeOp, AreWhole, PatchErrorKind, Leaves, Refuses, Accepts, RefusesAt, fault, after_step, after_run, block, inverse}
 use Rattle.json_patch.specs.Inverse.{IsBlock, IsInverse}
-use Rattle.json_patch.specs.RunComputed.{fault, after_step, after_run}
-use Rattle.json_patch.specs.InverseComputed.{block, inverse}
 use Rattle.json_patch.proofs.Locations.{resolves_same}
 use Rattle.json_patch.proofs.StepOutcomes.{leaves_stepped, stepped_leaves, refuses_stepped, stepped_refuses}
 use Rattle.json_patch.proofs.Runs.{accepts_ran, ran_accepts, refuses_ran, ran_refuses, accepts_split, accepts_joined, accepts_document}

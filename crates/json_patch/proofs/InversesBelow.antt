@@ -1,20 +1,7 @@
 -- What undoes a step or a run below a pointer is what undoes it on what stands there, with the pointer's tokens in front.
-use Rattle.std.proofs.lemmas.Grind.{common_steps}
-use Rattle.std.proofs.Common.{◌≡◌, ◌↔◌, ℕ, List, [], ◌∷◌, ◌++◌, append_assoc, Option, Some, None, Result, Ok, Err, refl, sym, ap, ap₂, ◌∙◌, subst, rules, arith}
-use Rattle.std.proofs.lemmas.List.{map-append}
-use Rattle.serde_json.specs.Data.{Data}
-use Rattle.jsonptr.specs.Text.{Pointer}
-use Rattle.json_patch.specs.Document.{IsDocument}
-use Rattle.json_patch.specs.Resolve.{StandsAt}
-use Rattle.json_patch.specs.Operation.{Operation, add, move, IsWholeOp, AreWhole}
+use Rattle.json_patch.proofs.Common.{common_steps, ◌≡◌, ◌↔◌, ℕ, List, [], ◌∷◌, ◌++◌, append_assoc, Option, Some, None, Result, Ok, Err, refl, sym, ap, ap₂, ◌∙◌, subst, rules, arith, map-append, Data, Pointer, IsDocument, StandsAt, Operation, add, move, IsWholeOp, AreWhole, Accepts, pointee, after_remove, after_replace, front_of, last_of, undo_in, undo_add, with_found, with_left, block, inverse, after_step, strip, strip_all, extend, extend_all, PatchErrorKind}
 use Rattle.json_patch.specs.Inverse.{IsInverse}
-use Rattle.json_patch.specs.Run.{Accepts}
 use Rattle.json_patch.specs.Shared.{IsWithin, AreWithin}
-use Rattle.json_patch.specs.ChangeComputed.{pointee, after_remove, after_replace, front_of, last_of}
-use Rattle.json_patch.specs.InverseComputed.{undo_in, undo_add, with_found, with_left, block, inverse}
-use Rattle.json_patch.specs.RunComputed.{after_step}
-use Rattle.json_patch.specs.SharedComputed.{strip, strip_all, extend, extend_all}
-use Rattle.json_patch.specs.declared.error.PatchErrorKind.{PatchErrorKind}
 use Rattle.json_patch.proofs.Below.{Replaces, replaces, lifted, over, some_replaced, found_under, removed_under, stepped_under, all_whole_stripped, with_one, with_two}
 use Rattle.json_patch.proofs.Blocks.{inverse_is, inverse_only, inverse_accepted}
 use Rattle.json_patch.proofs.Locality.{runs_alike}

@@ -1,10 +1,6 @@
 -- The items of an array after a change.
-use Rattle.std.proofs.Common.{◌≡◌, ℕ, zero, suc, ◌<◌, ◌≤◌, Some, refl, ap, subst, arith, rules}
-use Rattle.serde_json.specs.Data.{Data, Items, no_items, item}
-use Rattle.serde_json.specs.Find.{get_item}
+use Rattle.json_patch.proofs.Common.{◌≡◌, ℕ, zero, suc, ◌<◌, ◌≤◌, Some, refl, ap, subst, arith, rules, Data, Items, no_items, item, get_item, IsDocument, AreDocuments, insert_item, remove_item, set_item}
 use Rattle.serde_json.specs.Events.{items_len}
-use Rattle.json_patch.specs.Document.{IsDocument, AreDocuments}
-use Rattle.json_patch.specs.ChangeComputed.{insert_item, remove_item, set_item}
 
 pub item_document : (i : ℕ) (c : Data) (ds : Items) → AreDocuments ds → get_item i ds ≡ Some c → IsDocument c
 item_document i c no_items h is = cc

@@ -1,19 +1,6 @@
 -- Locality in the words of the definitions.
-use Rattle.std.proofs.Common.{◌≡◌, ◌↔◌, ℕ, List, ◌∷◌, Some, Ok, Err, refl, ap, ◌∙◌, subst, rules}
-use Rattle.serde_json.specs.Data.{Data}
-use Rattle.jsonptr.specs.Text.{Pointer}
-use Rattle.json_patch.specs.Document.{IsDocument, Segment}
-use Rattle.json_patch.specs.Resolve.{Resolves, StandsAt}
-use Rattle.json_patch.specs.Change.{IsReplaced}
-use Rattle.json_patch.specs.Operation.{Operation, IsWholeOp, AreWhole}
-use Rattle.json_patch.specs.declared.error.PatchErrorKind.{PatchErrorKind}
-use Rattle.json_patch.specs.declared.error.PatchErrorKind.TheVariants.{InvalidPointer}
-use Rattle.json_patch.specs.Step.{Leaves, Refuses}
-use Rattle.json_patch.specs.Run.{Accepts, RefusesAt}
+use Rattle.json_patch.proofs.Common.{◌≡◌, ◌↔◌, ℕ, List, ◌∷◌, Some, Ok, Err, refl, ap, ◌∙◌, subst, rules, Data, Pointer, IsDocument, Segment, Resolves, StandsAt, IsReplaced, Operation, IsWholeOp, AreWhole, PatchErrorKind, InvalidPointer, Leaves, Refuses, Accepts, RefusesAt, set_child, pointee, after_replace, Outcome, fault, or_refused, after_step, after_run, strip, strip_all}
 use Rattle.json_patch.specs.Shared.{IsWithin, AreWithin}
-use Rattle.json_patch.specs.ChangeComputed.{set_child, pointee, after_replace}
-use Rattle.json_patch.specs.RunComputed.{Outcome, fault, or_refused, after_step, after_run}
-use Rattle.json_patch.specs.SharedComputed.{strip, strip_all}
 use Rattle.json_patch.proofs.Children.{child_set}
 use Rattle.json_patch.proofs.Locations.{names_step}
 use Rattle.json_patch.proofs.Alterations.{altered_some}

@@ -1,10 +1,5 @@
 -- Steps, pointers and their locations.
-use Rattle.std.proofs.lemmas.Grind.{common_steps}
-use Rattle.std.proofs.Common.{◌≡◌, ℕ, List, [], ◌∷◌, ◌++◌, Option, Some, option_map, refl, ap, rules, arith}
-use Rattle.serde_json.specs.Data.{Data}
-use Rattle.json_patch.specs.Document.{IsDocument, Segment, child}
-use Rattle.json_patch.specs.Resolve.{Names, Resolves}
-use Rattle.json_patch.specs.ChangeComputed.{segment_of, front_of, last_of}
+use Rattle.json_patch.proofs.Common.{common_steps, ◌≡◌, ℕ, List, [], ◌∷◌, ◌++◌, Option, Some, option_map, refl, ap, rules, arith, Data, IsDocument, Segment, child, Names, Resolves, segment_of, front_of, last_of}
 use Rattle.json_patch.proofs.Children.{child_document}
 
 pub option_map_some : {A B P : Type 0} (f : A → B) (o : Option A) (y : B) → option_map f o ≡ Some y → ((x : A) → o ≡ Some x → f x ≡ y → P) → P

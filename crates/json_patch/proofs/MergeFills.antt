@@ -1,22 +1,12 @@
 -- What is filled and then pruned is merged, and what was found leads back.
-use Rattle.std.proofs.Common.{◌≡◌, ◌≢◌, Vec, BTreeMap, String, Global, Result, Ok, Err, IsOk, IsErr, Bool, true, false, is_some, string_bytes, string_cmp, rules, ℕ, suc, ◌+◌, arith, List, [], ◌∷◌, ◌++◌, map, Option, Some, None, option_map, unwrap_or, Ordering, nat_cmp, refl, sym, ap, ◌∙◌, subst}
-use Rattle.std.proofs.lemmas.List.{map-append}
+use Rattle.json_patch.proofs.Common.{◌≡◌, ◌≢◌, Vec, BTreeMap, String, Global, Result, Ok, Err, IsOk, Bool, true, false, is_some, string_bytes, string_cmp, rules, ℕ, suc, ◌+◌, arith, List, [], ◌∷◌, ◌++◌, map, Option, Some, None, option_map, unwrap_or, Ordering, nat_cmp, refl, sym, ap, ◌∙◌, subst, map-append, lookup, remove_entry, set_value, slice_cmp, Data, null, object, Members, no_members, member, put, get, get_member, as_null, as_object, view, members_view, Value, Object, the_lemmas, Entry, get_member-put, members_view-insert_entry, view-lookup, view-Object, IsDocument, AreMembers, sight_of, key, without, IsFilled, IsFilledMember, AreFilled, replaces, by_key, stays, left, fills, Fills, FillsAt, Logs, IsPrunedMember, ArePruned, with_member, former_value, restore_members, members_before}
+use Rattle.std.proofs.Common.{IsErr}
 use Rattle.std.specs.Bool.{⊤}
 use Rattle.std.specs.Borrow.{Bor}
 use Rattle.std.specs.declared.alloc.AllocError.{AllocError}
 use Rattle.std.specs.BTreeMap.{insert_entry}
-use Rattle.std.specs.Map.{lookup, remove_entry, set_value}
-use Rattle.std.specs.Cmp.Lexicographic.{slice_cmp}
 use Rattle.std.specs.Ordering.{match_ordering}
-use Rattle.serde_json.specs.Data.{Data, null, object, Members, no_members, member, put}
-use Rattle.serde_json.specs.Find.{get, get_member, as_null, as_object}
-use Rattle.serde_json.specs.View.{view, members_view}
-use Rattle.serde_json.specs.declared.value.Value.{Value, Object, the_lemmas}
-use Rattle.serde_json.proofs.Views.{Entry, get_member-put, members_view-insert_entry, view-lookup, view-Object}
-use Rattle.json_patch.specs.Document.{IsDocument, AreMembers, sight_of, key}
 use Rattle.json_patch.specs.Sight.{Sight}
-use Rattle.json_patch.specs.ChangeComputed.{without}
-use Rattle.json_patch.specs.Filled.{IsFilled, IsFilledMember, AreFilled, replaces, by_key, stays, left, fills, Fills, FillsAt, Logs, IsPrunedMember, ArePruned, with_member, former_value, restore_members, members_before}
 use Rattle.json_patch.specs.Merged as m
 use Rattle.json_patch.specs.Merged.{IsMerged}
 use Rattle.json_patch.specs.MergedComputed.{members_of}

@@ -1,13 +1,5 @@
 -- A loop over a patch's members, each of which changes the document's member of its name alone.
-use Rattle.std.proofs.Common.{◌≡◌, ◌≢◌, ℕ, List, ◌∷◌, ⊎_elim, Option, Some, None, string_bytes, sym, ap, ◌∙◌, subst, rules}
-use Rattle.std.specs.Map.{lookup, remove_entry, set_value}
-use Rattle.serde_json.specs.Data.{Data, Members, member, put}
-use Rattle.serde_json.specs.Find.{get_member}
-use Rattle.serde_json.specs.View.{view, members_view}
-use Rattle.serde_json.specs.declared.value.Value.{Value}
-use Rattle.serde_json.proofs.Views.{Entry, get_member-put, get_member-put_other}
-use Rattle.json_patch.specs.Document.{IsDocument, AreMembers}
-use Rattle.json_patch.specs.ChangeComputed.{without}
+use Rattle.json_patch.proofs.Common.{◌≡◌, ◌≢◌, ℕ, List, ◌∷◌, ⊎_elim, Option, Some, None, string_bytes, sym, ap, ◌∙◌, subst, rules, lookup, remove_entry, set_value, Data, Members, member, put, get_member, view, members_view, Value, Entry, get_member-put, get_member-put_other, IsDocument, AreMembers, without}
 use Rattle.json_patch.proofs.Members.{below_absent, found_first, skips, put_members, without_members, get_without, get_without_other}
 use Rattle.json_patch.proofs.Merges.{name_cases}
 use Rattle.json_patch.proofs.Writes.{is_named, AreInOrder, members_view-remove_entry, members_view-set_value}

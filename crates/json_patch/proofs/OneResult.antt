@@ -1,10 +1,6 @@
 -- Each relation holds of exactly the document that is computed.
-use Rattle.std.proofs.Common.{◌≡◌, ℕ, List, Option, Some, None, refl, ap}
+use Rattle.json_patch.proofs.Common.{◌≡◌, ℕ, List, Option, Some, None, refl, ap, Data, IsDocument, IsAdded, IsRemoved, IsReplaced, after_add, after_remove, after_replace}
 use Rattle.std.specs.Prelude.{◌↔◌}
-use Rattle.serde_json.specs.Data.{Data}
-use Rattle.json_patch.specs.Document.{IsDocument}
-use Rattle.json_patch.specs.Change.{IsAdded, IsRemoved, IsReplaced}
-use Rattle.json_patch.specs.ChangeComputed.{after_add, after_remove, after_replace}
 use Rattle.json_patch.proofs.Additions.{added_is, added_none, added_one}
 use Rattle.json_patch.proofs.Removals.{removed_is, removed_none, removed_one}
 use Rattle.json_patch.proofs.Replacements.{replaced_is, replaced_none, replaced_one}

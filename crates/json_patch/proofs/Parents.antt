@@ -1,30 +1,12 @@
 -- An operation as a change of its container, which the walk finds at all tokens but the last.
-use Rattle.std.proofs.lemmas.Grind.{common_steps}
-use Rattle.std.proofs.Common.{◌≡◌, ◌<◌, ◌^◌, decimal, String, Global, string_bytes, ℕ, List, [], ◌∷◌, ◌++◌, length, drop, not, true, false, Bool, IsTrue, Option, Some, None, option_map, option_and_then, Result, Ok, Err, IfOk, refl, sym, ap, ◌∙◌, subst, rules, arith}
+use Rattle.json_patch.proofs.Common.{common_steps, ◌≡◌, ◌<◌, ◌^◌, decimal, String, Global, string_bytes, ℕ, List, [], ◌∷◌, ◌++◌, length, drop, not, true, false, Bool, IsTrue, Option, Some, None, option_map, option_and_then, Result, Ok, Err, IfOk, refl, sym, ap, ◌∙◌, subst, rules, arith, IsErr, IsErrAnd, append_cancel_left, Data, object, view, Value, Pointer, IsProperPrefix, decimal_token, token_is_decimal, Attempts, ComesTo, TakesOut, child, add, move, replace, path_of, segment_of, set_child, put_in, take_from, pointee, after_change, after_add, after_remove, after_replace, undo_in, undo_add, after_step, strip, InvalidFromPointer, CannotMoveInsideItself, StepFault}
 use Rattle.std.specs.Prelude.{◌↔◌}
 use Rattle.std.specs.declared.alloc.AllocError.{AllocError}
-use Rattle.std.specs.Result.{IsErr, IsErrAnd}
-use Rattle.std.proofs.lemmas.List.{append_cancel_left}
-use Rattle.serde_json.specs.Data.{Data, object}
-use Rattle.serde_json.specs.View.{view}
-use Rattle.serde_json.specs.declared.value.Value.{Value}
-use Rattle.jsonptr.specs.Text.{Pointer, IsProperPrefix}
-use Rattle.jsonptr.specs.Places.{decimal_token}
-use Rattle.jsonptr.specs.PlaceLaws.{token_is_decimal}
-use Rattle.json_patch.specs.Attempt.{Attempts, ComesTo, TakesOut}
-use Rattle.json_patch.specs.Document.{child}
-use Rattle.json_patch.specs.Operation.{add, move, replace, path_of}
-use Rattle.json_patch.specs.ChangeComputed.{segment_of, set_child, put_in, take_from, pointee, after_change, after_add, after_remove, after_replace}
 use Rattle.json_patch.specs.Edits.{Displaces, DisplacesAt, IsTaken, Undoes, undo_at_place}
 use Rattle.json_patch.specs.InPlace.{AreUnescaped, IsUnescaped}
-use Rattle.json_patch.specs.InverseComputed.{undo_in, undo_add}
-use Rattle.json_patch.specs.RunComputed.{after_step}
-use Rattle.json_patch.specs.SharedComputed.{strip}
-use Rattle.json_patch.specs.declared.error.PatchErrorKind.TheVariants.{InvalidFromPointer, CannotMoveInsideItself}
 use Rattle.json_patch.specs.declared.walk.Displaced.{Displaced}
 use Rattle.json_patch.specs.declared.walk.Displaced.TheVariants.{Nothing, Former}
 use Rattle.json_patch.specs.declared.walk.Edit.TheVariants.{Insert, Take, Swap}
-use Rattle.json_patch.specs.declared.error.StepFault.{StepFault}
 use Rattle.json_patch.proofs.Locations.{split_is}
 use Rattle.json_patch.proofs.StepOutcomes.{prefix_begins, not_begins}
 use Rattle.json_patch.proofs.BlocksLeadBack.{found_append}

@@ -1,24 +1,8 @@
 -- A run on a copy of a part of a document, one step at a time, and what it is of the document.
-use Rattle.std.proofs.Common.{◌≡◌, ◌⊎◌, inl, inr, ⊎_elim, ◌+◌, ◌-◌, ◌<◌, ◌≤◌, IsTrue, Bool, false, if◌then◌else◌, ℕ, zero, suc, List, [], ◌∷◌, ◌++◌, length, drop, take, Option, Some, Result, Ok, Err, refl, sym, ap, ◌∙◌, subst, arith, rules}
+use Rattle.json_patch.proofs.Common.{◌≡◌, ◌⊎◌, inl, inr, ⊎_elim, ◌+◌, ◌-◌, ◌<◌, ◌≤◌, IsTrue, Bool, false, if◌then◌else◌, ℕ, zero, suc, List, [], ◌∷◌, ◌++◌, length, drop, take, Option, Some, Result, Ok, Err, refl, sym, ap, ◌∙◌, subst, arith, rules, is_err, Data, Pointer, IsPrefix, IsProperPrefix, Attempts, ComesTo, pointee, after_replace, IsDocument, block, Operation, add, remove, replace, move, copy, test, AreWhole, IsWholeOp, operation_of, operations, Accepts, or_refused, after_step, strip, extend_all, AreRecorded, log_of, PatchErrorKind, InvalidPointer, PatchOperation, StepFault}
 use mathlib.Core.List.{reverse}
-use Rattle.std.specs.Result.{is_err}
-use Rattle.serde_json.specs.Data.{Data}
-use Rattle.jsonptr.specs.Text.{Pointer, IsPrefix, IsProperPrefix}
-use Rattle.json_patch.specs.Attempt.{Attempts, ComesTo}
-use Rattle.json_patch.specs.ChangeComputed.{pointee, after_replace}
-use Rattle.json_patch.specs.Document.{IsDocument}
-use Rattle.json_patch.specs.InverseComputed.{block}
-use Rattle.json_patch.specs.Operation.{Operation, add, remove, replace, move, copy, test, AreWhole, IsWholeOp, operation_of, operations}
 use Rattle.json_patch.specs.PartRun.{AreAt, IsBegun, block_at}
-use Rattle.json_patch.specs.Run.{Accepts}
-use Rattle.json_patch.specs.RunComputed.{or_refused, after_step}
 use Rattle.json_patch.specs.Shared.{IsWithin, AreWithin}
-use Rattle.json_patch.specs.SharedComputed.{strip, extend_all}
-use Rattle.json_patch.specs.Undoing.{AreRecorded, log_of}
-use Rattle.json_patch.specs.declared.error.PatchErrorKind.{PatchErrorKind}
-use Rattle.json_patch.specs.declared.error.PatchErrorKind.TheVariants.{InvalidPointer}
-use Rattle.json_patch.specs.declared.operation.PatchOperation.{PatchOperation}
-use Rattle.json_patch.specs.declared.error.StepFault.{StepFault}
 use Rattle.json_patch.specs.declared.record.Keep.{Keep}
 use Rattle.json_patch.specs.declared.record.Keep.TheVariants.{Inverse}
 use Rattle.json_patch.proofs.ProgramRuns.{IsAt, IsState, recorded_more, state_more, whole_at}

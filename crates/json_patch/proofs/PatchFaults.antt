@@ -1,12 +1,7 @@
 -- The faults of an operation value, in their order.
-use Rattle.std.proofs.Common.{◌≡◌, ℕ, List, [], ◌∷◌, ◌⊎◌, Option, Some, None, refl, sym, ap, ◌∙◌, subst, inl, inr, ⊎_elim, codes, rules}
-use Rattle.serde_json.specs.Data.{Data, string, array, object, Items, no_items, item, Members, no_members, member}
-use Rattle.serde_json.specs.Find.{get}
-use Rattle.jsonptr.specs.Text.{Pointer, text_of}
+use Rattle.json_patch.proofs.Common.{◌≡◌, ℕ, List, [], ◌∷◌, ◌⊎◌, Option, Some, None, refl, sym, ap, ◌∙◌, subst, inl, inr, ⊎_elim, codes, rules, Data, string, array, object, Items, no_items, item, Members, no_members, member, get, Pointer, text_of, IsDocument, AreDocuments, AreMembers, IsBelowMembers, IsObject, Lacks, HasNoText, HasNoPointer, HasNoDocument, IsFieldFault, NoneBelow, IsFirst, rank}
 use Rattle.jsonptr.specs.Faults.{IsFault}
 use Rattle.jsonptr.specs.declared.ParseError.{ParseError}
-use Rattle.json_patch.specs.Document.{IsDocument, AreDocuments, AreMembers, IsBelowMembers}
-use Rattle.json_patch.specs.PatchValue.{IsObject, Lacks, HasNoText, HasNoPointer, HasNoDocument, IsFieldFault, NoneBelow, IsFirst, rank}
 use Rattle.json_patch.specs.ReadSteps.{HasAnyFrom, IsPointerAt}
 use Rattle.json_patch.specs.declared.error.ReadKind.{ReadKind}
 use Rattle.json_patch.specs.declared.error.ReadKind.TheVariants.{BadFrom, BadPath}

@@ -1,14 +1,6 @@
 -- A value reads as one patch, or is refused with one number and kind; what is written_value reads back.
-use Rattle.std.proofs.Common.{◌≡◌, ℕ, zero, suc, List, [], ◌∷◌, map, ◌⊎◌, Option, Some, None, refl, sym, ◌∙◌, inl, inr, ⊎_elim, codes, Bool, false, true≢false, rules, subst}
+use Rattle.json_patch.proofs.Common.{◌≡◌, ℕ, zero, suc, List, [], ◌∷◌, map, ◌⊎◌, Option, Some, None, refl, sym, ◌∙◌, inl, inr, ⊎_elim, codes, Bool, false, true≢false, rules, subst, bytes_eq-Decides, Data, null, string, array, Items, no_items, item, get, items_of, Pointer, text_of, IsDocument, AreDocuments, Operation, add, remove, replace, move, copy, test, IsWholeOp, AreWhole, name_of, field_names, ReadsFields, ReadsOperation, ReadsItems, ReadsPatch, IsObject, IsOneOf, IsFieldFault, IsOperationFault, RefusesFields, RefusesOperation, RefusesItem, written_value, written_fields, written_patch}
 use Rattle.std.specs.Str.{bytes_eq}
-use Rattle.std.proofs.lemmas.Slice.Eq.{bytes_eq-Decides}
-use Rattle.serde_json.specs.Data.{Data, null, string, array, Items, no_items, item}
-use Rattle.serde_json.specs.Find.{get}
-use Rattle.serde_json.specs.View.{items_of}
-use Rattle.jsonptr.specs.Text.{Pointer, text_of}
-use Rattle.json_patch.specs.Document.{IsDocument, AreDocuments}
-use Rattle.json_patch.specs.Operation.{Operation, add, remove, replace, move, copy, test, IsWholeOp, AreWhole}
-use Rattle.json_patch.specs.PatchValue.{name_of, field_names, ReadsFields, ReadsOperation, ReadsItems, ReadsPatch, IsObject, IsOneOf, IsFieldFault, IsOperationFault, RefusesFields, RefusesOperation, RefusesItem, written_value, written_fields, written_patch}
 use Rattle.json_patch.specs.ReadSteps.{HasAnyFrom}
 use Rattle.json_patch.specs.ReadLaws.{IsRead, HasReadFault, IsReadAlone, HasReadFaultAlone, IsReadLike, HasReadFaultLike}
 use Rattle.json_patch.specs.declared.error.ReadKind.{ReadKind}

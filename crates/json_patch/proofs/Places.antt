@@ -1,9 +1,6 @@
 -- Locations under and beside another.
-use Rattle.std.proofs.Common.{◌≡◌, ℕ, ◌<◌, ◌≤◌, List, [], ◌∷◌, ◌++◌, ◌⊎◌, inl, inr, ⊎_elim, refl, ap, arith, rules}
+use Rattle.json_patch.proofs.Common.{◌≡◌, ℕ, ◌<◌, ◌≤◌, List, [], ◌∷◌, ◌++◌, ◌⊎◌, inl, inr, ⊎_elim, refl, ap, arith, rules, append_cancel_left, Segment, key, place, IsBeside}
 use Rattle.std.proofs.lemmas.Bool.{cases_lt}
-use Rattle.std.proofs.lemmas.List.{append_cancel_left}
-use Rattle.json_patch.specs.Document.{Segment, key, place}
-use Rattle.json_patch.specs.Change.{IsBeside}
 use Rattle.json_patch.proofs.Children.{step_cases}
 
 abbrev pub IsUnder : List Segment → List Segment → Type 0

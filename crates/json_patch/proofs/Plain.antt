@@ -1,17 +1,6 @@
 -- An inverse holds `add`, `remove` and `replace` alone, and no `-` for a place in a list.
-use Rattle.std.proofs.Common.{◌≡◌, ℕ, List, [], ◌∷◌, ◌++◌, append_assoc, Option, Some, None, option_and_then, Ok, refl, sym, ap, ◌∙◌, subst, rules}
-use Rattle.std.proofs.lemmas.Option.{option_and_then_some}
-use Rattle.serde_json.specs.Data.{Data, array, Items}
-use Rattle.jsonptr.specs.Text.{Pointer}
-use Rattle.jsonptr.specs.Places.{next_token}
-use Rattle.json_patch.specs.Document.{IsDocument, child}
-use Rattle.json_patch.specs.Operation.{Operation, add, remove, replace, move, copy, test, IsWholeOp, AreWhole}
-use Rattle.json_patch.specs.Step.{Leaves}
-use Rattle.json_patch.specs.Run.{Accepts}
+use Rattle.json_patch.proofs.Common.{◌≡◌, ℕ, List, [], ◌∷◌, ◌++◌, append_assoc, Option, Some, None, option_and_then, Ok, refl, sym, ap, ◌∙◌, subst, rules, option_and_then_some, Data, array, Items, Pointer, next_token, IsDocument, child, Operation, add, remove, replace, move, copy, test, IsWholeOp, AreWhole, Leaves, Accepts, segment_of, set_child, take_from, pointee, after_change, after_remove, front_of, last_of, after_step, undo_at, undo_in, undo_add, block, inverse, next_is_no_place}
 use Rattle.json_patch.specs.Inverse.{NamesNoNext, IsPlain, ArePlain, IsInverse}
-use Rattle.json_patch.specs.ChangeComputed.{segment_of, set_child, take_from, pointee, after_change, after_remove, front_of, last_of}
-use Rattle.json_patch.specs.RunComputed.{after_step}
-use Rattle.json_patch.specs.InverseComputed.{undo_at, undo_in, undo_add, block, inverse}
 use Rattle.json_patch.proofs.Blocks.{inverse_only}
 use Rattle.json_patch.proofs.Children.{child_set}
 use Rattle.json_patch.proofs.OneResult.{added_exact, removed_exact}
@@ -20,7 +9,6 @@ use Rattle.json_patch.proofs.ChildChanges.{step_of_set}
 use Rattle.json_patch.proofs.Parents.{removed_in}
 use Rattle.json_patch.proofs.Locations.{option_map_some, split_whole}
 use Rattle.json_patch.proofs.Runs.{accepted, accepts_document, accepts_ran}
-use Rattle.jsonptr.specs.PlaceLaws.{next_is_no_place}
 use Rattle.json_patch.proofs.StepOutcomes.{leaves_document, leaves_stepped, removed_document, stands_document, stands_found}
 use Rattle.json_patch.proofs.BlocksLeadBack.{found_append, undo_added}
 

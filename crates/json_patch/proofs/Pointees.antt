@@ -1,12 +1,6 @@
 -- What is pointee at a pointer stands at the location to which it resolves.
-use Rattle.std.proofs.Common.{◌≡◌, ℕ, List, [], ◌∷◌, Option, Some, IfNone, IfSome, option_map, rules}
-use Rattle.std.proofs.lemmas.Option.{option_and_then_some}
+use Rattle.json_patch.proofs.Common.{◌≡◌, ℕ, List, [], ◌∷◌, Option, Some, IfNone, IfSome, option_map, rules, option_and_then_some, Data, Segment, child, value_at, Resolves, StandsAt, Never, segment_of, pointee}
 use Rattle.std.specs.Prelude.{◌↔◌}
-use Rattle.serde_json.specs.Data.{Data}
-use Rattle.json_patch.specs.Document.{Segment, child, value_at}
-use Rattle.json_patch.specs.Resolve.{Resolves, StandsAt}
-use Rattle.json_patch.specs.Step.{Never}
-use Rattle.json_patch.specs.ChangeComputed.{segment_of, pointee}
 use Rattle.json_patch.proofs.Locations.{names_step}
 
 pub found_resolves : (d : Data) (P : List (List ℕ)) (c : Data) → pointee d P ≡ Some c → (L : List Segment) × Resolves d P L c

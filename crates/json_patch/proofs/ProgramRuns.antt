@@ -1,26 +1,13 @@
 -- A run over a list of operations of the program, one step at a time.
-use Rattle.std.proofs.lemmas.Grind.{common_steps}
-use Rattle.std.proofs.Common.{◌≡◌, ◌+◌, ◌<◌, ◌≤◌, ℕ, zero, suc, ◌*◌, List, [], ◌∷◌, ◌++◌, length, get_or, take, Some, option_map, Result, Ok, Err, refl, sym, ap, ap₂, ◌∙◌, subst, add-one, arith, rules}
-use Rattle.std.proofs.lemmas.List.{map-append, reverse-append, reverse-reverse}
+use Rattle.json_patch.proofs.Common.{common_steps, ◌≡◌, ◌+◌, ◌<◌, ◌≤◌, ℕ, zero, suc, ◌*◌, List, [], ◌∷◌, ◌++◌, length, get_or, take, Some, option_map, Result, Ok, Err, refl, sym, ap, ap₂, ◌∙◌, subst, add-one, arith, rules, map-append, reverse-append, reverse-reverse, Data, ComesTo, IsDocument, block, inverse, Operation, AreWhole, IsWholeOp, operation_of, operations, path_of, Accepts, RefusesAt, IsAccepted, after_run, after_step, Leaves, Refuses, PatchErrorKind, PatchOperation, StepFault}
 use mathlib.Core.List.{reverse}
 use Rattle.std.specs.List.{slice_get}
-use Rattle.serde_json.specs.Data.{Data}
-use Rattle.json_patch.specs.Attempt.{ComesTo}
-use Rattle.json_patch.specs.Document.{IsDocument}
 use Rattle.json_patch.specs.Faulting.{Reports}
 use Rattle.json_patch.specs.InPlace.{AreInPlace, IsInPlace, NeverShort}
 use Rattle.json_patch.specs.Inverse.{ArePlain, IsInverse}
-use Rattle.json_patch.specs.InverseComputed.{block, inverse}
-use Rattle.json_patch.specs.Operation.{Operation, AreWhole, IsWholeOp, operation_of, operations, path_of}
 use Rattle.json_patch.specs.Refusal.{NamesFirst, IfRefused, IfShort}
-use Rattle.json_patch.specs.Run.{Accepts, RefusesAt, IsAccepted}
-use Rattle.json_patch.specs.RunComputed.{after_run, after_step}
-use Rattle.json_patch.specs.Step.{Leaves, Refuses}
-use Rattle.json_patch.specs.declared.error.PatchErrorKind.{PatchErrorKind}
 use Rattle.json_patch.specs.declared.error.PatchFault.{PatchFault}
 use Rattle.json_patch.specs.declared.error.PatchFault.TheVariants.{Memory}
-use Rattle.json_patch.specs.declared.operation.PatchOperation.{PatchOperation}
-use Rattle.json_patch.specs.declared.error.StepFault.{StepFault}
 use Rattle.json_patch.specs.declared.error.StepFault.TheVariants.{Refused as step_refused, Memory as step_short}
 use Rattle.json_patch.proofs.Blocks.{inverse_is}
 use Rattle.json_patch.proofs.InverseRuns.{inverse_back, inverse_joined, inverse_length, inverse_whole}

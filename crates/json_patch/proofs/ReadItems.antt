@@ -1,15 +1,8 @@
 -- The operation that `op` names, and the items of a list, read one by one.
-use Rattle.std.proofs.Common.{◌≡◌, ◌<◌, ℕ, zero, suc, subst, List, [], ◌∷◌, ◌++◌, take, length, get_or, arith, Some, codes, Result, rules}
+use Rattle.json_patch.proofs.Common.{◌≡◌, ◌<◌, ℕ, zero, suc, subst, List, [], ◌∷◌, ◌++◌, take, length, get_or, arith, Some, codes, Result, rules, Data, Items, array, item, string, get, view, items_view, Value, Operation, AreWhole, operation_of, operations, IfUnreadAlone, OfKind, ReadsItems, ReadsOperation, ReadsPatch, RefusesItem, RefusesFields, RefusesOperation, name_of, field_names, PatchOperation}
 use Rattle.std.specs.Prelude.{IsErrAnd}
-use Rattle.serde_json.specs.Data.{Data, Items, array, item, string}
-use Rattle.serde_json.specs.Find.{get}
-use Rattle.serde_json.specs.View.{view, items_view}
-use Rattle.serde_json.specs.declared.value.Value.{Value}
-use Rattle.json_patch.specs.Operation.{Operation, AreWhole, operation_of, operations}
-use Rattle.json_patch.specs.PatchValue.{IfUnreadAlone, OfKind, ReadsItems, ReadsOperation, ReadsPatch, RefusesItem, RefusesFields, RefusesOperation, name_of, field_names}
 use Rattle.json_patch.specs.declared.error.ReadFault.{ReadFault}
 use Rattle.json_patch.specs.declared.error.ReadKind.{ReadKind}
-use Rattle.json_patch.specs.declared.operation.PatchOperation.{PatchOperation}
 
 -- what is read is whole
 pub reads_whole : (ds : Items) (ops : List Operation) → ReadsItems ds ops → AreWhole ops

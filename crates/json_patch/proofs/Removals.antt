@@ -1,11 +1,5 @@
 -- The computed document is the one that remove leaves, and the only one.
-use Rattle.std.proofs.Common.{◌≡◌, ℕ, List, [], ◌∷◌, ◌++◌, Some, None, ap, subst, rules}
-use Rattle.std.proofs.lemmas.Option.{option_and_then_some}
-use Rattle.serde_json.specs.Data.{Data, array, object, Items, Members}
-use Rattle.json_patch.specs.Document.{IsDocument, Segment, key, place, child, look}
-use Rattle.json_patch.specs.Resolve.{Names, Resolves}
-use Rattle.json_patch.specs.Change.{IsBeside, TakesAt, IsRemoved}
-use Rattle.json_patch.specs.ChangeComputed.{segment_of, drop_child, front_of, last_of, take_from, after_remove, remove_item, without}
+use Rattle.json_patch.proofs.Common.{◌≡◌, ℕ, List, [], ◌∷◌, ◌++◌, Some, None, ap, subst, rules, option_and_then_some, Data, array, object, Items, Members, IsDocument, Segment, key, place, child, look, Names, Resolves, IsBeside, TakesAt, IsRemoved, segment_of, drop_child, front_of, last_of, take_from, after_remove, remove_item, without}
 use Rattle.json_patch.proofs.Alike.{alike}
 use Rattle.json_patch.proofs.Members.{get_without, get_without_other, without_members}
 use Rattle.json_patch.proofs.Items.{get_remove_later, get_remove_before, remove_items}

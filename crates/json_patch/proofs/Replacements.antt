@@ -1,10 +1,5 @@
 -- The computed document is the one that replace leaves, and the only one.
-use Rattle.std.proofs.Common.{◌≡◌, ℕ, List, Some, None, refl, rules}
-use Rattle.serde_json.specs.Data.{Data}
-use Rattle.json_patch.specs.Document.{IsDocument, Segment, look}
-use Rattle.json_patch.specs.Resolve.{Resolves}
-use Rattle.json_patch.specs.Change.{SetsAt, IsReplaced}
-use Rattle.json_patch.specs.ChangeComputed.{after_replace}
+use Rattle.json_patch.proofs.Common.{◌≡◌, ℕ, List, Some, None, refl, rules, Data, IsDocument, Segment, look, Resolves, SetsAt, IsReplaced, after_replace}
 use Rattle.json_patch.proofs.Alike.{alike}
 use Rattle.json_patch.proofs.Places.{IsUnder, IsApart, under_cases}
 use Rattle.json_patch.proofs.Locations.{resolves_same}

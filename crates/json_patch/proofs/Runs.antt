@@ -1,12 +1,5 @@
 -- A run ends exactly where it is computed to end; joined lists.
-use Rattle.std.proofs.lemmas.Grind.{common_steps}
-use Rattle.std.proofs.Common.{◌≡◌, ◌+◌, inl, inr, ℕ, suc, List, [], ◌∷◌, ◌++◌, length, Result, Ok, Err, refl, sym, ap, ◌∙◌, subst, arith, rules}
-use Rattle.serde_json.specs.Data.{Data}
-use Rattle.json_patch.specs.Document.{IsDocument}
-use Rattle.json_patch.specs.Operation.{Operation, test, IsWholeOp, AreWhole}
-use Rattle.json_patch.specs.declared.error.PatchErrorKind.{PatchErrorKind}
-use Rattle.json_patch.specs.Run.{Accepts, RefusesAt, IsAccepted, IsRefused, Ends, AreTests}
-use Rattle.json_patch.specs.RunComputed.{Outcome, fault, one_later, then_run, after_step, after_run}
+use Rattle.json_patch.proofs.Common.{common_steps, ◌≡◌, ◌+◌, inl, inr, ℕ, suc, List, [], ◌∷◌, ◌++◌, length, Result, Ok, Err, refl, sym, ap, ◌∙◌, subst, arith, rules, Data, IsDocument, Operation, test, IsWholeOp, AreWhole, PatchErrorKind, Accepts, RefusesAt, IsAccepted, IsRefused, Ends, AreTests, Outcome, fault, one_later, then_run, after_step, after_run}
 use Rattle.json_patch.proofs.StepOutcomes.{leaves_stepped, refuses_stepped, stepped_leaves, stepped_refuses, leaves_document}
 
 pub accepts_ran : (d : Data) (ops : List Operation) (e : Data) → IsDocument d → AreWhole ops → Accepts d ops e → after_run d ops ≡ Ok e

@@ -1,13 +1,8 @@
 -- On documents equality is `≡`, and what a comparison answers is what it says.
-use Rattle.std.proofs.Common.{◌≡◌, ◌↔◌, IsTrue, List, [], ◌∷◌, Bool, true, Option, Some, IfSome, sym, ap, subst, rules}
+use Rattle.json_patch.proofs.Common.{◌≡◌, ◌↔◌, IsTrue, List, [], ◌∷◌, Bool, true, Option, Some, IfSome, sym, ap, subst, rules, pointwise, Data, array, object, Items, item, Members, member, IsDocument, AreDocuments, AreMembers, Operation, Parts, parts_of, operation_of, operations, IsWholeOp, AreWhole, PatchOperation}
 use Rattle.std.specs.Bool.{Decides}
-use Rattle.std.specs.Cmp.Lexicographic.{pointwise}
 use Rattle.std.specs.Ordering.{on}
 use Rattle.std.proofs.lemmas.Bool.Decides.{Decides-and, Decides-at, Decides-like}
-use Rattle.serde_json.specs.Data.{Data, array, object, Items, item, Members, member}
-use Rattle.json_patch.specs.Document.{IsDocument, AreDocuments, AreMembers}
-use Rattle.json_patch.specs.Operation.{Operation, Parts, parts_of, operation_of, operations, IsWholeOp, AreWhole}
-use Rattle.json_patch.specs.declared.operation.PatchOperation.{PatchOperation}
 use Rattle.json_patch.specs.Same.{AreSame, AreSameItems, AreSameMembers, AreSameAt, AreSameParts, AreSameOperations, AreSameLists}
 use Rattle.json_patch.specs.SameComputed.{same, same_parts, same_operation}
 use Rattle.json_patch.specs.SameLaws.{AreSame-refl, AreSame-sym, AreSame-trans, same-Decides, parts-refl, parts-Decides}

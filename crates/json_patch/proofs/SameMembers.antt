@@ -1,9 +1,5 @@
 -- Objects whose members stand in order are the same where each name has the same in both.
-use Rattle.std.proofs.Common.{◌≡◌, ◌↔◌, ℕ, List, Ordering, Equal, nat_cmp, refl, rules}
-use Rattle.std.specs.Cmp.Lexicographic.{slice_cmp}
-use Rattle.serde_json.specs.Data.{Data, object, Members, no_members, member}
-use Rattle.serde_json.specs.Find.{get_member}
-use Rattle.json_patch.specs.Document.{IsBelowMembers}
+use Rattle.json_patch.proofs.Common.{◌≡◌, ◌↔◌, ℕ, List, Ordering, Equal, nat_cmp, refl, rules, slice_cmp, Data, object, Members, no_members, member, get_member, IsBelowMembers}
 use Rattle.json_patch.specs.Same.{AreSame, AreSameMembers, AreSameAt, AreInOrder}
 use Rattle.json_patch.proofs.Members.{tied_same, less_back, below_more, below_absent, found_first}
 

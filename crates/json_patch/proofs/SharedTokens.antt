@@ -1,14 +1,7 @@
 -- The tokens that a list shares are those that are computed.
-use Rattle.std.proofs.lemmas.Grind.{common_steps}
-use Rattle.std.proofs.Common.{◌≡◌, ◌↔◌, ◌+◌, ◌<◌, ◌≤◌, ℕ, suc, List, [], ◌∷◌, ◌++◌, length, drop, add-one, arith, append_assoc, append-nil, Bool, true, bytes_eq, if◌then◌else◌, Option, Some, None, IfNone, refl, sym, ap, ◌∙◌, subst, rules}
-use Rattle.std.proofs.lemmas.Slice.Eq.{bytes_eq-Decides}
-use Rattle.jsonptr.specs.Text.{Pointer, IsPrefix, IsProperPrefix, IsLongestShared}
-use Rattle.json_patch.specs.Operation.{Operation, add, remove, replace, move, copy, test, operation_of, operations, path_of, from_of}
+use Rattle.json_patch.proofs.Common.{common_steps, ◌≡◌, ◌↔◌, ◌+◌, ◌<◌, ◌≤◌, ℕ, suc, List, [], ◌∷◌, ◌++◌, length, drop, add-one, arith, append_assoc, append-nil, Bool, true, bytes_eq, if◌then◌else◌, Option, Some, None, IfNone, refl, sym, ap, ◌∙◌, subst, rules, bytes_eq-Decides, Pointer, IsPrefix, IsProperPrefix, IsLongestShared, Operation, add, remove, replace, move, copy, test, operation_of, operations, path_of, from_of, PatchOperation, front_of, last_of, common_prefix, all_pointers, parents_of, shared_of, shared_tokens}
 use Rattle.json_patch.specs.PartRun.{IsLongest}
-use Rattle.json_patch.specs.declared.operation.PatchOperation.{PatchOperation}
 use Rattle.json_patch.specs.Shared.{IsWithin, AreWithin, IsNotEmpty, IsShared}
-use Rattle.json_patch.specs.ChangeComputed.{front_of, last_of}
-use Rattle.json_patch.specs.SharedComputed.{common_prefix, all_pointers, parents_of, shared_of, shared_tokens}
 use Rattle.json_patch.proofs.ProgramRuns.{IsAt}
 use Rattle.json_patch.proofs.Locations.{split_whole, split_is}
 

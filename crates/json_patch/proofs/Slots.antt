@@ -1,16 +1,8 @@
 -- Where a token puts a new child, and what that leaves.
-use Rattle.std.proofs.Common.{◌≡◌, ℕ, ◌<◌, ◌≤◌, List, [], ◌∷◌, ⊎_elim, Bool, true, if◌then◌else◌, leb, bytes_eq, Option, Some, None, option_map, option_and_then, refl, ap, arith, rules}
+use Rattle.json_patch.proofs.Common.{◌≡◌, ℕ, ◌<◌, ◌≤◌, List, [], ◌∷◌, ⊎_elim, Bool, true, if◌then◌else◌, leb, bytes_eq, Option, Some, None, option_map, option_and_then, refl, ap, arith, rules, bytes_eq-Decides, Data, array, object, Items, Members, put, get_member-put, get_member-put_other, next_is_no_place, IsDocument, Segment, key, place, look, sight, value_at, Aims, PutsAt, IsBeside, slot_of, put_in, insert_item}
 use Rattle.std.proofs.lemmas.Bool.{cases_lt}
 use Rattle.std.proofs.lemmas.Bool.Decides.{nat_tests}
-use Rattle.std.proofs.lemmas.Slice.Eq.{bytes_eq-Decides}
-use Rattle.serde_json.specs.Data.{Data, array, object, Items, Members, put}
 use Rattle.serde_json.specs.Events.{items_len}
-use Rattle.serde_json.proofs.Views.{get_member-put, get_member-put_other}
-use Rattle.jsonptr.specs.PlaceLaws.{next_is_no_place}
-use Rattle.json_patch.specs.Document.{IsDocument, Segment, key, place, look, sight, value_at}
-use Rattle.json_patch.specs.Resolve.{Aims}
-use Rattle.json_patch.specs.Change.{PutsAt, IsBeside}
-use Rattle.json_patch.specs.ChangeComputed.{slot_of, put_in, insert_item}
 use Rattle.json_patch.proofs.Members.{put_members}
 use Rattle.json_patch.proofs.Items.{get_insert, get_insert_later, get_insert_before, insert_items}
 use Rattle.json_patch.proofs.Locations.{option_map_some}

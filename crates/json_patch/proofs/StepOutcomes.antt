@@ -1,18 +1,6 @@
 -- An operation leaves, or is refused for, exactly what is computed.
-use Rattle.std.proofs.Common.{◌≡◌, ◌&&◌, ℕ, List, [], ◌∷◌, ◌++◌, Bool, true, false, bytes_eq, if◌then◌else◌, Option, Some, None, Ok, Err, refl, sym, ap, ◌∙◌, subst, rules}
-use Rattle.std.proofs.lemmas.Slice.Eq.{bytes_eq-Decides}
-use Rattle.serde_json.specs.Data.{Data}
-use Rattle.jsonptr.specs.Text.{Pointer, IsProperPrefix}
-use Rattle.json_patch.specs.Document.{IsDocument}
-use Rattle.json_patch.specs.Change.{IsAdded, IsRemoved, IsReplaced}
-use Rattle.json_patch.specs.Operation.{Operation, add, remove, replace, move, copy, test, IsWholeOp}
-use Rattle.json_patch.specs.declared.error.PatchErrorKind.{PatchErrorKind}
-use Rattle.json_patch.specs.declared.error.PatchErrorKind.TheVariants.{TestFailed, InvalidFromPointer, InvalidPointer, CannotMoveInsideItself}
-use Rattle.json_patch.specs.Resolve.{StandsAt}
-use Rattle.json_patch.specs.Step.{Never, Leaves, Refuses}
-use Rattle.json_patch.specs.ChangeComputed.{pointee, after_add, after_remove, after_replace}
+use Rattle.json_patch.proofs.Common.{◌≡◌, ◌&&◌, ℕ, List, [], ◌∷◌, ◌++◌, Bool, true, false, bytes_eq, if◌then◌else◌, Option, Some, None, Ok, Err, refl, sym, ap, ◌∙◌, subst, rules, bytes_eq-Decides, Data, Pointer, IsProperPrefix, IsDocument, IsAdded, IsRemoved, IsReplaced, Operation, add, remove, replace, move, copy, test, IsWholeOp, PatchErrorKind, TestFailed, InvalidFromPointer, InvalidPointer, CannotMoveInsideItself, StandsAt, Never, Leaves, Refuses, pointee, after_add, after_remove, after_replace, begins, or_refused, after_move, after_copy, after_test, after_step}
 use Rattle.json_patch.specs.SameComputed.{same}
-use Rattle.json_patch.specs.RunComputed.{begins, or_refused, after_move, after_copy, after_test, after_step}
 use Rattle.json_patch.proofs.SameDocuments.{same-is, same-refl}
 use Rattle.json_patch.proofs.Locations.{resolves_document}
 use Rattle.json_patch.proofs.Pointees.{found_resolves, resolves_found}

@@ -1,8 +1,5 @@
 -- An operation as a walk to the parent, a change there, and the parent put back.
-use Rattle.std.proofs.Common.{◌≡◌, ℕ, List, [], ◌∷◌, ◌++◌, Option, Some, option_map, option_and_then, refl, ap, rules}
-use Rattle.serde_json.specs.Data.{Data}
-use Rattle.json_patch.specs.Document.{Segment, child}
-use Rattle.json_patch.specs.ChangeComputed.{segment_of, set_child, pointee, after_change, after_replace, front_of, last_of}
+use Rattle.json_patch.proofs.Common.{◌≡◌, ℕ, List, [], ◌∷◌, ◌++◌, Option, Some, option_map, option_and_then, refl, ap, rules, Data, Segment, child, segment_of, set_child, pointee, after_change, after_replace, front_of, last_of}
 
 again : (o : Option Data) → o ≡ option_and_then (λ q. Some q) o
 again o = search rules

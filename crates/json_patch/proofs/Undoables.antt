@@ -1,11 +1,7 @@
 -- Operations that can be undone with no memory, by their number.
-use Rattle.std.proofs.lemmas.Grind.{common_steps}
-use Rattle.std.proofs.Common.{◌≡◌, ◌<◌, ◌-◌, ℕ, suc, List, ◌∷◌, length, get_or, IsTrue, true, false, sym, ◌∙◌, subst, arith, rules}
+use Rattle.json_patch.proofs.Common.{common_steps, ◌≡◌, ◌<◌, ◌-◌, ℕ, suc, List, ◌∷◌, length, get_or, IsTrue, true, false, sym, ◌∙◌, subst, arith, rules, Operation, test, IsMove, operation_of, operations, IsUndoable, PatchOperation}
 use Rattle.std.specs.Prelude.{◌↔◌}
 use Rattle.json_patch.specs.InPlace.{AreInPlace, IsInPlace, AreTestsThenRemove}
-use Rattle.json_patch.specs.Operation.{Operation, test, IsMove, operation_of, operations}
-use Rattle.json_patch.specs.Undoing.{IsUndoable}
-use Rattle.json_patch.specs.declared.operation.PatchOperation.{PatchOperation}
 use Rattle.json_patch.proofs.ProgramRuns.{IsAt}
 
 -- ---- an operation that can be undone, by its number

@@ -1,29 +1,9 @@
 -- A recorded run, undone.
-use Rattle.std.proofs.lemmas.Grind.{common_steps}
-use Rattle.std.proofs.Common.{◌≡◌, ◌+◌, ◌≤◌, ℕ, zero, suc, List, [], ◌∷◌, ◌++◌, length, drop, take, map, Bool, bytes_eq, if◌then◌else◌, Vec, vec_len, Global, Option, Some, None, Result, Ok, Err, IfOk, refl, sym, ap, ◌∙◌, subst, append_assoc, arith, rules}
-use Rattle.std.specs.Result.{IsErrAnd}
+use Rattle.json_patch.proofs.Common.{common_steps, ◌≡◌, ◌+◌, ◌≤◌, ℕ, zero, suc, List, [], ◌∷◌, ◌++◌, length, drop, take, map, Bool, bytes_eq, if◌then◌else◌, Vec, vec_len, Global, Option, Some, None, Result, Ok, Err, IfOk, refl, sym, ap, ◌∙◌, subst, append_assoc, arith, rules, IsErrAnd, map-append, reverse-append, Data, view, Value, Array, items_len-items_view, view-Array, Pointer, IsPrefix, ReplacesLast, next_token, decimal_token, place_is_plain, ComesTo, pointee, front_of, last_of, block, settled_token, undo_add, undo_at, undo_in, with_found, Operation, move, replace, operation_of, operations, path_of, after_run, then_run, after_step, strip, AreUndos, IsUndo, IsUndoable, Records, count_in, PatchErrorKind, StepFault, PatchOperation}
 use Rattle.std.specs.declared.alloc.AllocError.{AllocError}
-use Rattle.std.proofs.lemmas.List.{map-append, reverse-append}
 use mathlib.Core.List.{reverse}
-use Rattle.serde_json.specs.Data.{Data}
-use Rattle.serde_json.specs.View.{view}
-use Rattle.serde_json.specs.declared.value.Value.{Value, Array}
-use Rattle.serde_json.proofs.Views.{items_len-items_view, view-Array}
-use Rattle.jsonptr.specs.Text.{Pointer, IsPrefix, ReplacesLast}
-use Rattle.jsonptr.specs.Places.{next_token, decimal_token}
-use Rattle.jsonptr.specs.PlaceLaws.{place_is_plain}
-use Rattle.json_patch.specs.Attempt.{ComesTo}
-use Rattle.json_patch.specs.ChangeComputed.{pointee, front_of, last_of}
 use Rattle.json_patch.specs.InPlace.{AreUnescaped, IsUnescaped}
-use Rattle.json_patch.specs.InverseComputed.{block, settled_token, undo_add, undo_at, undo_in, with_found}
-use Rattle.json_patch.specs.Operation.{Operation, move, replace, operation_of, operations, path_of}
-use Rattle.json_patch.specs.RunComputed.{after_run, then_run, after_step}
-use Rattle.json_patch.specs.SharedComputed.{strip}
-use Rattle.json_patch.specs.Undoing.{AreUndos, IsUndo, IsUndoable, Records, count_in}
-use Rattle.json_patch.specs.declared.error.PatchErrorKind.{PatchErrorKind}
-use Rattle.json_patch.specs.declared.error.StepFault.{StepFault}
 use Rattle.json_patch.specs.declared.record.Keep.TheVariants.{Inverse}
-use Rattle.json_patch.specs.declared.operation.PatchOperation.{PatchOperation}
 use Rattle.json_patch.proofs.Below.{drop-append}
 use Rattle.json_patch.proofs.Parents.{no_last}
 use Rattle.json_patch.proofs.Locations.{split_is, split_whole}

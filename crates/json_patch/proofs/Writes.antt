@@ -1,19 +1,10 @@
 -- What a write to a list or a map of values leaves of its view.
-use Rattle.std.proofs.Common.{◌≡◌, ℕ, suc, ◌<◌, ◌≤◌, List, [], ◌∷◌, length, set, Option, Some, Bool, slice_index_or, Ordering, Less, String, Global, cond, is_eq, string_bytes, nat_cmp, refl, ap, ◌∙◌, arith, rules}
-use Rattle.std.specs.Cmp.Lexicographic.{slice_cmp}
+use Rattle.json_patch.proofs.Common.{◌≡◌, ℕ, suc, ◌<◌, ◌≤◌, List, [], ◌∷◌, length, set, Option, Some, Bool, slice_index_or, Ordering, Less, String, Global, cond, is_eq, string_bytes, nat_cmp, refl, ap, ◌∙◌, arith, rules, slice_cmp, lookup, set_value, remove_entry, keys_of, Data, item, Members, member, put, view, items_view, members_view, Value, Entry, members_view-insert_entry, view-lookup, IsBelowMembers, insert_item, remove_item, set_item, without, put_if}
 use Rattle.std.specs.List.{insert, remove, AllByRecursion}
 use Rattle.std.specs.List.Sorted.{IsStrictlySortedBy}
-use Rattle.std.specs.Map.{lookup, set_value, remove_entry, keys_of}
 use Rattle.std.specs.BTreeMap.{insert_entry, is_at}
 use Rattle.std.specs.Ordering.{match_ordering}
 use Rattle.std.specs.String.{string_cmp}
-use Rattle.serde_json.specs.Data.{Data, item, Members, member, put}
-use Rattle.serde_json.specs.View.{view, items_view, members_view}
-use Rattle.serde_json.specs.declared.value.Value.{Value}
-use Rattle.serde_json.proofs.Views.{Entry, members_view-insert_entry, view-lookup}
-use Rattle.json_patch.specs.Document.{IsBelowMembers}
-use Rattle.json_patch.specs.ChangeComputed.{insert_item, remove_item, set_item, without}
-use Rattle.json_patch.specs.PatchValue.{put_if}
 use Rattle.json_patch.proofs.Members.{below_absent, below_more}
 
 -- the test of a map's keys by which a name is looked up

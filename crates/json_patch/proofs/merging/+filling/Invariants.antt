@@ -1,7 +1,4 @@
-use Rattle.std.proofs.Common.{◌≡◌}
-use Rattle.serde_json.specs.View.{members_view}
-use Rattle.json_patch.specs.Document.{AreMembers}
-use Rattle.json_patch.specs.Filled.{IsFilledMember, members_before}
+use Rattle.json_patch.proofs.Common.{◌≡◌, members_view, AreMembers, IsFilledMember, members_before}
 use Rattle.json_patch.proofs.MergeLoops.{Passes}
 use Rattle.json_patch.proofs.merging.+filling.Given as goal
 

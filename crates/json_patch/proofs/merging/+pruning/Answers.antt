@@ -1,7 +1,4 @@
-use Rattle.std.proofs.Common.{rules, refl, sym, ap, ◌∙◌}
-use Rattle.serde_json.specs.View.{view, members_view}
-use Rattle.serde_json.specs.declared.value.Value.{Object, the_lemmas}
-use Rattle.json_patch.specs.Filled.{IsPrunedMember}
+use Rattle.json_patch.proofs.Common.{rules, refl, sym, ap, ◌∙◌, view, members_view, Object, the_lemmas, IsPrunedMember}
 use Rattle.json_patch.proofs.MergeLoops.{starts, steps_at, changes_nothing, changes_written, changes_removed}
 use Rattle.json_patch.proofs.MergeFills.{null_here, other_here, atom_here, pruned_object, pruned_other, other_value, prunes_unnamed, prunes_null, prunes_found, prunes_missing, prunes_atom, found_document}
 use Rattle.json_patch.proofs.merging.+pruning.Goals as goal

@@ -1,6 +1,4 @@
-use Rattle.serde_json.specs.View.{members_view}
-use Rattle.json_patch.specs.Document.{AreMembers}
-use Rattle.json_patch.specs.Filled.{IsPrunedMember}
+use Rattle.json_patch.proofs.Common.{members_view, AreMembers, IsPrunedMember}
 use Rattle.json_patch.proofs.MergeLoops.{Passes}
 use Rattle.json_patch.proofs.merging.+pruning.Given as goal
 

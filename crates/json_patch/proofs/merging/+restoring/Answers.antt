@@ -1,5 +1,4 @@
-use Rattle.std.proofs.Common.{◌≡◌, suc, rules, arith, sym, ap, ◌∙◌}
-use Rattle.serde_json.specs.declared.value.Value.{Object, the_lemmas}
+use Rattle.json_patch.proofs.Common.{◌≡◌, suc, rules, arith, sym, ap, ◌∙◌, Object, the_lemmas}
 use Rattle.json_patch.specs.declared.merging.Former.{the_lemmas as of_formers}
 use Rattle.json_patch.proofs.MergeFills.{before_last, weights_last, puts_back, puts_nothing_back, takes_out, restored_object, weight, weights}
 use Rattle.json_patch.proofs.merging.+restoring.Goals as goal

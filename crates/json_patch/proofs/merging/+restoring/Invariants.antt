@@ -1,6 +1,4 @@
-use Rattle.std.proofs.Common.{◌≡◌, ◌≤◌, ◌*◌, ◌+◌}
-use Rattle.serde_json.specs.View.{members_view}
-use Rattle.json_patch.specs.Filled.{members_before}
+use Rattle.json_patch.proofs.Common.{◌≡◌, ◌≤◌, ◌*◌, ◌+◌, members_view, members_before}
 use Rattle.json_patch.proofs.MergeFills.{weight, weights}
 use Rattle.json_patch.proofs.merging.+restoring.Given as goal
 

@@ -1,6 +1,4 @@
-use Rattle.std.proofs.Common.{rules, refl, sym, ap, ◌∙◌}
-use Rattle.serde_json.specs.View.{view, members_view}
-use Rattle.serde_json.specs.declared.value.Value.{Object, the_lemmas}
+use Rattle.json_patch.proofs.Common.{rules, refl, sym, ap, ◌∙◌, view, members_view, Object, the_lemmas}
 use Rattle.json_patch.proofs.MergeFills.{same_object, merged_object, object_members, members_object, other_value, filled_whole}
 use Rattle.json_patch.proofs.merging.merge.Goals.{in-Object+in_default-doc, in_default}
 use Rattle.json_patch.proofs.merging.merge.Goals as goal

@@ -1,7 +1,5 @@
-use Rattle.std.proofs.Common.{◌≡◌, ℕ, List, [], ◌++◌, drop}
+use Rattle.json_patch.proofs.Common.{◌≡◌, ℕ, List, [], ◌++◌, drop, items_view, members_view, printed_items, printed_members}
 use Rattle.std.specs.Fmt.{HasWritten, IsPlainFormatter}
-use Rattle.serde_json.specs.View.{items_view, members_view}
-use Rattle.json_patch.specs.Printed.{printed_items, printed_members}
 use Rattle.json_patch.proofs.printing.+printing.Given as goal
 use denote.Text.{Utf8}
 use denote.Shadow.{shadow}

@@ -1,4 +1,4 @@
-use Rattle.std.proofs.Common.{rules}
+use Rattle.json_patch.proofs.Common.{rules}
 use Rattle.json_patch.proofs.Texts.{hexadecimal, escaped_control, hexadecimal-four_digits}
 use Rattle.json_patch.proofs.printing.write_character.Goals as goal
 

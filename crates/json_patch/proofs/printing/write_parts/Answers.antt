@@ -1,5 +1,4 @@
-use Rattle.std.proofs.Common.{ap, rules}
-use Rattle.std.specs.Result.{is_ok}
+use Rattle.json_patch.proofs.Common.{ap, rules, is_ok}
 use Rattle.std.proofs.Output.{has_written_append, has_written_of_eq}
 use Rattle.json_patch.specs.PartsView.{parts_view}
 use Rattle.json_patch.proofs.Texts.{printed_operation}

@@ -1,5 +1,4 @@
-use Rattle.std.proofs.Common.{rules}
-use Rattle.json_patch.specs.PatchValue.{from_and_path}
+use Rattle.json_patch.proofs.Common.{rules, from_and_path}
 use Rattle.json_patch.proofs.reading.read_from_and_path.Goals as goal
 
 pub returns-in_err-path-clause-refused : goal.returns-in_err-path-clause-refused

@@ -1,4 +1,4 @@
-use Rattle.std.proofs.Common.{rules}
+use Rattle.json_patch.proofs.Common.{rules}
 use Rattle.json_patch.proofs.PatchFaults.{past_from}
 use Rattle.json_patch.proofs.reading.read_path.Goals as goal
 

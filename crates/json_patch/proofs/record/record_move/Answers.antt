@@ -1,8 +1,4 @@
-use Rattle.std.proofs.lemmas.Grind.{common_steps}
-use Rattle.std.proofs.Common.{Ok, ap, arith}
-use Rattle.serde_json.specs.View.{view}
-use Rattle.jsonptr.specs.Pointers.{tokens_of}
-use Rattle.json_patch.specs.Operation.{operations}
+use Rattle.json_patch.proofs.Common.{common_steps, Ok, ap, arith, view, tokens_of, operations}
 use Rattle.json_patch.specs.declared.walk.Displaced.{Displaced}
 use Rattle.json_patch.proofs.Parents.{move_goes, move_stops}
 use Rattle.json_patch.proofs.Undos.{move_refused}

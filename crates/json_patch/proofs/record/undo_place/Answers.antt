@@ -1,9 +1,4 @@
-use Rattle.std.proofs.Common.{◌<◌, ◌^◌, arith, sym, ap, ◌∙◌, drop, length, rules}
-use Rattle.serde_json.specs.View.{view}
-use Rattle.jsonptr.specs.PlaceLaws.{token_is_decimal}
-use Rattle.jsonptr.specs.Pointers.{token_of, tokens_of}
-use Rattle.json_patch.specs.ChangeComputed.{pointee}
-use Rattle.json_patch.specs.Undoing.{count_in}
+use Rattle.json_patch.proofs.Common.{◌<◌, ◌^◌, arith, sym, ap, ◌∙◌, drop, length, rules, view, token_is_decimal, token_of, tokens_of, pointee, count_in}
 use Rattle.json_patch.proofs.Undos.{place_kept, place_no_list, place_numbered, place_other, place_root, prefix_rest}
 use Rattle.json_patch.proofs.record.undo_place.Goals as goal
 

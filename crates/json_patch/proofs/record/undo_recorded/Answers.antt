@@ -1,5 +1,4 @@
-use Rattle.std.proofs.Common.{rules}
-use Rattle.serde_json.specs.View.{view}
+use Rattle.json_patch.proofs.Common.{rules, view}
 use Rattle.json_patch.proofs.Undos.{undo_last}
 use Rattle.json_patch.proofs.record.undo_recorded.Goals as goal
 

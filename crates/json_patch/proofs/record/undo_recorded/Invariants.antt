@@ -1,10 +1,5 @@
-use Rattle.std.proofs.Common.{◌≡◌, Ok}
+use Rattle.json_patch.proofs.Common.{◌≡◌, Ok, Data, view, operations, after_run, AreUndos}
 use mathlib.Core.List.{reverse}
-use Rattle.serde_json.specs.Data.{Data}
-use Rattle.serde_json.specs.View.{view}
-use Rattle.json_patch.specs.Operation.{operations}
-use Rattle.json_patch.specs.RunComputed.{after_run}
-use Rattle.json_patch.specs.Undoing.{AreUndos}
 use Rattle.json_patch.proofs.record.undo_recorded.Given as goal
 
 abbrev pub invariant-loop-operation : goal.invariant-loop-operation

@@ -1,6 +1,4 @@
-use Rattle.std.proofs.Common.{ap, ◌∙◌}
-use Rattle.serde_json.specs.View.{view}
-use Rattle.json_patch.specs.ChangeComputed.{pointee}
+use Rattle.json_patch.proofs.Common.{ap, ◌∙◌, view, pointee}
 use Rattle.json_patch.proofs.Pointees.{some_stands, none_stands}
 use Rattle.json_patch.proofs.resolving.lookup.Goals as goal
 

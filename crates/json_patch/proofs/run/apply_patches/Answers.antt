@@ -1,6 +1,4 @@
-use Rattle.std.proofs.Common.{refl}
-use Rattle.serde_json.specs.View.{view}
-use Rattle.json_patch.specs.Operation.{operations}
+use Rattle.json_patch.proofs.Common.{refl, view, operations}
 use Rattle.json_patch.proofs.ProgramRuns.{recorded_all}
 use Rattle.json_patch.proofs.Runs.{accepts_document}
 use Rattle.json_patch.proofs.run.apply_patches.Goals as goal

@@ -1,4 +1,4 @@
-use Rattle.std.proofs.Common.{arith, rules}
+use Rattle.json_patch.proofs.Common.{arith, rules}
 use Rattle.json_patch.proofs.ProgramRuns.{short_at}
 use Rattle.json_patch.proofs.run.patch_unsafe.Goals as goal
 

@@ -1,4 +1,4 @@
-use Rattle.serde_json.specs.View.{view}
+use Rattle.json_patch.proofs.Common.{view}
 use Rattle.json_patch.proofs.ProgramRuns.{IsState}
 use Rattle.json_patch.proofs.run.patch_unsafe.Given as goal
 

@@ -1,8 +1,4 @@
-use Rattle.std.proofs.Common.{Err, Vec, Global, rules}
-use Rattle.serde_json.specs.View.{view}
-use Rattle.jsonptr.specs.Pointers.{tokens_of}
-use Rattle.json_patch.specs.Operation.{operation_of}
-use Rattle.json_patch.specs.declared.operation.PatchOperation.{PatchOperation}
+use Rattle.json_patch.proofs.Common.{Err, Vec, Global, rules, view, tokens_of, operation_of, PatchOperation}
 use Rattle.json_patch.proofs.ProgramRuns.{not_stopped, recorded_back, recorded_more, reported_names, state_more}
 use Rattle.json_patch.proofs.PartRuns.{begun_whole, block_whole, step_whole, stripped_whole}
 use Rattle.json_patch.proofs.Undoables.{not_move, not_undoable, tests_in_place, undoable_at}

@@ -1,7 +1,4 @@
-use Rattle.std.proofs.Common.{◌-◌, ◌≤◌, length}
-use Rattle.serde_json.specs.View.{view}
-use Rattle.json_patch.specs.Operation.{operations}
-use Rattle.json_patch.specs.Undoing.{AreRecorded, AreUndos}
+use Rattle.json_patch.proofs.Common.{◌-◌, ◌≤◌, length, view, operations, AreRecorded, AreUndos}
 use Rattle.json_patch.proofs.ProgramRuns.{IsState}
 use Rattle.json_patch.proofs.run.run.Given as goal
 

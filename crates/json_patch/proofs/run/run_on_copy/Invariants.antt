@@ -1,8 +1,4 @@
-use Rattle.std.proofs.Common.{◌≡◌, ◌≤◌, take}
-use Rattle.serde_json.specs.View.{view}
-use Rattle.jsonptr.specs.Pointers.{tokens_of}
-use Rattle.json_patch.specs.Operation.{operations}
-use Rattle.json_patch.specs.Undoing.{AreRecorded, From}
+use Rattle.json_patch.proofs.Common.{◌≡◌, ◌≤◌, take, view, tokens_of, operations, AreRecorded, From}
 use Rattle.json_patch.specs.declared.record.Keep.TheVariants.{Inverse}
 use Rattle.json_patch.proofs.PartRuns.{Part}
 use Rattle.json_patch.proofs.run.run_on_copy.Given as goal

@@ -1,7 +1,4 @@
-use Rattle.std.proofs.Common.{Err, rules}
-use Rattle.serde_json.specs.View.{view}
-use Rattle.jsonptr.specs.Pointers.{tokens_of}
-use Rattle.json_patch.specs.Operation.{operation_of}
+use Rattle.json_patch.proofs.Common.{Err, rules, view, tokens_of, operation_of}
 use Rattle.json_patch.proofs.ProgramRuns.{in_place_at, not_stopped, reported_names, state_more}
 use Rattle.json_patch.proofs.PartRuns.{begun_whole, ended_at, recorded_at, step_whole, stripped_whole}
 use Rattle.json_patch.proofs.Undoables.{move_not_in_place}

@@ -1,6 +1,4 @@
-use Rattle.std.proofs.Common.{◌≡◌, Some, option_map, sym, ap, ◌∙◌}
-use Rattle.jsonptr.specs.Pointers.{token_of, tokens_of}
-use Rattle.json_patch.specs.Operation.{operation_of, from_of}
+use Rattle.json_patch.proofs.Common.{◌≡◌, Some, option_map, sym, ap, ◌∙◌, token_of, tokens_of, operation_of, from_of}
 use Rattle.json_patch.proofs.SharedTokens.{both_longest, even_if_none, root_source}
 use Rattle.json_patch.proofs.shared.parent_of.Goals as goal
 

@@ -1,4 +1,4 @@
-use Rattle.jsonptr.specs.Pointers.{tokens_of}
+use Rattle.json_patch.proofs.Common.{tokens_of}
 use Rattle.json_patch.proofs.SharedTokens.{even_if_none, first_shares_none, shares_all, shares_first, shares_more, shares_none}
 use Rattle.json_patch.proofs.shared.shared_pointer.Goals as goal
 

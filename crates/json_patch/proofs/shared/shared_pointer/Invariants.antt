@@ -1,4 +1,4 @@
-use Rattle.jsonptr.specs.Pointers.{tokens_of}
+use Rattle.json_patch.proofs.Common.{tokens_of}
 use Rattle.json_patch.proofs.SharedTokens.{Shares}
 use Rattle.json_patch.proofs.shared.shared_pointer.Given as goal
 

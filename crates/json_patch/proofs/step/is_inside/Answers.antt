@@ -1,4 +1,4 @@
-use Rattle.jsonptr.specs.Pointers.{tokens_of}
+use Rattle.json_patch.proofs.Common.{tokens_of}
 use Rattle.json_patch.proofs.Parents.{inside}
 use Rattle.json_patch.proofs.step.is_inside.Goals as goal
 

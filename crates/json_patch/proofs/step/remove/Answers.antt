@@ -1,6 +1,4 @@
-use Rattle.std.proofs.Common.{rules}
-use Rattle.serde_json.specs.View.{view}
-use Rattle.jsonptr.specs.Pointers.{token_of, tokens_of}
+use Rattle.json_patch.proofs.Common.{rules, view, token_of, tokens_of}
 use Rattle.json_patch.proofs.Parents.{removed_in, taken_there, unescaped_parts}
 use Rattle.json_patch.proofs.step.remove.Goals as goal
 

@@ -1,4 +1,4 @@
-use Rattle.std.proofs.Common.{rules}
+use Rattle.json_patch.proofs.Common.{rules}
 use Rattle.json_patch.proofs.Parents.{move_goes}
 use Rattle.json_patch.proofs.step.step.Goals as goal
 

@@ -1,5 +1,4 @@
-use Rattle.std.proofs.Common.{[], refl, sym}
-use Rattle.jsonptr.specs.Pointers.{token_of}
+use Rattle.json_patch.proofs.Common.{[], refl, sym, token_of}
 use Rattle.json_patch.proofs.Descents.{found_at_item, found_no_item}
 use Rattle.json_patch.proofs.walk.child_of.Goals as goal
 

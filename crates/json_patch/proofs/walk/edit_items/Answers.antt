@@ -1,6 +1,4 @@
-use Rattle.std.proofs.Common.{rules}
-use Rattle.serde_json.specs.View.{view}
-use Rattle.jsonptr.specs.Pointers.{token_of}
+use Rattle.json_patch.proofs.Common.{rules, view, token_of}
 use Rattle.json_patch.proofs.Attempts.{refused}
 use Rattle.json_patch.proofs.Containers.{swaps_item, swaps_no_item}
 use Rattle.json_patch.proofs.walk.edit_items.Goals as goal

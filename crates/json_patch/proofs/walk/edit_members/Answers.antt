@@ -1,7 +1,4 @@
-use Rattle.std.proofs.Common.{refl, ◌∙◌, ap, rules}
-use Rattle.serde_json.specs.Data.{object}
-use Rattle.serde_json.specs.View.{view, members_view}
-use Rattle.jsonptr.specs.Pointers.{token_of}
+use Rattle.json_patch.proofs.Common.{refl, ◌∙◌, ap, rules, object, view, members_view, token_of}
 use Rattle.json_patch.proofs.Containers.{found_key, found_member, found_no_key, swaps_member, swaps_no_member}
 use Rattle.json_patch.proofs.walk.edit_members.Goals as goal
 

@@ -1,7 +1,4 @@
-use Rattle.std.proofs.Common.{◌≡◌}
-use Rattle.serde_json.specs.View.{view}
-use Rattle.jsonptr.specs.Pointers.{tokens_left}
-use Rattle.json_patch.specs.ChangeComputed.{pointee}
+use Rattle.json_patch.proofs.Common.{◌≡◌, view, tokens_left, pointee}
 use Rattle.json_patch.proofs.walk.find.Given as goal
 
 -- what stands where the tokens lead stands where those that are left lead from here

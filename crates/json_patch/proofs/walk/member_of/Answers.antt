@@ -1,8 +1,4 @@
-use Rattle.std.proofs.Common.{◌≡◌, string_bytes, sym, ap, ◌∙◌, true≢false, rules}
-use Rattle.serde_json.specs.Find.{get_member}
-use Rattle.serde_json.specs.View.{members_view}
-use Rattle.serde_json.proofs.Views.{Entry, member_here, member_later, view_of_ref, view-lookup}
-use Rattle.jsonptr.specs.Pointers.{token_of}
+use Rattle.json_patch.proofs.Common.{◌≡◌, string_bytes, sym, ap, ◌∙◌, true≢false, rules, get_member, members_view, Entry, member_here, member_later, view_of_ref, view-lookup, token_of}
 use Rattle.json_patch.proofs.walk.member_of.Goals as goal
 
 pub returns-then-is_key : goal.returns-then-is_key

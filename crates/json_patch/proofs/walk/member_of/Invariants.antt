@@ -1,7 +1,4 @@
-use Rattle.std.proofs.Common.{◌≡◌}
-use Rattle.serde_json.specs.Find.{get_member}
-use Rattle.serde_json.specs.View.{members_view}
-use Rattle.jsonptr.specs.Pointers.{token_of}
+use Rattle.json_patch.proofs.Common.{◌≡◌, get_member, members_view, token_of}
 use Rattle.json_patch.proofs.walk.member_of.Given as goal
 
 abbrev pub invariant-loop-key : goal.invariant-loop-key

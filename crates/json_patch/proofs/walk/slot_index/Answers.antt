@@ -1,5 +1,4 @@
-use Rattle.std.proofs.Common.{rules}
-use Rattle.jsonptr.specs.Pointers.{token_of}
+use Rattle.json_patch.proofs.Common.{rules, token_of}
 use Rattle.json_patch.proofs.Indices.{refused, slot_outside, slot_within}
 use Rattle.json_patch.proofs.walk.slot_index.Goals as goal
 

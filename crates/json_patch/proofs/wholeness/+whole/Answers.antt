@@ -1,5 +1,4 @@
-use Rattle.std.proofs.Common.{◌∙◌, refl}
-use Rattle.serde_json.proofs.Views.{Entry}
+use Rattle.json_patch.proofs.Common.{◌∙◌, refl, Entry}
 use Rattle.json_patch.proofs.Floats.{sorted_rest, members_more, float_more}
 use Rattle.json_patch.proofs.wholeness.+whole.Goals as goal
 

@@ -1,10 +1,7 @@
-use Rattle.std.proofs.Common.{◌≡◌, drop}
+use Rattle.json_patch.proofs.Common.{◌≡◌, drop, keys_of, items_view, members_view, AreDocuments, AreMembers}
 use Rattle.std.specs.List.Sorted.{IsStrictlySortedBy}
-use Rattle.std.specs.Map.{keys_of}
 use Rattle.std.specs.String.{string_cmp}
-use Rattle.serde_json.specs.View.{items_view, members_view}
 use Rattle.serde_json.specs.Written.{items_have_float, members_have_float}
-use Rattle.json_patch.specs.Document.{AreDocuments, AreMembers}
 use Rattle.json_patch.proofs.wholeness.+whole.Given as goal
 
 abbrev pub invariant-is_whole_list-loop-item : goal.invariant-is_whole_list-loop-item

@@ -1,4 +1,4 @@
-use Rattle.std.proofs.Common.{rules}
+use Rattle.json_patch.proofs.Common.{rules}
 use Rattle.json_patch.proofs.Writes.{inserts_if}
 use Rattle.json_patch.proofs.writing.put_value.Goals as goal
 

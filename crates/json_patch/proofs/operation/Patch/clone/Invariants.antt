@@ -1,5 +1,4 @@
-use Rattle.std.proofs.Common.{◌≡◌, ◌++◌, drop}
-use Rattle.json_patch.specs.Operation.{operations}
+use Rattle.json_patch.proofs.Common.{◌≡◌, ◌++◌, drop, operations}
 use Rattle.json_patch.proofs.operation.Patch.clone.Given as goal
 
 abbrev pub invariant-loop-operation : goal.invariant-loop-operation

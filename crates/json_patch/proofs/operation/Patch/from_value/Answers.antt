@@ -1,5 +1,4 @@
-use Rattle.std.proofs.Common.{rules}
-use Rattle.serde_json.specs.declared.value.Value.{the_lemmas}
+use Rattle.json_patch.proofs.Common.{rules, the_lemmas}
 use Rattle.json_patch.proofs.ReadItems.{item_refused, item_read, reads_whole}
 use Rattle.json_patch.proofs.operation.Patch.from_value.Goals as goal
 

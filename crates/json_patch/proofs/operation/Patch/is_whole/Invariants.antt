@@ -1,5 +1,4 @@
-use Rattle.std.proofs.Common.{◌↔◌, drop}
-use Rattle.json_patch.specs.Operation.{AreWhole, operations}
+use Rattle.json_patch.proofs.Common.{◌↔◌, drop, AreWhole, operations}
 use Rattle.json_patch.proofs.operation.Patch.is_whole.Given as goal
 
 abbrev pub invariant-loop-operation : goal.invariant-loop-operation

@@ -1,7 +1,4 @@
-use Rattle.std.proofs.Common.{◌≡◌, ◌++◌, drop, map}
-use Rattle.serde_json.specs.View.{view}
-use Rattle.json_patch.specs.Operation.{operations}
-use Rattle.json_patch.specs.PatchValue.{written_value}
+use Rattle.json_patch.proofs.Common.{◌≡◌, ◌++◌, drop, map, view, operations, written_value}
 use Rattle.json_patch.proofs.operation.Patch.to_value.Given as goal
 
 abbrev pub invariant-loop-operation : goal.invariant-loop-operation

@@ -1,6 +1,4 @@
-use Rattle.std.proofs.Common.{[]}
-use Rattle.serde_json.specs.Data.{null}
-use Rattle.json_patch.specs.Operation.{add, remove, replace, move, copy, test}
+use Rattle.json_patch.proofs.Common.{[], null, add, remove, replace, move, copy, test}
 use Rattle.json_patch.proofs.ReadItems.{named_fault}
 use Rattle.json_patch.proofs.operation.PatchOperation.from_value.Goals as goal
 

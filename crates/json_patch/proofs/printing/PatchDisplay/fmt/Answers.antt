@@ -1,11 +1,5 @@
-use Rattle.std.proofs.Common.{◌≡◌, ◌∷◌, ◌++◌, ◌+◌, [], drop, rules, sym, ap, ◌∙◌, arith}
-use Rattle.std.proofs.lemmas.List.{drop_more, drop_all}
-use Rattle.std.specs.Result.{is_ok}
+use Rattle.json_patch.proofs.Common.{◌≡◌, ◌∷◌, ◌++◌, ◌+◌, [], drop, rules, sym, ap, ◌∙◌, arith, drop_more, drop_all, is_ok, item, no_items, operation_of, operations, all_fields, operation_items, object_of, value_text, printed_items}
 use Rattle.std.proofs.Output.{has_written_append, has_written_of_eq}
-use Rattle.serde_json.specs.Data.{item, no_items}
-use Rattle.json_patch.specs.Operation.{operation_of, operations}
-use Rattle.json_patch.specs.PatchValue.{all_fields}
-use Rattle.json_patch.specs.Printed.{operation_items, object_of, value_text, printed_items}
 use Rattle.json_patch.proofs.Texts.{printed_items_more, printed_items_end}
 use Rattle.json_patch.proofs.printing.PatchDisplay.fmt.Goals as goal
 

@@ -1,7 +1,5 @@
-use Rattle.std.proofs.Common.{◌≡◌, ℕ, List, [], ◌++◌, drop}
+use Rattle.json_patch.proofs.Common.{◌≡◌, ℕ, List, [], ◌++◌, drop, operations, operation_items, printed_items}
 use Rattle.std.specs.Fmt.{HasWritten, IsPlainFormatter}
-use Rattle.json_patch.specs.Operation.{operations}
-use Rattle.json_patch.specs.Printed.{operation_items, printed_items}
 use Rattle.json_patch.proofs.printing.PatchDisplay.fmt.Given as goal
 use denote.Text.{Utf8}
 use denote.Shadow.{shadow}

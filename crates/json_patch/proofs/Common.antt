@@ -1,0 +1,37 @@
+-- The names that most proofs of this crate speak of.
+pub use Rattle.std.proofs.Common.{◌≡◌, ℕ, List, [], ◌∷◌, ◌++◌, Option, Some, option_map, option_and_then, refl, ap, rules, ◌+◌, inl, inr, suc, length, Result, Ok, Err, sym, ◌∙◌, subst, arith, ◌<◌, zero, take, get_or, codes, None, ◌↔◌, append_assoc, ap₂, ⊎_elim, Ordering, Less, Equal, Greater, nat_cmp, is_eq, Vec, vec_len, IfOk, BTreeMap, String, Global, ◌⊎◌, ◌-◌, ◌≤◌, IsTrue, Bool, false, if◌then◌else◌, drop, add-one, append-nil, true, bytes_eq, IfNone, IfSome, ◌^◌, decimal, string_bytes, not, set, slice_index_or, cond, ◌&&◌, ◌≢◌, IsOk, is_some, string_cmp, map, unwrap_or, ◌*◌, leb, MatchResult, ◌/◌, ◌%◌, chars, flat_map, encode_utf8, IsUtf8, true≢false, length-append}
+pub use Rattle.std.proofs.lemmas.Grind.{common_steps}
+pub use Rattle.std.proofs.lemmas.List.{map-append, append_cancel_left, reverse-append, reverse-reverse, drop_more, drop_all, length-map, take-map}
+pub use Rattle.std.proofs.lemmas.Option.{option_and_then_some}
+pub use Rattle.std.proofs.lemmas.Slice.Eq.{bytes_eq-Decides}
+pub use Rattle.std.specs.Cmp.Lexicographic.{slice_cmp, pointwise}
+pub use Rattle.std.specs.Map.{lookup, set_value, remove_entry, keys_of}
+pub use Rattle.std.specs.Result.{IsErr, IsErrAnd, is_err, is_ok}
+pub use Rattle.serde_json.proofs.Views.{view-Array, view-Object, get_member-put, get_member-put_other, Entry, members_view-insert_entry, view-lookup, items_len-items_view, get_item_within, get_item_past, member_here, member_later, view_of_ref}
+pub use Rattle.serde_json.specs.Data.{Data, Items, array, item, string, object, Members, no_members, member, put, null, boolean, number, no_items, Num}
+pub use Rattle.serde_json.specs.Find.{get, get_member, as_null, as_object, is_float, get_item}
+pub use Rattle.serde_json.specs.View.{view, items_view, members_view, items_of}
+pub use Rattle.serde_json.specs.declared.value.Value.{Value, Array, Object, the_lemmas}
+pub use Rattle.jsonptr.specs.PlaceLaws.{place_is_token, token_is_decimal, next_is_no_place, place_is_plain}
+pub use Rattle.jsonptr.specs.Places.{place_of, next_token, decimal_token}
+pub use Rattle.jsonptr.specs.Pointers.{token_of, tokens_of, tokens_left}
+pub use Rattle.jsonptr.specs.Text.{Pointer, IsPrefix, IsProperPrefix, IsLongestShared, text_of, ReplacesLast}
+pub use Rattle.json_patch.specs.Attempt.{Attempts, ComesTo, TakesOut}
+pub use Rattle.json_patch.specs.Change.{IsBeside, TakesAt, IsRemoved, ShiftsUp, PutsAt, IsAdded, IsReplaced, SetsAt}
+pub use Rattle.json_patch.specs.ChangeComputed.{segment_of, set_child, pointee, after_change, after_replace, front_of, last_of, drop_child, take_from, after_remove, remove_item, without, after_add, put_in, insert_item, set_item, slot_in, slot_of}
+pub use Rattle.json_patch.specs.Document.{Segment, child, IsDocument, key, place, look, sight, value_at, AreMembers, IsBelowMembers, AreDocuments, sight_of, IsWhole}
+pub use Rattle.json_patch.specs.Filled.{IsFilled, IsFilledMember, AreFilled, replaces, by_key, stays, left, fills, Fills, FillsAt, Logs, IsPrunedMember, ArePruned, with_member, former_value, restore_members, members_before}
+pub use Rattle.json_patch.specs.InverseComputed.{undo_in, undo_add, with_found, with_left, block, inverse, settled_token, undo_at}
+pub use Rattle.json_patch.specs.Operation.{Operation, test, IsWholeOp, AreWhole, operation_of, operations, add, move, remove, replace, copy, path_of, from_of, Parts, parts_of, IsMove}
+pub use Rattle.json_patch.specs.PatchValue.{IfUnreadAlone, OfKind, ReadsItems, ReadsOperation, ReadsPatch, RefusesItem, RefusesFields, RefusesOperation, name_of, field_names, put_if, IsObject, Lacks, HasNoText, HasNoPointer, HasNoDocument, IsFieldFault, NoneBelow, IsFirst, rank, field_if, pointer_text, ReadsFields, IsOneOf, IsOperationFault, written_value, written_fields, written_patch, from_and_path, all_fields}
+pub use Rattle.json_patch.specs.Printed.{character_text, quote, value_text, printed_items, printed_members, fields_text, parts_text, leading_text, trailing_text, operation_items, object_of}
+pub use Rattle.json_patch.specs.Resolve.{Names, Resolves, StandsAt, Aims, HasTarget}
+pub use Rattle.json_patch.specs.Run.{Accepts, RefusesAt, IsAccepted, IsRefused, Ends, AreTests}
+pub use Rattle.json_patch.specs.RunComputed.{Outcome, fault, one_later, then_run, after_step, after_run, or_refused, begins, after_move, after_copy, after_test}
+pub use Rattle.json_patch.specs.SharedComputed.{strip, strip_all, extend, extend_all, common_prefix, all_pointers, parents_of, shared_of, shared_tokens}
+pub use Rattle.json_patch.specs.Step.{Leaves, Never, Refuses}
+pub use Rattle.json_patch.specs.Undoing.{AreRecorded, log_of, AreUndos, IsUndo, IsUndoable, Records, count_in, From}
+pub use Rattle.json_patch.specs.declared.error.PatchErrorKind.{PatchErrorKind}
+pub use Rattle.json_patch.specs.declared.error.PatchErrorKind.TheVariants.{InvalidPointer, InvalidFromPointer, CannotMoveInsideItself, TestFailed}
+pub use Rattle.json_patch.specs.declared.error.StepFault.{StepFault}
+pub use Rattle.json_patch.specs.declared.operation.PatchOperation.{PatchOperation}
