@@ -9,7 +9,7 @@ ghost use Rattle.json_patch.specs.Faulting.{Reports};
 ghost use Rattle.json_patch.specs.InPlace.{AreInPlace, AreTestsThenRemove};
 ghost use Rattle.json_patch.specs.Inverse.{ArePlain, IsInverse};
 ghost use Rattle.json_patch.specs.InverseComputed.{inverse};
-ghost use Rattle.json_patch.specs.Operation.{AreWhole, IsMove, operation_of, operations, path_of};
+ghost use Rattle.json_patch.specs.Operation.{AreWhole, operation_of, operations, path_of};
 ghost use Rattle.json_patch.specs.Refusal.{IfRefused, NamesFirst, IfShort};
 ghost use Rattle.json_patch.specs.Run.{Accepts, IsAccepted};
 ghost use Rattle.json_patch.specs.Undoing.{From, RunsPart};
@@ -180,21 +180,12 @@ fn run_part(
         return Ok(());
     }
     let operation = &patch[start];
-    if end - start > 1 || is_move(operation) {
+    if end - start > 1 || matches!(operation, PatchOperation::Move(_)) {
         return run_on_copy(alloc, doc, patch, start, end, keep, undo);
     }
     match record_step(alloc, doc, Pointer::root(), operation, keep, undo) {
         Ok(()) => Ok(()),
         Err(fault) => Err(reported(alloc, start, operation, fault)),
-    }
-}
-
-fn is_move(operation: &PatchOperation) -> bool
-    ensures { IsTrue result ↔ IsMove (operation_of operation.now) }
-{
-    match operation {
-        PatchOperation::Move(_) => true,
-        _ => false,
     }
 }
 
