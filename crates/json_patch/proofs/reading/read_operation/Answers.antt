@@ -1,4 +1,4 @@
-use Rattle.std.proofs.Common.{[], rules}
+use Rattle.std.proofs.Common.{[]}
 use Rattle.serde_json.specs.Data.{null}
 use Rattle.json_patch.specs.Operation.{add, remove, replace, move, copy, test}
 use Rattle.json_patch.proofs.ReadItems.{named_fault}
@@ -21,6 +21,3 @@ returns-in_err-from-in-copy-clause-refused c = named_fault (copy [] []) _ _ _ _ 
 
 pub returns-in_err-path-in-test-clause-refused : goal.returns-in_err-path-in-test-clause-refused
 returns-in_err-path-in-test-clause-refused c = named_fault (test [] null) _ _ _ _ c.in_ok-read_name.ensures.read c.in-test.is c.in_err-path-in-test.ensures.refused c.from_residual-in_err-path-in-test.ensures.1
-
-pub returns-in_default : goal.returns-in_default
-returns-in_default c = search rules
