@@ -1,4 +1,6 @@
-use Rattle.json_patch.proofs.Common.{rules, the_lemmas}
+use Rattle.std.proofs.Common.{rules}
+use Rattle.std.proofs.lemmas.List.{take_all}
+use Rattle.serde_json.specs.declared.value.Value.{the_lemmas}
 use Rattle.json_patch.proofs.ReadItems.{item_refused, item_read, reads_whole}
 use Rattle.json_patch.proofs.operation.Patch.from_value.Goals as goal
 
@@ -13,3 +15,6 @@ returns-clause-whole c = search (rules, reads_whole _ _ c.loop-number.invariant)
 
 pub returns-in_default : goal.returns-in_default
 returns-in_default c = search (rules, the_lemmas)
+
+pub returns-clause-read : goal.returns-clause-read
+returns-clause-read c = search (rules, the_lemmas, take_all)
