@@ -1,7 +1,7 @@
 -- The names that most proofs of this crate speak of.
 pub use Rattle.std.proofs.Common.{◌≡◌, ℕ, List, [], ◌∷◌, ◌++◌, Option, Some, option_map, option_and_then, refl, ap, rules, ◌+◌, inl, inr, suc, length, Result, Ok, Err, sym, ◌∙◌, subst, arith, ◌<◌, zero, take, get_or, codes, None, ◌↔◌, append_assoc, ap₂, ⊎_elim, Ordering, Less, Equal, Greater, nat_cmp, is_eq, Vec, vec_len, IfOk, BTreeMap, String, Global, ◌⊎◌, ◌-◌, ◌≤◌, IsTrue, Bool, false, if◌then◌else◌, drop, add-one, append-nil, true, bytes_eq, IfNone, IfSome, ◌^◌, decimal, string_bytes, not, set, slice_index_or, cond, ◌&&◌, ◌≢◌, IsOk, is_some, string_cmp, map, unwrap_or, ◌*◌, leb, MatchResult, ◌/◌, ◌%◌, chars, flat_map, encode_utf8, IsUtf8, true≢false, length-append}
 pub use Rattle.std.proofs.lemmas.Grind.{common_steps}
-pub use Rattle.std.proofs.lemmas.List.{map-append, append_cancel_left, reverse-append, reverse-reverse, drop_more, drop_all, length-map, take-map}
+pub use Rattle.std.proofs.lemmas.List.{map-append, append_cancel_left, reverse-append, reverse-reverse, take_all, drop_more, drop_all, length-map, take-map}
 pub use Rattle.std.proofs.lemmas.Option.{option_and_then_some}
 pub use Rattle.std.proofs.lemmas.Slice.Eq.{bytes_eq-Decides}
 pub use Rattle.std.specs.Cmp.Lexicographic.{slice_cmp, pointwise}

@@ -1,6 +1,4 @@
-use Rattle.std.proofs.Common.{rules}
-use Rattle.std.proofs.lemmas.List.{take_all}
-use Rattle.serde_json.specs.declared.value.Value.{the_lemmas}
+use Rattle.json_patch.proofs.Common.{rules, take_all, the_lemmas}
 use Rattle.json_patch.proofs.ReadItems.{item_refused, item_read, reads_whole}
 use Rattle.json_patch.proofs.operation.Patch.from_value.Goals as goal
 
