@@ -98,6 +98,7 @@ fn fill_each<'a>(
     Ok(())
 }
 
+/// Makes one change, and records what it found.
 #[cycle(filling)]
 fn fill_member<'a>(
     alloc: Global,
@@ -121,7 +122,7 @@ fn fill_member<'a>(
     Ok(())
 }
 
-/// Fills a member that is there.
+/// Makes it in a member that is there.
 #[cycle(filling)]
 fn fill_found<'a>(
     alloc: Global,
