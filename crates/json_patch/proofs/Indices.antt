@@ -1,5 +1,5 @@
 -- The item that a token names, and the place at which it puts a new one, by the index that is read of it.
-use Rattle.json_patch.proofs.Common.{◌≡◌, ◌≢◌, ℕ, ◌<◌, ◌≤◌, List, Bool, true, false, leb, bytes_eq, Some, None, Result, MatchResult, ap, ◌∙◌, arith, rules, bytes_eq-Decides, IsErr, IsErrAnd, next_is_no_place, place_of, next_token, slot_in, PatchErrorKind, InvalidPointer}
+use Rattle.json_patch.proofs.Common.{◌≡◌, ◌≢◌, ℕ, ◌<◌, ◌≤◌, List, Bool, true, false, bytes_eq, Some, None, Result, MatchResult, ap, ◌∙◌, arith, rules, bytes_eq-Decides, IsErr, IsErrAnd, next_is_no_place, place_of, next_token, slot_in, PatchErrorKind, InvalidPointer}
 use Rattle.std.proofs.lemmas.Bool.Decides.{nat_tests}
 use Rattle.jsonptr.specs.Indexes.{IsIndexText, place_in}
 use Rattle.jsonptr.specs.declared.index.Index.{Index}

@@ -1,5 +1,5 @@
 -- A run on a copy of a part of a document, one step at a time, and what it is of the document.
-use Rattle.json_patch.proofs.Common.{◌≡◌, ◌⊎◌, inl, inr, ⊎_elim, ◌+◌, ◌-◌, ◌<◌, ◌≤◌, IsTrue, Bool, false, if◌then◌else◌, ℕ, zero, suc, List, [], ◌∷◌, ◌++◌, length, drop, take, Option, Some, Result, Ok, Err, refl, sym, ap, ◌∙◌, subst, arith, rules, is_err, Data, Pointer, IsPrefix, IsProperPrefix, Attempts, ComesTo, pointee, after_replace, IsDocument, block, Operation, add, remove, replace, move, copy, test, AreWhole, IsWholeOp, operation_of, operations, Accepts, or_refused, after_step, strip, extend_all, AreRecorded, log_of, PatchErrorKind, InvalidPointer, PatchOperation, StepFault}
+use Rattle.json_patch.proofs.Common.{◌≡◌, ◌⊎◌, inl, inr, ⊎_elim, ◌+◌, ◌-◌, ◌<◌, ◌≤◌, Bool, false, ℕ, zero, suc, List, [], ◌∷◌, ◌++◌, length, drop, take, Option, Some, Result, Ok, Err, refl, sym, ap, ◌∙◌, subst, arith, rules, is_err, Data, Pointer, IsPrefix, IsProperPrefix, Attempts, ComesTo, pointee, after_replace, IsDocument, block, Operation, add, remove, replace, move, copy, test, AreWhole, IsWholeOp, operation_of, operations, Accepts, or_refused, after_step, strip, extend_all, AreRecorded, log_of, PatchErrorKind, InvalidPointer, PatchOperation, StepFault}
 use mathlib.Core.List.{reverse}
 use Rattle.json_patch.specs.PartRun.{AreAt, IsBegun, block_at}
 use Rattle.json_patch.specs.Shared.{IsWithin, AreWithin}

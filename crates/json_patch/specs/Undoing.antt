@@ -19,15 +19,6 @@ use Rattle.json_patch.specs.declared.error.StepFault.{StepFault}
 use Rattle.json_patch.specs.declared.record.Keep.{Keep}
 use Rattle.json_patch.specs.declared.record.Keep.TheVariants.{Inverse, Nothing}
 
--- an operation that one operation undoes
-abbrev pub IsOne : Operation → Type 0
-IsOne (add P v) = Unit {0}
-IsOne (remove P) = Unit {0}
-IsOne (replace P v) = Unit {0}
-IsOne (move F P) = ⊥
-IsOne (copy F P) = Unit {0}
-IsOne (test P v) = ⊥
-
 -- how many items a list has
 abbrev pub count_in : Option Data → Option ℕ
 count_in (Some (array ds)) = Some (items_len ds)

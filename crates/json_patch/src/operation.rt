@@ -2,7 +2,6 @@
 
 ghost use Rattle.std.specs.Prelude.{◌≡◌, [], IfOk};
 ghost use Rattle.serde_json.specs.Data.{null};
-ghost use Rattle.serde_json.specs.View.{view};
 ghost use Rattle.json_patch.specs.Operation.{operation_of, operations, test};
 
 use jsonptr::PointerBuf;

@@ -6,14 +6,14 @@ ghost use Rattle.serde_json.specs.Data.{Data};
 ghost use Rattle.serde_json.specs.View.{view};
 ghost use Rattle.jsonptr.specs.Pointers.{tokens_of};
 ghost use Rattle.jsonptr.specs.Text.{IsPrefix};
-ghost use Rattle.json_patch.specs.Edits.{place_to_undo, undo_at_place};
+ghost use Rattle.json_patch.specs.Edits.{undo_at_place};
 ghost use Rattle.json_patch.specs.InPlace.{AreUnescaped, IsInPlace, NeverShort};
-ghost use Rattle.json_patch.specs.InverseComputed.{block, undo_add};
+ghost use Rattle.json_patch.specs.InverseComputed.{undo_add};
 ghost use Rattle.json_patch.specs.Operation.{move_of, operation_of, operations, path_of};
 ghost use Rattle.json_patch.specs.PartRun.{IsBegun};
 ghost use Rattle.json_patch.specs.RunComputed.{after_run, after_step};
 ghost use Rattle.json_patch.specs.SharedComputed.{strip};
-ghost use Rattle.json_patch.specs.Undoing.{AreUndos, IsOne, IsUndo, IsUndoable, Records, count_in};
+ghost use Rattle.json_patch.specs.Undoing.{AreUndos, IsUndo, IsUndoable, Records, count_in};
 ghost use Rattle.json_patch.specs.declared.record.Keep.TheVariants.{Inverse, Nothing};
 
 use crate::error::StepFault;

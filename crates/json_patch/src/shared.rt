@@ -1,10 +1,10 @@
 //! The part of a document that a list of operations is about.
 
-ghost use Rattle.std.specs.Prelude.{◌≡◌, ℕ, List, IfNone, IfOk, IfSome, Some, option_map};
+ghost use Rattle.std.specs.Prelude.{◌≡◌, ℕ, List, IfNone, IfOk, IfSome, Some};
 ghost use Rattle.serde_json.specs.View.{view};
 ghost use Rattle.jsonptr.specs.Pointers.{tokens_of};
 ghost use Rattle.json_patch.specs.ChangeComputed.{pointee};
-ghost use Rattle.json_patch.specs.Operation.{from_of, operation_of, operations};
+ghost use Rattle.json_patch.specs.Operation.{operation_of, operations};
 ghost use Rattle.json_patch.specs.PartRun.{AreAt, IsLongest};
 ghost use Rattle.json_patch.specs.Shared.{IsShared, IsWithin};
 

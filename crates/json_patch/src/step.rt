@@ -1,12 +1,11 @@
 //! One operation on a document (RFC 6902, section 4).
 
 ghost use Rattle.std.specs.Prelude.{◌≡◌, IfOk, IfErr, OnErr, IsTrue, ◌↔◌, Some, drop, length};
-ghost use Rattle.serde_json.specs.Data.{Data};
 ghost use Rattle.serde_json.specs.View.{view};
 ghost use Rattle.jsonptr.specs.Pointers.{tokens_of};
 ghost use Rattle.jsonptr.specs.Text.{IsPrefix, IsProperPrefix};
 ghost use Rattle.json_patch.specs.Attempt.{Attempts, FailsAs, ComesTo, TakesOut};
-ghost use Rattle.json_patch.specs.ChangeComputed.{after_add, after_remove, after_replace, pointee};
+ghost use Rattle.json_patch.specs.ChangeComputed.{after_add, after_remove, after_replace};
 ghost use Rattle.json_patch.specs.Edits.{IsTaken, Undoes};
 ghost use Rattle.json_patch.specs.InPlace.{AreUnescaped, IsInPlace, NeverShort};
 ghost use Rattle.json_patch.specs.Operation.{IsMove, operation_of, add as add_at, copy as copy_at, move as move_at, replace as replace_at, test as test_at};

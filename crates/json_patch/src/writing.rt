@@ -1,6 +1,6 @@
 //! Writing patches and operations as JSON values (RFC 6902, sections 3 and 4).
 
-ghost use Rattle.std.specs.Prelude.{◌≡◌, IfOk, OnOk, codes, option_map};
+ghost use Rattle.std.specs.Prelude.{◌≡◌, IfOk, OnOk, option_map};
 ghost use Rattle.serde_json.specs.Data.{string};
 ghost use Rattle.serde_json.specs.View.{members_view, view};
 ghost use Rattle.json_patch.specs.PartsView.{parts_view};

@@ -1,4 +1,4 @@
-use Rattle.json_patch.proofs.Common.{string_bytes, rules, refl, sym, ap, ◌∙◌, view, Object, the_lemmas, IsFilledMember, Fills, FillsAt, stays, left}
+use Rattle.json_patch.proofs.Common.{string_bytes, rules, refl, sym, ap, ◌∙◌, view, Object, the_lemmas, IsFilledMember, stays, left}
 use Rattle.json_patch.specs.declared.merging.Former.{Nothing}
 use Rattle.json_patch.proofs.MergeLoops.{starts, steps_at, changes_nothing, next_document}
 use Rattle.json_patch.proofs.MergeFills.{null_here, other_here, other_value, filled_whole, filled_object, same_object, found_document, fills_found, fills_missing, fills_next, logs_other, logs_nothing}
