@@ -1,5 +1,5 @@
 -- The names that most proofs of this crate speak of.
-pub use Rattle.std.proofs.Common.{◌≡◌, ℕ, List, [], ◌∷◌, ◌++◌, Option, Some, option_map, option_and_then, refl, ap, rules, ◌+◌, inl, inr, suc, length, Result, Ok, Err, sym, ◌∙◌, subst, arith, ◌<◌, zero, take, get_or, codes, None, ◌↔◌, append_assoc, ap₂, ⊎_elim, Ordering, Less, Equal, Greater, nat_cmp, is_eq, Vec, vec_len, IfOk, BTreeMap, String, Global, ◌⊎◌, ◌-◌, ◌≤◌, IsTrue, Bool, false, if◌then◌else◌, drop, add-one, append-nil, true, bytes_eq, IfNone, IfSome, ◌^◌, decimal, string_bytes, not, set, slice_index_or, cond, ◌&&◌, ◌≢◌, IsOk, is_some, string_cmp, map, unwrap_or, ◌*◌, leb, MatchResult, ◌/◌, ◌%◌, chars, flat_map, encode_utf8, IsUtf8, true≢false, length-append}
+pub use Rattle.std.proofs.Common.{◌≡◌, ℕ, List, [], ◌∷◌, ◌++◌, Option, Some, option_map, option_and_then, refl, ap, rules, ◌+◌, inl, inr, suc, length, Result, Ok, Err, sym, ◌∙◌, subst, arith, ◌<◌, zero, take, get_or, codes, None, ◌↔◌, append_assoc, ap₂, ⊎_elim, Ordering, Less, Equal, Greater, nat_cmp, is_eq, Vec, vec_len, IfOk, BTreeMap, String, Global, ◌⊎◌, ◌-◌, ◌≤◌, Bool, false, drop, add-one, append-nil, true, bytes_eq, if◌then◌else◌, IfNone, IsTrue, IfSome, not, set, slice_index_or, cond, string_bytes, ◌&&◌, ◌≢◌, IsOk, is_some, string_cmp, map, unwrap_or, ◌*◌, MatchResult, ◌/◌, ◌%◌, ◌^◌, chars, flat_map, encode_utf8, IsUtf8, leb, true≢false, length-append}
 pub use Rattle.std.proofs.lemmas.Grind.{common_steps}
 pub use Rattle.std.proofs.lemmas.List.{map-append, append_cancel_left, reverse-append, reverse-reverse, take_all, drop_more, drop_all, length-map, take-map}
 pub use Rattle.std.proofs.lemmas.Option.{option_and_then_some}
@@ -12,7 +12,7 @@ pub use Rattle.serde_json.specs.Data.{Data, Items, array, item, string, object, 
 pub use Rattle.serde_json.specs.Find.{get, get_member, as_null, as_object, is_float, get_item}
 pub use Rattle.serde_json.specs.View.{view, items_view, members_view, items_of}
 pub use Rattle.serde_json.specs.declared.value.Value.{Value, Array, Object, the_lemmas}
-pub use Rattle.jsonptr.specs.PlaceLaws.{place_is_token, token_is_decimal, next_is_no_place, place_is_plain}
+pub use Rattle.jsonptr.specs.PlaceLaws.{place_is_token, next_is_no_place, place_is_plain, token_is_decimal}
 pub use Rattle.jsonptr.specs.Places.{place_of, next_token, decimal_token}
 pub use Rattle.jsonptr.specs.Pointers.{token_of, tokens_of, tokens_left}
 pub use Rattle.jsonptr.specs.Text.{Pointer, IsPrefix, IsProperPrefix, IsLongestShared, text_of, ReplacesLast}

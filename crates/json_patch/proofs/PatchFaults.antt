@@ -77,9 +77,6 @@ found_lacks v k d e h = let n = h.1 in cc
 pub found_text : (v : Data) (k t : List ℕ) → get k v ≡ Some (string t) → HasNoText v k → ⊥
 found_text v k t e h = h.2 t (search rules)
 
-pub same_text : (v : Data) (k t s : List ℕ) → get k v ≡ Some (string t) → get k v ≡ Some (string s) → t ≡ s
-same_text v k t s e f = cc
-
 pub found_pointer : (v : Data) (k : List ℕ) (P : Pointer) (e : ParseError) → get k v ≡ Some (string (text_of P)) → HasNoPointer v k e → ⊥
 found_pointer v k P e f h =
     pointer_has_no_fault P e (subst (λ t. IsFault t e) (search rules) h.2)

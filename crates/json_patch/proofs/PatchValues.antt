@@ -214,10 +214,6 @@ written_items_read : (ops : List Operation) → AreWhole ops → ReadsItems (ite
 written_items_read [] w = tt
 written_items_read (op ∷ ops) w = ((search rules), written_items_read ops w.1)
 
--- what is written_value of an operation is a document, where its value is one
-written_document : (op : Operation) → IsWholeOp op → IsDocument (written_value op)
-written_document op w = search rules
-
 written_items_documents : (ops : List Operation) → AreWhole ops → AreDocuments (items_of (map written_value ops))
 written_items_documents [] w = tt
 written_items_documents (op ∷ ops) w = ((search rules), written_items_documents ops w.1)

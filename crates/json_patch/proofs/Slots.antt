@@ -1,5 +1,5 @@
 -- Where a token puts a new child, and what that leaves.
-use Rattle.json_patch.proofs.Common.{◌≡◌, ℕ, ◌<◌, ◌≤◌, List, [], ◌∷◌, ⊎_elim, Bool, true, if◌then◌else◌, leb, bytes_eq, Option, Some, None, option_map, option_and_then, refl, ap, arith, rules, bytes_eq-Decides, Data, array, object, Items, Members, put, get_member-put, get_member-put_other, next_is_no_place, IsDocument, Segment, key, place, look, sight, value_at, Aims, PutsAt, IsBeside, slot_of, put_in, insert_item}
+use Rattle.json_patch.proofs.Common.{◌≡◌, ℕ, ◌<◌, ◌≤◌, List, [], ◌∷◌, ⊎_elim, Bool, if◌then◌else◌, leb, bytes_eq, Option, Some, None, option_map, option_and_then, refl, ap, arith, rules, bytes_eq-Decides, Data, array, object, Items, Members, put, get_member-put, get_member-put_other, next_is_no_place, IsDocument, Segment, key, place, look, sight, value_at, Aims, PutsAt, IsBeside, slot_of, put_in, insert_item}
 use Rattle.std.proofs.lemmas.Bool.{cases_lt}
 use Rattle.std.proofs.lemmas.Bool.Decides.{nat_tests}
 use Rattle.serde_json.specs.Events.{items_len}
@@ -12,9 +12,6 @@ within b j n i is h = search rules
 
 pub slot_aims : (t : List ℕ) (ds : Items) (i : ℕ) → slot_of t ds ≡ Some i → Aims (array ds) t (place i)
 slot_aims t ds i h = (search rules)
-
-fits : (i n : ℕ) → i ≤ n → leb i n ≡ true
-fits i n le = grind (arith, nat_tests)
 
 pub slot_some : (t : List ℕ) (ds : Items) (i : ℕ) → Aims (array ds) t (place i) → slot_of t ds ≡ Some i
 slot_some t ds i h = search (rules, bytes_eq-Decides, next_is_no_place, bytes_eq, nat_tests)

@@ -1,5 +1,5 @@
 -- A recorded run, undone.
-use Rattle.json_patch.proofs.Common.{common_steps, ◌≡◌, ◌+◌, ℕ, zero, suc, List, [], ◌∷◌, ◌++◌, length, drop, take, map, Bool, bytes_eq, if◌then◌else◌, Vec, vec_len, Global, Option, Some, None, Result, Ok, Err, IfOk, refl, sym, ap, ◌∙◌, subst, append_assoc, arith, rules, IsErrAnd, map-append, reverse-append, Data, view, Value, Array, items_len-items_view, view-Array, Pointer, IsPrefix, ReplacesLast, next_token, decimal_token, place_is_plain, ComesTo, pointee, front_of, last_of, block, settled_token, undo_add, undo_at, undo_in, with_found, Operation, move, replace, operation_of, operations, path_of, after_run, then_run, after_step, strip, AreUndos, IsUndo, IsUndoable, Records, count_in, PatchErrorKind, StepFault, PatchOperation}
+use Rattle.json_patch.proofs.Common.{common_steps, ◌≡◌, ◌+◌, ℕ, List, [], ◌∷◌, ◌++◌, length, drop, take, map, Bool, bytes_eq, if◌then◌else◌, Vec, vec_len, Global, Option, Some, None, Result, Ok, Err, IfOk, refl, sym, ap, ◌∙◌, subst, append_assoc, arith, rules, IsErrAnd, map-append, reverse-append, Data, view, Value, Array, items_len-items_view, view-Array, Pointer, IsPrefix, ReplacesLast, next_token, decimal_token, place_is_plain, ComesTo, pointee, front_of, last_of, block, settled_token, undo_add, undo_at, undo_in, with_found, Operation, move, replace, operation_of, operations, path_of, after_run, then_run, after_step, strip, AreUndos, IsUndo, IsUndoable, Records, count_in, PatchErrorKind, StepFault, PatchOperation}
 use Rattle.std.specs.declared.alloc.AllocError.{AllocError}
 use mathlib.Core.List.{reverse}
 use Rattle.json_patch.specs.InPlace.{AreUnescaped, IsUnescaped}
@@ -51,12 +51,6 @@ pub count_here : (n : ℕ) (v : Value) (m : Vec Value Global) → n ≡ vec_len 
 count_here n v m len is = let same : n ≡ length m.items = omega arith in rw (is, view-Array m) (ap Some (same ∙ sym (items_len-items_view m.items)))
 
 -- ---- what is recorded
-
-one_more : (olds news : List PatchOperation) (u : PatchOperation) (op : Operation) → news ≡ olds ++ u ∷ [] → operation_of u ≡ op → operations news ≡ operations olds ++ op ∷ []
-one_more olds news u op is same = ap operations is ∙ map-append operation_of olds (u ∷ []) ∙ ap (λ o. operations olds ++ o ∷ []) same
-
-first_of : (u w : Operation) (us ws : List Operation) → ◌≡◌ {A = List Operation} (u ∷ us) (w ∷ ws) → u ≡ w
-first_of u w us ws is = cc
 
 -- a `move` that isn't made
 pub move_refused : {T : Type 0} (r : Result T StepFault) (P : StepFault → Type 0) (d e : Data) (S G Q : Pointer) (olds news : List Operation) → IsErrAnd r P → ComesTo r (after_step d (strip S (move G Q))) e → news ≡ olds → Records Inverse r d e S (move G Q) olds news
