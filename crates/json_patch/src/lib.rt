@@ -10,7 +10,6 @@ mod parts;
 mod printing;
 mod reading;
 mod record;
-mod resolving;
 mod run;
 mod shared;
 mod step;
@@ -27,6 +26,6 @@ pub use operation::{
     ReplaceOperation, TestOperation,
 };
 pub use printing::pretty;
-pub use resolving::lookup;
 pub use run::{apply_patches, patch, patch_unsafe};
+pub use walk::lookup;
 pub use wholeness::is_whole;

@@ -41,11 +41,9 @@ pub(crate) fn is_undoable(operation: &PatchOperation) -> bool
     ensures { IsTrue result ↔ IsUndoable (operation_of operation.now) }
 {
     match operation {
-        PatchOperation::Add(operation) => is_unescaped(operation.path.as_pointer()),
-        PatchOperation::Replace(operation) => is_unescaped(operation.path.as_pointer()),
-        PatchOperation::Copy(operation) => is_unescaped(operation.path.as_pointer()),
         PatchOperation::Remove(_) | PatchOperation::Move(_) => false,
         PatchOperation::Test(_) => true,
+        _ => is_unescaped(operation.path()),
     }
 }
 

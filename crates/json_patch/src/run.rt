@@ -72,15 +72,8 @@ pub fn patch_unsafe(
 {
     let mut undo = Vec::new(alloc);
     for number in 0..patch.len() {
-        run_part(
-            alloc,
-            doc,
-            patch,
-            number,
-            number + 1,
-            Keep::Nothing,
-            &mut undo,
-        )?;
+        let next = number + 1;
+        run_part(alloc, doc, patch, number, next, Keep::Nothing, &mut undo)?;
     }
     Ok(())
 }
@@ -132,18 +125,12 @@ fn run(
     ensures in_place { keep ≡ Nothing → AreTestsThenRemove (operations patch.now)
         → (e : Data) → Accepts (view doc.old) (operations patch.now) e → IsOk result }
 {
+    let root = Pointer::root();
     let mut undo = Vec::new(alloc);
     let mut number = 0;
     while patch.len() - number > 1 && is_undoable(&patch[number]) {
         let operation = &patch[number];
-        if let Err(fault) = record_step(
-            alloc,
-            doc,
-            Pointer::root(),
-            operation,
-            Keep::Inverse,
-            &mut undo,
-        ) {
+        if let Err(fault) = record_step(alloc, doc, root, operation, Keep::Inverse, &mut undo) {
             undo_recorded(alloc, doc, undo);
             return Err(reported(alloc, number, operation, fault));
         }

@@ -183,9 +183,7 @@ pub(crate) fn copy_value(
     ensures undo { IfOk result (Undoes (view doc.old)
         (copy_at (tokens_of from.entry) (tokens_of path.entry))) }
 {
-    let Some(value) = find(doc, from.tokens()) else {
-        return Err(StepFault::Refused(PatchErrorKind::InvalidFromPointer));
-    };
+    let value = find(doc, from.tokens()).ok_or(PatchErrorKind::InvalidFromPointer)?;
     let copy = value.clone()?;
     add(alloc, doc, path, copy)
 }

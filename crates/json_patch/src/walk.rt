@@ -1,20 +1,22 @@
-//! One way down a value to a container, and one change there.
+//! Where a pointer leads in a document (RFC 6901, section 4), and one change at its end.
 
-ghost use Rattle.std.specs.Prelude.{◌≡◌, ◌∷◌, [], ℕ, ◌<◌, ◌≤◌, Some, None, IfOk, IsOk, MatchResult, option_map};
+ghost use Rattle.std.specs.Prelude.{◌≡◌, ◌∷◌, [], ℕ, ◌<◌, ◌≤◌, Some, None, IfNone, IfOk, IfSome, IsOk, MatchResult, option_map};
 ghost use Rattle.std.specs.Cow.{cow_str_bytes};
 ghost use Rattle.serde_json.specs.Data.{array, object};
 ghost use Rattle.serde_json.specs.Find.{get_member};
 ghost use Rattle.serde_json.specs.View.{view, items_view, members_view};
 ghost use Rattle.jsonptr.specs.Places.{place_of};
-ghost use Rattle.jsonptr.specs.Pointers.{token_of, tokens_left};
+ghost use Rattle.jsonptr.specs.Pointers.{token_of, tokens_left, tokens_of};
 ghost use Rattle.json_patch.specs.Attempt.{Attempts};
 ghost use Rattle.json_patch.specs.ChangeComputed.{after_change, pointee, slot_in};
 ghost use Rattle.json_patch.specs.InPlace.{AreUnescaped, IsLight, IsUnescaped, NeverShort};
 ghost use Rattle.json_patch.specs.Edits.{made_by, Displaces, DisplacesAt};
+ghost use Rattle.json_patch.specs.Resolve.{StandsAt};
+ghost use Rattle.json_patch.specs.Step.{Never};
 ghost use Rattle.json_patch.specs.declared.error.PatchErrorKind.TheVariants.{InvalidPointer};
 
 use crate::error::{PatchErrorKind, StepFault};
-use jsonptr::{Token, Tokens};
+use jsonptr::{Pointer, Token, Tokens};
 use serde_json::{Map, Value};
 use std::alloc::{AllocError, Global};
 use std::borrow::CowStr;
@@ -157,6 +159,15 @@ fn edit_items(items: &mut Vec<Value>, token: Token<'_>, edit: Edit) -> Result<Di
             Ok(Displaced::Former(mem::replace(&mut items[index], value)))
         }
     }
+}
+
+/// What stands where the pointer leads, if anything does. It takes no memory.
+pub fn lookup<'v>(document: &'v Value, path: Pointer<'_>) -> Option<&'v Value>
+    ensures found { IfSome result (λ v.
+        StandsAt (view document.now) (tokens_of path.entry) (view v.now)) }
+    ensures missing { IfNone result (Never (StandsAt (view document.now) (tokens_of path.entry))) }
+{
+    find(document, path.tokens())
 }
 
 /// What stands where the tokens lead. It takes no memory.

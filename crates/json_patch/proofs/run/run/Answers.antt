@@ -6,10 +6,10 @@ use Rattle.json_patch.proofs.Undos.{block_light, light_more}
 use Rattle.json_patch.proofs.run.run.Goals as goal
 
 pub record_step-requires : goal.record_step-requires
-record_step-requires c = begun_whole (tokens_of c.root.result) (operation_of c.index-patch-number-in-loop-number.result) c.root.ensures
+record_step-requires c = begun_whole (tokens_of c.root-root.result) (operation_of c.index-patch-number-in-loop-number.result) c.root-root.ensures
 
 pub returns-in-Err-clause-refused : goal.returns-in-Err-clause-refused
-returns-in-Err-clause-refused c = search (rules, reported_names (Vec PatchOperation Global) c.reported.result c.in-Err.fault (view c.args.doc.now) (view c.loop-number.doc) (view c.record_step.new.doc) c.args.patch.now c.loop-number.number, step_whole (Unit {0}) (Err c.in-Err.fault) (view c.loop-number.doc) (view c.record_step.new.doc) (tokens_of c.root.result))
+returns-in-Err-clause-refused c = search (rules, reported_names (Vec PatchOperation Global) c.reported.result c.in-Err.fault (view c.args.doc.now) (view c.loop-number.doc) (view c.record_step.new.doc) c.args.patch.now c.loop-number.number, step_whole (Unit {0}) (Err c.in-Err.fault) (view c.loop-number.doc) (view c.record_step.new.doc) (tokens_of c.root-root.result))
 
 pub returns-in-Err-clause-unchanged : goal.returns-in-Err-clause-unchanged
 returns-in-Err-clause-unchanged c = search (rules, undoable_at c.args.patch.now c.loop-number.number c.index-patch-number.result, not_move, recorded_back (view c.args.doc.now) (view c.loop-number.doc) c.args.patch.now c.loop-number.number c.loop-number.undo.items c.requires.document c.requires.whole c.loop-number.invariant.state c.loop-number.invariant.recorded)

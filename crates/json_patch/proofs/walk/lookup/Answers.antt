@@ -1,6 +1,6 @@
 use Rattle.json_patch.proofs.Common.{ap, ◌∙◌, view, pointee}
 use Rattle.json_patch.proofs.Pointees.{some_stands, none_stands}
-use Rattle.json_patch.proofs.resolving.lookup.Goals as goal
+use Rattle.json_patch.proofs.walk.lookup.Goals as goal
 
 pub returns-clause-found : goal.returns-clause-found
 returns-clause-found c = some_stands _ _ _ _ (c.find.ensures ∙ ap (pointee (view c.args.document.now)) c.tokens.ensures.value)

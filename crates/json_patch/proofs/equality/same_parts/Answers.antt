@@ -1,7 +1,7 @@
 use Rattle.json_patch.proofs.Common.{rules}
 use Rattle.json_patch.specs.PartsView.{parts_view}
 use Rattle.json_patch.proofs.SameDocuments.{parts_say}
-use Rattle.json_patch.proofs.equality.operations.same_parts.Goals as goal
+use Rattle.json_patch.proofs.equality.same_parts.Goals as goal
 
 pub returns-then-eq-3-clause-same : goal.returns-then-eq-3-clause-same
 returns-then-eq-3-clause-same c = parts_say c.same_if.result (parts_view c.args.a) (parts_view c.args.b) (search rules)
