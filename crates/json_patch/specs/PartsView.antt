@@ -2,7 +2,7 @@
 use Rattle.std.specs.Prelude.{option_map}
 use Rattle.serde_json.specs.View.{view}
 use Rattle.json_patch.specs.Operation as operation
-use Rattle.json_patch.specs.declared.parts.Parts.{Parts}
+use Rattle.json_patch.specs.declared.operation.Parts.{Parts}
 
 abbrev pub parts_view : Parts → operation.Parts
 parts_view p = record { name = p.name.now; from = option_map (λ F. F.now) p.from; path = p.path.now; value = option_map (λ v. view v.now) p.value }

@@ -14,10 +14,9 @@ ghost use Rattle.json_patch.specs.SameComputed.{same_num, same, same_items, same
 ghost use Rattle.json_patch.specs.SameLaws.{operation_equivalence, operation_partial_equivalence};
 
 use crate::operation::{
-    AddOperation, CopyOperation, MoveOperation, Patch, PatchOperation, RemoveOperation,
+    AddOperation, CopyOperation, MoveOperation, Parts, Patch, PatchOperation, RemoveOperation,
     ReplaceOperation, TestOperation,
 };
-use crate::parts::Parts;
 use serde_json::{Map, Number, Value};
 
 /// Whether two values are equal (RFC 6902, section 4.6): numbers by their value, texts byte by

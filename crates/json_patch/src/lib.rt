@@ -6,7 +6,6 @@ mod error;
 pub mod laws;
 mod merging;
 mod operation;
-mod parts;
 mod printing;
 mod reading;
 mod record;

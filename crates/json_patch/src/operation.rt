@@ -1,10 +1,15 @@
-//! The operations of JSON Patch (RFC 6902, section 4), and lists of them.
+//! The operations of JSON Patch (RFC 6902, section 4) and what they have, and lists of them.
 
 ghost use Rattle.std.specs.Prelude.{◌≡◌, [], IfOk};
 ghost use Rattle.serde_json.specs.Data.{null};
-ghost use Rattle.json_patch.specs.Operation.{operation_of, operations, test};
+ghost use Rattle.serde_json.specs.View.{view};
+ghost use Rattle.jsonptr.specs.Pointers.{tokens_of};
+ghost use Rattle.json_patch.specs.Operation.{add_of, copy_of, move_of, operation_of, operations, parts_of, path_of, remove_of, replace_of, test, test_of};
+ghost use Rattle.json_patch.specs.PartsView.{parts_view};
+ghost use Rattle.json_patch.specs.PatchValue.{written_value, written_fields};
 
-use jsonptr::PointerBuf;
+use crate::writing::to_object;
+use jsonptr::{Pointer, PointerBuf};
 use serde_json::Value;
 use std::alloc::{AllocError, Global};
 
@@ -115,5 +120,232 @@ impl Patch {
             copies.push(operation.clone(alloc)?)?;
         }
         Ok(Patch(copies))
+    }
+}
+
+/// The parts of an operation, borrowed.
+#[derive(Clone, Copy)]
+pub(crate) struct Parts<'a> {
+    /// The text of its `op`.
+    pub(crate) name: &'static str,
+    pub(crate) from: Option<&'a PointerBuf>,
+    pub(crate) path: &'a PointerBuf,
+    pub(crate) value: Option<&'a Value>,
+}
+
+impl AddOperation {
+    pub(crate) fn parts(&self) -> Parts<'_>
+        ensures { parts_view result ≡ parts_of (add_of self.now) }
+    {
+        Parts {
+            name: "add",
+            from: None,
+            path: &self.path,
+            value: Some(&self.value),
+        }
+    }
+
+    /// A copy of the operation, refused for memory alone.
+    pub fn clone(&self, alloc: Global) -> Result<AddOperation, AllocError>
+        ensures { IfOk result (λ copy. add_of copy ≡ add_of self.now) }
+    {
+        let path = self.path.clone(alloc)?;
+        let value = self.value.clone()?;
+        Ok(AddOperation { path, value })
+    }
+
+    /// The object of the members `path` and `value`.
+    pub fn to_value(&self, alloc: Global) -> Result<Value, AllocError>
+        ensures { IfOk result (λ v. view v ≡ written_fields (add_of self.now)) }
+    {
+        to_object(alloc, None, self.parts())
+    }
+}
+
+impl RemoveOperation {
+    pub(crate) fn parts(&self) -> Parts<'_>
+        ensures { parts_view result ≡ parts_of (remove_of self.now) }
+    {
+        Parts {
+            name: "remove",
+            from: None,
+            path: &self.path,
+            value: None,
+        }
+    }
+
+    /// A copy of the operation, refused for memory alone.
+    pub fn clone(&self, alloc: Global) -> Result<RemoveOperation, AllocError>
+        ensures { IfOk result (λ copy. remove_of copy ≡ remove_of self.now) }
+    {
+        let path = self.path.clone(alloc)?;
+        Ok(RemoveOperation { path })
+    }
+
+    /// The object of the member `path`.
+    pub fn to_value(&self, alloc: Global) -> Result<Value, AllocError>
+        ensures { IfOk result (λ v. view v ≡ written_fields (remove_of self.now)) }
+    {
+        to_object(alloc, None, self.parts())
+    }
+}
+
+impl ReplaceOperation {
+    pub(crate) fn parts(&self) -> Parts<'_>
+        ensures { parts_view result ≡ parts_of (replace_of self.now) }
+    {
+        Parts {
+            name: "replace",
+            from: None,
+            path: &self.path,
+            value: Some(&self.value),
+        }
+    }
+
+    /// A copy of the operation, refused for memory alone.
+    pub fn clone(&self, alloc: Global) -> Result<ReplaceOperation, AllocError>
+        ensures { IfOk result (λ copy. replace_of copy ≡ replace_of self.now) }
+    {
+        let path = self.path.clone(alloc)?;
+        let value = self.value.clone()?;
+        Ok(ReplaceOperation { path, value })
+    }
+
+    /// The object of the members `path` and `value`.
+    pub fn to_value(&self, alloc: Global) -> Result<Value, AllocError>
+        ensures { IfOk result (λ v. view v ≡ written_fields (replace_of self.now)) }
+    {
+        to_object(alloc, None, self.parts())
+    }
+}
+
+impl MoveOperation {
+    pub(crate) fn parts(&self) -> Parts<'_>
+        ensures { parts_view result ≡ parts_of (move_of self.now) }
+    {
+        Parts {
+            name: "move",
+            from: Some(&self.from),
+            path: &self.path,
+            value: None,
+        }
+    }
+
+    /// A copy of the operation, refused for memory alone.
+    pub fn clone(&self, alloc: Global) -> Result<MoveOperation, AllocError>
+        ensures { IfOk result (λ copy. move_of copy ≡ move_of self.now) }
+    {
+        let from = self.from.clone(alloc)?;
+        let path = self.path.clone(alloc)?;
+        Ok(MoveOperation { from, path })
+    }
+
+    /// The object of the members `from` and `path`.
+    pub fn to_value(&self, alloc: Global) -> Result<Value, AllocError>
+        ensures { IfOk result (λ v. view v ≡ written_fields (move_of self.now)) }
+    {
+        to_object(alloc, None, self.parts())
+    }
+}
+
+impl CopyOperation {
+    pub(crate) fn parts(&self) -> Parts<'_>
+        ensures { parts_view result ≡ parts_of (copy_of self.now) }
+    {
+        Parts {
+            name: "copy",
+            from: Some(&self.from),
+            path: &self.path,
+            value: None,
+        }
+    }
+
+    /// A copy of the operation, refused for memory alone.
+    pub fn clone(&self, alloc: Global) -> Result<CopyOperation, AllocError>
+        ensures { IfOk result (λ copy. copy_of copy ≡ copy_of self.now) }
+    {
+        let from = self.from.clone(alloc)?;
+        let path = self.path.clone(alloc)?;
+        Ok(CopyOperation { from, path })
+    }
+
+    /// The object of the members `from` and `path`.
+    pub fn to_value(&self, alloc: Global) -> Result<Value, AllocError>
+        ensures { IfOk result (λ v. view v ≡ written_fields (copy_of self.now)) }
+    {
+        to_object(alloc, None, self.parts())
+    }
+}
+
+impl TestOperation {
+    pub(crate) fn parts(&self) -> Parts<'_>
+        ensures { parts_view result ≡ parts_of (test_of self.now) }
+    {
+        Parts {
+            name: "test",
+            from: None,
+            path: &self.path,
+            value: Some(&self.value),
+        }
+    }
+
+    /// A copy of the operation, refused for memory alone.
+    pub fn clone(&self, alloc: Global) -> Result<TestOperation, AllocError>
+        ensures { IfOk result (λ copy. test_of copy ≡ test_of self.now) }
+    {
+        let path = self.path.clone(alloc)?;
+        let value = self.value.clone()?;
+        Ok(TestOperation { path, value })
+    }
+
+    /// The object of the members `path` and `value`.
+    pub fn to_value(&self, alloc: Global) -> Result<Value, AllocError>
+        ensures { IfOk result (λ v. view v ≡ written_fields (test_of self.now)) }
+    {
+        to_object(alloc, None, self.parts())
+    }
+}
+
+impl PatchOperation {
+    pub(crate) fn parts(&self) -> Parts<'_>
+        ensures { parts_view result ≡ parts_of (operation_of self.now) }
+    {
+        match self {
+            PatchOperation::Add(operation) => operation.parts(),
+            PatchOperation::Remove(operation) => operation.parts(),
+            PatchOperation::Replace(operation) => operation.parts(),
+            PatchOperation::Move(operation) => operation.parts(),
+            PatchOperation::Copy(operation) => operation.parts(),
+            PatchOperation::Test(operation) => operation.parts(),
+        }
+    }
+
+    /// Where the operation works: its `path`, also where it has a `from`.
+    pub fn path(&self) -> Pointer<'_>
+        ensures { tokens_of result ≡ path_of (operation_of self.now) }
+    {
+        self.parts().path.as_pointer()
+    }
+
+    /// A copy of the operation, refused for memory alone.
+    pub fn clone(&self, alloc: Global) -> Result<PatchOperation, AllocError>
+        ensures { IfOk result (λ copy. operation_of copy ≡ operation_of self.now) }
+    {
+        Ok(match self {
+            PatchOperation::Add(operation) => PatchOperation::Add(operation.clone(alloc)?),
+            PatchOperation::Remove(operation) => PatchOperation::Remove(operation.clone(alloc)?),
+            PatchOperation::Replace(operation) => PatchOperation::Replace(operation.clone(alloc)?),
+            PatchOperation::Move(operation) => PatchOperation::Move(operation.clone(alloc)?),
+            PatchOperation::Copy(operation) => PatchOperation::Copy(operation.clone(alloc)?),
+            PatchOperation::Test(operation) => PatchOperation::Test(operation.clone(alloc)?),
+        })
+    }
+
+    /// The object of the members that the operation has, with its name as `op`.
+    pub fn to_value(&self, alloc: Global) -> Result<Value, AllocError>
+        ensures { IfOk result (λ v. view v ≡ written_value (operation_of self.now)) }
+    {
+        let parts = self.parts();
+        to_object(alloc, Some(parts.name), parts)
     }
 }

@@ -14,10 +14,9 @@ ghost use Rattle.json_patch.specs.PatchValue.{all_fields, fields};
 ghost use Rattle.json_patch.specs.Printed.{character_text, leading_text, number_text, value_text, fields_text, parts_text, patch_text, quote, trailing_text};
 
 use crate::operation::{
-    AddOperation, CopyOperation, MoveOperation, Patch, PatchOperation, RemoveOperation,
+    AddOperation, CopyOperation, MoveOperation, Parts, Patch, PatchOperation, RemoveOperation,
     ReplaceOperation, TestOperation,
 };
-use crate::parts::Parts;
 use jsonptr::PointerBuf;
 use serde_json::{Map, Number, Value};
 use std::alloc::{AllocError, Global};

@@ -25,12 +25,10 @@ pub(crate) fn copied_part<'a>(
 {
     if let Some(shared) = shared_pointer(patch) {
         if let Some(part) = find(doc, shared.tokens()) {
-            let copy = part.clone()?;
-            return Ok((shared, copy));
+            return Ok((shared, part.clone()?));
         }
     }
-    let copy = doc.clone()?;
-    Ok((Pointer::root(), copy))
+    Ok((Pointer::root(), doc.clone()?))
 }
 
 /// The pointer of the tokens that begin the parent of each pointer of the operations.

@@ -7,8 +7,7 @@ ghost use Rattle.json_patch.specs.PartsView.{parts_view};
 ghost use Rattle.json_patch.specs.Operation.{operations};
 ghost use Rattle.json_patch.specs.PatchValue.{put_if, written_parts, written_patch};
 
-use crate::operation::Patch;
-use crate::parts::Parts;
+use crate::operation::{Parts, Patch};
 use jsonptr::PointerBuf;
 use serde_json::{Map, Value};
 use std::alloc::{AllocError, Global};
