@@ -3,5 +3,5 @@ use Rattle.json_patch.proofs.Common.{◌≡◌, Option, None, Result, rules, IsE
 use Rattle.json_patch.specs.declared.error.StepFault.TheVariants.{Refused}
 
 -- a refusal that `?` passed on
-pub refused : {T : Type 0} (r : Result T StepFault) (kind : PatchErrorKind) (wanted : Option Data) (d : Data) → IsErr r × IsErrAnd r (λ f. f ≡ Refused kind) → kind ≡ InvalidPointer → wanted ≡ None → Attempts r wanted d d
-refused r kind wanted d h at none = search rules
+pub refused_attempt : {T : Type 0} (r : Result T StepFault) (kind : PatchErrorKind) (wanted : Option Data) (d : Data) → IsErr r × IsErrAnd r (λ f. f ≡ Refused kind) → kind ≡ InvalidPointer → wanted ≡ None → Attempts r wanted d d
+refused_attempt r kind wanted d h at none = search rules

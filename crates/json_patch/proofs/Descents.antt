@@ -5,7 +5,7 @@ use Rattle.json_patch.specs.Edits.{Displaces, DisplacesAt}
 use Rattle.json_patch.specs.declared.walk.Displaced.{Displaced}
 use Rattle.json_patch.specs.declared.walk.Edit.{Edit}
 use Rattle.json_patch.specs.declared.error.StepFault.TheVariants.{Refused}
-use Rattle.json_patch.proofs.Attempts.{refused}
+use Rattle.json_patch.proofs.Attempts.{refused_attempt}
 use Rattle.json_patch.proofs.Containers.{IsItem, IsNoItem, item_child, member_child, no_item, no_member, goes_none}
 use Rattle.json_patch.proofs.Writes.{is_named, AreInOrder, items_view-set, items_view-set_same, members_view-set_value, members_view-set_same}
 
@@ -28,7 +28,7 @@ walks_to_member r wanted f t old new m n v w q o p order is wrote h = rw (q, o, 
 
 pub walks_to_no_item : {T : Type 0} (r : Result T StepFault) (kind : PatchErrorKind) (wanted : Option Data) (f : Data → Option Data) (t : List ℕ) (old new : Value) (m : Vec Value Global) (len : ℕ)
     → wanted ≡ within f t (view old) → old ≡ Array m → new ≡ Array m → len ≡ vec_len m → IsErr r × IsErrAnd r (λ x. x ≡ Refused kind) → kind ≡ InvalidPointer → IsNoItem t len → Attempts r wanted (view old) (view new)
-walks_to_no_item r kind wanted f t old new m len q o n e gives at past = search (rules, refused, view-Array, no_item t m len, goes_none (array (items_view m.items)), no_item, goes_none)
+walks_to_no_item r kind wanted f t old new m len q o n e gives at past = search (rules, refused_attempt, view-Array, no_item t m len, goes_none (array (items_view m.items)), no_item, goes_none)
 
 pub walks_to_no_member : (wanted : Option Data) (f : Data → Option Data) (t : List ℕ) (old new : Value) (m n : BTreeMap (String Global) Value)
     → wanted ≡ within f t (view old) → old ≡ Object m → new ≡ Object n → None ≡ lookup (is_named t) m.entries → n ≡ m → (wanted ≡ None) × (view new ≡ view old)

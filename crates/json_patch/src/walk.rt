@@ -135,7 +135,7 @@ fn edit_members(
     }
 }
 
-#[tactic(auto, using(crate::proofs::Attempts::refused, crate::proofs::Containers::inserts_nowhere, crate::proofs::Containers::takes_no_item, crate::proofs::Containers::inserts_item, crate::proofs::Containers::takes_item, crate::proofs::Containers::found_item))]
+#[tactic(auto, using(crate::proofs::Attempts::refused_attempt, crate::proofs::Containers::inserts_nowhere, crate::proofs::Containers::takes_no_item, crate::proofs::Containers::inserts_item, crate::proofs::Containers::takes_item, crate::proofs::Containers::found_item))]
 fn edit_items(items: &mut Vec<Value>, token: Token<'_>, edit: Edit) -> Result<Displaced, StepFault>
     ensures leaves { Attempts result
         (made_by edit (token_of token.entry) (array (items_view items.old.items)))
