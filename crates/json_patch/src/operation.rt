@@ -133,16 +133,30 @@ pub(crate) struct Parts<'a> {
     pub(crate) value: Option<&'a Value>,
 }
 
+impl<'a> Parts<'a> {
+    fn new(
+        name: &'static str,
+        from: Option<&'a PointerBuf>,
+        path: &'a PointerBuf,
+        value: Option<&'a Value>,
+    ) -> Parts<'a>
+        ensures { (result.name ≡ name.entry) × (result.from ≡ from.entry)
+            × (result.path ≡ path.entry) × (result.value ≡ value.entry) }
+    {
+        Parts {
+            name,
+            from,
+            path,
+            value,
+        }
+    }
+}
+
 impl AddOperation {
     pub(crate) fn parts(&self) -> Parts<'_>
         ensures { parts_view result ≡ parts_of (add_of self.now) }
     {
-        Parts {
-            name: "add",
-            from: None,
-            path: &self.path,
-            value: Some(&self.value),
-        }
+        Parts::new("add", None, &self.path, Some(&self.value))
     }
 
     /// A copy of the operation, refused for memory alone.
@@ -166,12 +180,7 @@ impl RemoveOperation {
     pub(crate) fn parts(&self) -> Parts<'_>
         ensures { parts_view result ≡ parts_of (remove_of self.now) }
     {
-        Parts {
-            name: "remove",
-            from: None,
-            path: &self.path,
-            value: None,
-        }
+        Parts::new("remove", None, &self.path, None)
     }
 
     /// A copy of the operation, refused for memory alone.
@@ -194,12 +203,7 @@ impl ReplaceOperation {
     pub(crate) fn parts(&self) -> Parts<'_>
         ensures { parts_view result ≡ parts_of (replace_of self.now) }
     {
-        Parts {
-            name: "replace",
-            from: None,
-            path: &self.path,
-            value: Some(&self.value),
-        }
+        Parts::new("replace", None, &self.path, Some(&self.value))
     }
 
     /// A copy of the operation, refused for memory alone.
@@ -223,12 +227,7 @@ impl MoveOperation {
     pub(crate) fn parts(&self) -> Parts<'_>
         ensures { parts_view result ≡ parts_of (move_of self.now) }
     {
-        Parts {
-            name: "move",
-            from: Some(&self.from),
-            path: &self.path,
-            value: None,
-        }
+        Parts::new("move", Some(&self.from), &self.path, None)
     }
 
     /// A copy of the operation, refused for memory alone.
@@ -252,12 +251,7 @@ impl CopyOperation {
     pub(crate) fn parts(&self) -> Parts<'_>
         ensures { parts_view result ≡ parts_of (copy_of self.now) }
     {
-        Parts {
-            name: "copy",
-            from: Some(&self.from),
-            path: &self.path,
-            value: None,
-        }
+        Parts::new("copy", Some(&self.from), &self.path, None)
     }
 
     /// A copy of the operation, refused for memory alone.
@@ -281,12 +275,7 @@ impl TestOperation {
     pub(crate) fn parts(&self) -> Parts<'_>
         ensures { parts_view result ≡ parts_of (test_of self.now) }
     {
-        Parts {
-            name: "test",
-            from: None,
-            path: &self.path,
-            value: Some(&self.value),
-        }
+        Parts::new("test", None, &self.path, Some(&self.value))
     }
 
     /// A copy of the operation, refused for memory alone.
