@@ -79,8 +79,7 @@ pub(crate) fn record_step(
         → IsInPlace (operation_of operation.now) → NeverShort result }
 {
     if let Keep::Nothing = keep {
-        step(alloc, doc, base, operation)?;
-        return Ok(());
+        return step(alloc, doc, base, operation).map(drop);
     }
     let place = match operation {
         PatchOperation::Add(made) => undo_place(alloc, doc, base, &made.path)?,
@@ -88,10 +87,7 @@ pub(crate) fn record_step(
         PatchOperation::Replace(made) => made.path.clone(alloc)?,
         PatchOperation::Move(made) => return record_move(alloc, doc, base, made, undo),
         PatchOperation::Copy(made) => undo_place(alloc, doc, base, &made.path)?,
-        PatchOperation::Test(_) => {
-            step(alloc, doc, base, operation)?;
-            return Ok(());
-        }
+        PatchOperation::Test(_) => return step(alloc, doc, base, operation).map(drop),
     };
     undo.reserve(1)?;
     let was = step(alloc, doc, base, operation)?;
@@ -185,11 +181,8 @@ fn undo_one(alloc: Global, doc: &mut Value, operation: PatchOperation)
         → after_step (view doc.old) (operation_of operation) ≡ Ok d → view doc.new ≡ d }
 {
     match operation {
-        PatchOperation::Remove(operation) => {
-            drop(remove(alloc, doc, operation.path.as_pointer()));
-        }
-        PatchOperation::Replace(operation) => {
-            let ReplaceOperation { path, value } = operation;
+        PatchOperation::Remove(made) => drop(remove(alloc, doc, made.path.as_pointer())),
+        PatchOperation::Replace(ReplaceOperation { path, value }) => {
             drop(replace(alloc, doc, path.as_pointer(), value));
         }
         _ => {}

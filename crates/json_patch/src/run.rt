@@ -219,9 +219,8 @@ fn reported(
 ) -> PatchFault
     ensures { Reports fault number (path_of (operation_of operation.now)) result }
 {
-    let kind = match fault {
-        StepFault::Refused(kind) => kind,
-        StepFault::Memory(error) => return PatchFault::Memory(error),
+    let StepFault::Refused(kind) = fault else {
+        return PatchFault::Memory(AllocError);
     };
     match operation.path().to_buf(alloc) {
         Ok(path) => PatchFault::Refused(PatchError {
