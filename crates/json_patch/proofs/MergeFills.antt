@@ -1,5 +1,5 @@
 -- What is filled and then pruned is merged, and what was found leads back.
-use Rattle.json_patch.proofs.Common.{◌≡◌, ◌≢◌, Vec, BTreeMap, String, Global, Result, Ok, Err, IsOk, Bool, true, false, is_some, string_bytes, string_cmp, rules, ℕ, suc, ◌+◌, arith, List, [], ◌∷◌, ◌++◌, map, Option, Some, None, option_map, unwrap_or, Ordering, nat_cmp, refl, sym, ap, ◌∙◌, subst, map-append, lookup, remove_entry, set_value, slice_cmp, Data, null, object, Members, no_members, member, put, get, get_member, as_null, as_object, view, members_view, Value, Object, the_lemmas, Entry, get_member-put, members_view-insert_entry, view-lookup, view-Object, IsDocument, AreMembers, sight_of, key, without, IsFilled, IsFilledMember, AreFilled, replaces, by_key, stays, left, fills, Fills, FillsAt, Logs, IsPrunedMember, ArePruned, with_member, former_value, restore_members, members_before}
+use Rattle.json_patch.proofs.Common.{◌≡◌, ◌≢◌, Vec, BTreeMap, String, Global, Result, Ok, Err, IsOk, Bool, true, false, is_some, string_bytes, string_cmp, rules, ℕ, suc, ◌+◌, arith, List, [], ◌∷◌, ◌++◌, map, Option, Some, None, option_map, unwrap_or, Ordering, nat_cmp, refl, sym, ap, ◌∙◌, subst, map-append, lookup, remove_entry, set_value, slice_cmp, Data, null, object, Members, no_members, member, put, get, get_member, as_null, as_object, view, members_view, Value, Object, the_lemmas, Entry, get_member-put, members_view-insert_entry, view-lookup, view-Object, IsDocument, AreMembers, sight_of, key, without, IsFilled, IsFilledMember, replaces, by_key, stays, left, fills, Fills, FillsAt, Logs, IsPrunedMember, ArePruned, with_member, former_value, restore_members, members_before}
 use Rattle.std.proofs.Common.{IsErr}
 use Rattle.std.specs.Bool.{⊤}
 use Rattle.std.specs.Borrow.{Bor}
@@ -7,6 +7,7 @@ use Rattle.std.specs.declared.alloc.AllocError.{AllocError}
 use Rattle.std.specs.BTreeMap.{insert_entry}
 use Rattle.std.specs.Ordering.{match_ordering}
 use Rattle.json_patch.specs.Sight.{Sight}
+use Rattle.json_patch.specs.Filled.{Prunes}
 use Rattle.json_patch.specs.Merged as m
 use Rattle.json_patch.specs.Merged.{IsMerged}
 use Rattle.json_patch.specs.MergedComputed.{members_of}
@@ -15,7 +16,7 @@ use Rattle.json_patch.specs.declared.merging.Former.TheOpen.{Former-F}
 use Rattle.json_patch.proofs.Members.{member_document}
 use Rattle.json_patch.proofs.Writes.{is_named, AreInOrder, members_view-remove_entry, members_view-set_value, members_view-set_same}
 use Rattle.json_patch.proofs.ChildChanges.{set_back, without_put}
-use Rattle.json_patch.proofs.MergeLoops.{ChangesAt, changes_put}
+use Rattle.json_patch.proofs.MergeLoops.{ChangesAt, Passes, changes_put}
 
 pub null_here : (d : Data) (b : Bool) → b ≡ is_some (as_null d) → b ≡ true → d ≡ null
 null_here d b is tested = search rules
@@ -40,7 +41,7 @@ prunes_unnamed now was stays = m.stays
 pub prunes_null : (now : Option Data) (q : Data) → q ≡ null → IsPrunedMember now (Some q) None
 prunes_null now q is was h = rw is m.goes
 
-pub prunes_value : (q w e : Data) → q ≢ null → ((d : Data) → IsFilled d q w → IsMerged d q e) → IsPrunedMember (Some w) (Some q) (Some e)
+prunes_value : (q w e : Data) → q ≢ null → ((d : Data) → IsFilled d q w → IsMerged d q e) → IsPrunedMember (Some w) (Some q) (Some e)
 prunes_value q w e other step was left = absurd (other refl)
 prunes_value q w e other step was (fills o h) = m.merges o (step (unwrap_or was null) h)
 
@@ -51,7 +52,7 @@ prunes_atom q now other atom was (fills o (replaces out)) = m.merges o (m.replac
 prunes_atom q now other atom was (fills o (by_key named held each)) = absurd (atom named)
 
 -- what is filled with an object stands
-pub prunes_absent : (q : Data) → q ≢ null → IsPrunedMember None (Some q) None
+prunes_absent : (q : Data) → q ≢ null → IsPrunedMember None (Some q) None
 prunes_absent q other was left = absurd (other refl)
 
 pub prunes_found : (t : List ℕ) (es : List Entry) (d : Value) (q e : Data) → Some d ≡ lookup (is_named t) es → q ≢ null → ((x : Data) → IsFilled x q (view d) → IsMerged x q e)
@@ -75,23 +76,12 @@ merged_members : (ps ms ns : Members) → ArePruned ms ps ns → (d : Data) → 
 merged_members ps ms ns h d (replaces other) = absurd (other refl)
 merged_members ps ms ns h d (by_key named held each) = m.by_key refl refl (λ k. h k (get k d) (each k))
 
+pub named_members : (p : Value) (ps : BTreeMap (String Global) Value) → p ≡ Object ps → members_of (view p) ≡ members_view ps.entries
+named_members p ps is = ap members_of (ap view is ∙ view-Object ps)
+
 pub pruned_object : (old new patch : Value) (m n ps : BTreeMap (String Global) Value) → old ≡ Object m → new ≡ Object n → patch ≡ Object ps
-    → (AreMembers (members_view m.entries) → AreMembers (members_view ps.entries) → AreMembers (members_view n.entries) × ArePruned (members_view m.entries) (members_view ps.entries) (members_view n.entries))
-    → IsDocument (view old) → IsDocument (view patch) → IsDocument (view new) × ((d : Data) → IsFilled d (view patch) (view old) → IsMerged d (view patch) (view new))
-pruned_object old new patch m n ps is after named h = search (rules, view-Object, merged_members)
-
-pub merged_object : (old new patch : Value) (m n ps : BTreeMap (String Global) Value) (ws : Members) → old ≡ Object m → new ≡ Object n → patch ≡ Object ps
-    → AreFilled (members_view m.entries) (members_view ps.entries) ws → ArePruned ws (members_view ps.entries) (members_view n.entries) → IsMerged (view old) (view patch) (view new)
-merged_object old new patch m n ps ws is after named filled pruned = rw (is, after, named, view-Object m, view-Object n, view-Object ps) (merged_members (members_view ps.entries) ws (members_view n.entries) pruned (object (members_view m.entries)) (by_key refl refl filled))
-
-pub same_object : (old new : Value) (m n : BTreeMap (String Global) Value) → old ≡ Object m → new ≡ Object n → members_view n.entries ≡ members_view m.entries → view new ≡ view old
-same_object old new m n is after same = search (rules, view-Object)
-
-pub object_members : (d : Value) (m : BTreeMap (String Global) Value) → d ≡ Object m → IsDocument (view d) → AreMembers (members_view m.entries)
-object_members d m is h = subst IsDocument (ap view is ∙ view-Object m) h
-
-pub members_object : (d : Value) (m : BTreeMap (String Global) Value) → d ≡ Object m → AreMembers (members_view m.entries) → IsDocument (view d)
-members_object d m is h = subst IsDocument (sym (ap view is ∙ view-Object m)) h
+    → (AreMembers (members_view m.entries) → IsDocument (view patch) → Passes IsPrunedMember (members_view m.entries) (members_of (view patch)) (members_view n.entries) no_members) → Prunes (view old) (view patch) (view new)
+pruned_object old new patch m n ps is after named = rw (is, after, named, view-Object m, view-Object n, view-Object ps) (λ h hm hp. let f = h hm hp in (f.document, merged_members (members_view ps.entries) (members_view m.entries) (members_view n.entries) (λ k. f.passed k refl)))
 
 -- ---- taken back
 
@@ -155,22 +145,18 @@ pub filled_whole : (target patch dest former : Value) → (sight_of (view patch)
     → IsFilled (view target) (view patch) (view dest) × IsDocument (view dest) × (former_value (Replaced former) (Some (view dest)) ≡ Some (view target))
 filled_whole target patch dest former other is was hp = (subst (IsFilled (view target) (view patch)) (sym is) (filled_itself (view patch) (view target) other), subst IsDocument (sym is) hp, rw was (search (rules, of_formers)))
 
-pub filled_object : (log : Vec (Bor (List ℕ) × Former) Global) (old new patch : Value) (m n ps : BTreeMap (String Global) Value) → old ≡ Object m → new ≡ Object n → patch ≡ Object ps
-    → (AreMembers (members_view m.entries) → AreMembers (members_view ps.entries)
-    → AreFilled (members_view m.entries) (members_view ps.entries) (members_view n.entries) × AreMembers (members_view n.entries) × (members_before log.items (members_view n.entries) ≡ members_view m.entries))
-    → IsDocument (view old) → IsDocument (view patch) → IsFilled (view old) (view patch) (view new) × IsDocument (view new) × (former_value (Filled log) (Some (view new)) ≡ Some (view old))
-filled_object log old new patch m n ps is after named h hd hp =
-    let r = h (subst IsDocument (ap view is ∙ view-Object m) hd) (subst IsDocument (ap view named ∙ view-Object ps) hp) in
-    let f : IsFilled (view old) (view patch) (view new) = rw (is, after, named, view-Object m, view-Object n, view-Object ps) (by_key refl refl r.0) in
-    (f, subst IsDocument (sym (ap view after ∙ view-Object n)) r.1, restored_object log new old n m after is (sym r.2))
+pub of_objects : (r : Result Former AllocError) (old new patch : Value) (m n ps : BTreeMap (String Global) Value) → old ≡ Object m → new ≡ Object n → patch ≡ Object ps
+    → Fills r (object (members_view m.entries)) (object (members_view ps.entries)) (object (members_view n.entries)) → Fills r (view old) (view patch) (view new)
+of_objects r old new patch m n ps is after named h = rw (is, after, named, view-Object m, view-Object n, view-Object ps) h
 
 pub fills_found : (r : Result Former AllocError) (t : List ℕ) (es new : List Entry) (d w : Value) (q : Data) → AreInOrder es → Some d ≡ lookup (is_named t) es → new ≡ set_value (is_named t) es w
-    → AreMembers (members_view es) → (IsDocument (view d) → Fills r (view d) q (view w)) → FillsAt r t (members_view es) q (members_view new)
-fills_found r t es new d w q order found is h step = search (rules, found_at, found_document, members_view-set_value, unwrap_or, members_view-set_same)
+    → Fills r (view d) q (view w) → FillsAt r t (members_view es) q (members_view new)
+fills_found (Ok former) t es new d w q order found is step = λ h hq. let f = step (found_document t es d found h) hq in search (rules, found_at, members_view-set_value, unwrap_or)
+fills_found (Err e) t es new d w q order found is step = λ h hq. let f = step (found_document t es d found h) hq in search (rules, found_at, members_view-set_value, members_view-set_same)
 
-pub fills_missing : (t : List ℕ) (es new : List Entry) (k : String Global) (w : Value) (q : Data) → None ≡ lookup (is_named t) es → string_bytes k ≡ t → new ≡ insert_entry string_cmp es k w → view w ≡ q → IsDocument q
-    → (x : Data) × (members_view new ≡ put t x (members_view es)) × IsFilled (unwrap_or (get_member t (members_view es)) null) q x × IsDocument x × (former_value Nothing (Some x) ≡ get_member t (members_view es))
-fills_missing t es new k w q found named is same hq =
+pub fills_missing : (t : List ℕ) (es new : List Entry) (k : String Global) (w : Value) (q : Data) → None ≡ lookup (is_named t) es → string_bytes k ≡ t → new ≡ insert_entry string_cmp es k w → view w ≡ q
+    → FillsAt (Ok Nothing) t (members_view es) q (members_view new)
+fills_missing t es new k w q found named is same h hq =
     let here = found_at t es None found in (
       q,
       ap members_view is ∙ members_view-insert_entry es k w ∙ ap (λ x. put x (view w) (members_view es)) named ∙ ap (λ d. put t d (members_view es)) same,
@@ -187,19 +173,20 @@ pub logs_nothing : (r : Result ⊤ AllocError) (t : List ℕ) (was now : List (B
 logs_nothing (Ok done) t was now P bad is h = search rules
 logs_nothing (Err e) t was now P bad is h = (is, h e)
 
-fills_step : (t : List ℕ) (ms ns : Members) (q : Data) (former : Former) → q ≢ null → AreMembers ms → FillsAt (Ok former) t ms q ns
+back_next : (was : List (Bor (List ℕ) × Former)) (name : Bor (List ℕ)) (former : Former) (w : Data) (ms : Members) → AreMembers ms → IsDocument w → former_value former (Some w) ≡ get_member name.now ms
+    → members_before (was ++ (name, former) ∷ []) (put name.now w ms) ≡ members_before was ms
+back_next was name former w ms h hw is = search (rules, before_last, get_member-put, back_at)
+
+-- one more change
+pub fills_back : (r : Result ⊤ AllocError) (t : List ℕ) (was now : List (Bor (List ℕ) × Former)) (ms ns : Members) (q : Data) → Logs r t was now (λ x. FillsAt x t ms q ns) → AreMembers ms → IsDocument q
+    → members_before now ns ≡ members_before was ms
+fills_back (Ok done) t was now ms ns q h hm hq = let f = h.4 hm hq in rw (h.3, f.1, sym h.2) (back_next was h.0 h.1 f.0 ms hm f.3 (f.4 ∙ ap (λ k. get_member k ms) (sym h.2)))
+fills_back (Err e) t was now ms ns q h hm hq = search rules
+
+pub fills_step : (r : Result ⊤ AllocError) (t : List ℕ) (was now : List (Bor (List ℕ) × Former)) (ms ns : Members) (q : Data) → Logs r t was now (λ x. FillsAt x t ms q ns) → AreMembers ms → IsDocument q → IsOk r → q ≢ null
     → (o : Option Data) × ChangesAt t ms ns o × IsFilledMember (get_member t ms) (Some q) o
-fills_step t ms ns q former other h r = (Some r.0, changes_put t r.0 ms ns h r.3 r.1, fills other r.2)
-
-fills_back : (was : List (Bor (List ℕ) × Former)) (name : Bor (List ℕ)) (ms ns : Members) (q : Data) (former : Former) → AreMembers ms → FillsAt (Ok former) name.now ms q ns
-    → members_before (was ++ (name, former) ∷ []) ns ≡ members_before was ms
-fills_back was name ms ns q former h r = search (rules, before_last, get_member-put, back_at)
-
-pub fills_next : (r : Result ⊤ AllocError) (t : List ℕ) (was now : List (Bor (List ℕ) × Former)) (ms ns : Members) (q : Data) → IsOk r → q ≢ null → AreMembers ms → Logs r t was now (λ x. FillsAt x t ms q ns)
-    → ((o : Option Data) × ChangesAt t ms ns o × IsFilledMember (get_member t ms) (Some q) o) × (members_before now ns ≡ members_before was ms)
-fills_next (Err e) t was now ms ns q ok other hm h = search rules
-fills_next (Ok done) t was now ms ns q ok other hm h =
-    (fills_step t ms ns q h.1 other hm h.4, ap (λ l. members_before l ns) h.3 ∙ fills_back was h.0 ms ns q h.1 hm (subst (λ k. FillsAt (Ok h.1) k ms q ns) (sym h.2) h.4))
+fills_step (Ok done) t was now ms ns q h hm hq ok other = let f = h.4 hm hq in (Some f.0, changes_put t f.0 ms ns hm f.3 f.1, fills other f.2)
+fills_step (Err e) t was now ms ns q h hm hq ok other = search rules
 
 -- ---- a log ends
 

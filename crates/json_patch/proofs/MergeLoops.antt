@@ -36,9 +36,6 @@ pub record Passes (M : Option Data → Option Data → Option Data → Type 0) (
   pub passed : (k : List ℕ) → get_member k left ≡ None → M (get_member k start) (get_member k all) (get_member k now)
 
 module _ (M : Option Data → Option Data → Option Data → Type 0) where
-  pub begins : ((was : Option Data) → M was None was) → (start all : Members) → AreMembers start → AreMembers all → Passes M start all start all
-  begins unnamed start all h hp = search rules
-
   module _ (start all now new ps : Members) (l : List ℕ) (q : Data) (o : Option Data) (h : Passes M start all now (member l q ps)) (changes : ChangesAt l now new o) (here : M (get_member l now) (Some q) o) where
     apart : (k : List ℕ) (p : Data) → get_member k ps ≡ Some p → k ≢ l
     apart k p is same = let e : get_member k ps ≡ None = ap (λ x. get_member x ps) same ∙ below_absent l ps h.members.0 in cc
@@ -58,15 +55,14 @@ module _ (M : Option Data → Option Data → Option Data → Type 0) where
       passed = λ k is. ⊎_elim (λ (same : k ≡ l). subst (λ x. M (get_member x start) (get_member x all) (get_member x new)) (sym same) at_l) (at_other k is) (name_cases k l);
     }
 
-pub starts : (M : Option Data → Option Data → Option Data → Type 0) → ((was : Option Data) → M was None was) → (start : Members) (all items : List Entry) → items ≡ all
-    → AreMembers start → AreMembers (members_view all) → Passes M start (members_view all) start (members_view items)
-starts M unnamed start all items is h hp = subst (λ es. Passes M start (members_view all) start (members_view es)) (sym is) (begins M unnamed start (members_view all) h hp)
+pub starts : {M : Option Data → Option Data → Option Data → Type 0} → ((was : Option Data) → M was None was) → (start all left : Members) → left ≡ all → AreMembers start → AreMembers all → Passes M start all start left
+starts unnamed start all left is h hp = rw is (search rules)
 
 -- the entry e is next, and t is its name
-pub steps_at : (M : Option Data → Option Data → Option Data → Type 0) (start all now new : Members) (items left : List Entry) (e : Entry) (t : List ℕ)
+pub steps_at : {M : Option Data → Option Data → Option Data → Type 0} {start all now new : Members} {items left : List Entry} (e : Entry) (t : List ℕ)
     → items ≡ e ∷ left → t ≡ string_bytes e.0 → Passes M start all now (members_view items)
     → (IsDocument (view e.1) → (o : Option Data) × ChangesAt t now new o × M (get_member t now) (Some (view e.1)) o) → Passes M start all new (members_view left)
-steps_at M start all now new items left e t is_next named before step = search (rules, steps M start all now new (members_view left) t (view e.1), steps)
+steps_at {M} {start} {all} {now} {new} {items} {left} e t is_next named before step = search (rules, steps M start all now new (members_view left) t (view e.1), steps)
 
 pub next_document : (items left : List Entry) (e : Entry) → items ≡ e ∷ left → AreMembers (members_view items) → IsDocument (view e.1)
 next_document items left e is_next h = (subst (λ es. AreMembers (members_view es)) is_next h).1

@@ -9,8 +9,8 @@ use Rattle.serde_json.specs.View.{view}
 use Rattle.json_patch.specs.ChangeComputed.{without}
 use Rattle.json_patch.specs.Document.{IsDocument, AreMembers, sight_of}
 use Rattle.json_patch.specs.Sight.{Sight}
-use Rattle.json_patch.specs.Merged.{IsMergedMember}
-use Rattle.json_patch.specs.declared.merging.Former.{Former, fold-Former}
+use Rattle.json_patch.specs.Merged.{IsMerged, IsMergedMember}
+use Rattle.json_patch.specs.declared.merging.Former.{Former, Filled, fold-Former}
 use Rattle.json_patch.specs.declared.merging.Former.TheOpen.{Former-F}
 
 mutual
@@ -56,18 +56,18 @@ AreFilled ms ps ns = (k : List ℕ) → IsFilledMember (get_member k ms) (get_me
 
 -- a document is filled, and what was found leads back; or it is as it was
 abbrev pub Fills : Result Former AllocError → Data → Data → Data → Type 0
-Fills (Ok former) d p w = IsFilled d p w × IsDocument w × (former_value former (Some w) ≡ Some d)
-Fills (Err e) d p w = w ≡ d
+Fills (Ok former) d p w = IsDocument d → IsDocument p → IsFilled d p w × IsDocument w × (former_value former (Some w) ≡ Some d)
+Fills (Err e) d p w = IsDocument d → IsDocument p → w ≡ d
 
 -- the same of members
 abbrev pub FillsAll : Result (Vec (Bor (List ℕ) × Former) Global) AllocError → Members → Members → Members → Type 0
-FillsAll (Ok log) ms ps ns = AreFilled ms ps ns × AreMembers ns × (members_before log.items ns ≡ ms)
-FillsAll (Err e) ms ps ns = ns ≡ ms
+FillsAll (Ok log) ms ps ns = Fills (Ok (Filled log)) (object ms) (object ps) (object ns)
+FillsAll (Err e) ms ps ns = Fills (Err e) (object ms) (object ps) (object ns)
 
 -- and of the member at the name t
 abbrev pub FillsAt : Result Former AllocError → List ℕ → Members → Data → Members → Type 0
-FillsAt (Ok former) t ms q ns = (w : Data) × (ns ≡ put t w ms) × IsFilled (unwrap_or (get_member t ms) null) q w × IsDocument w × (former_value former (Some w) ≡ get_member t ms)
-FillsAt (Err e) t ms q ns = ns ≡ ms
+FillsAt (Ok former) t ms q ns = AreMembers ms → IsDocument q → (w : Data) × (ns ≡ put t w ms) × IsFilled (unwrap_or (get_member t ms) null) q w × IsDocument w × (former_value former (Some w) ≡ get_member t ms)
+FillsAt (Err e) t ms q ns = AreMembers ms → IsDocument q → ns ≡ ms
 
 -- and the log has what was found, under this name; or it is as it was
 abbrev pub Logs : Result ⊤ AllocError → List ℕ → List (Bor (List ℕ) × Former) → List (Bor (List ℕ) × Former) → (Result Former AllocError → Type 0) → Type 0
@@ -80,3 +80,7 @@ IsPrunedMember now named end = (was : Option Data) → IsFilledMember was named 
 
 abbrev pub ArePruned : Members → Members → Members → Type 0
 ArePruned ms ps ns = (k : List ℕ) → IsPrunedMember (get_member k ms) (get_member k ps) (get_member k ns)
+
+-- what is filled is pruned, whatever it was before
+abbrev pub Prunes : Data → Data → Data → Type 0
+Prunes w p e = IsDocument w → IsDocument p → IsDocument e × ((d : Data) → IsFilled d p w → IsMerged d p e)

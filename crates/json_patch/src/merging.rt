@@ -1,10 +1,8 @@
 //! JSON Merge Patch (RFC 7396, section 2).
 
-ghost use Rattle.json_patch.specs.Document.{AreMembers, IsDocument};
-ghost use Rattle.json_patch.specs.Filled.{AreFilled, ArePruned, Fills, FillsAll, FillsAt, IsFilled, Logs, former_value, members_before, with_member};
+ghost use Rattle.json_patch.specs.Document.{IsDocument};
+ghost use Rattle.json_patch.specs.Filled.{Fills, FillsAll, FillsAt, Logs, Prunes, former_value, members_before, with_member};
 ghost use Rattle.json_patch.specs.Merged.{IsMerged};
-ghost use Rattle.json_patch.specs.declared.merging.Former.{Filled};
-ghost use Rattle.serde_json.specs.Data.{Data};
 ghost use Rattle.serde_json.specs.Find.{get_member};
 ghost use Rattle.serde_json.specs.View.{view, members_view};
 ghost use Rattle.std.specs.Prelude.{◌≡◌, OnOk, OnErr, Some, string_bytes};
@@ -43,7 +41,7 @@ pub fn merge(alloc: Global, doc: &mut Value, patch: &Value) -> Result<(), AllocE
     if let Value::Object(changes) = patch {
         if let Value::Object(members) = doc {
             drop(fill(alloc, changes, members)?);
-            prune_members(changes, members);
+            prune(patch, doc);
             return Ok(());
         }
     }
@@ -59,43 +57,17 @@ fn fill<'a>(
     changes: &'a Map<String, Value>,
     members: &mut Map<String, Value>,
 ) -> Result<Vec<(&'a str, Former<'a>)>, AllocError>
-    ensures { AreMembers (members_view members.old.entries)
-        → AreMembers (members_view changes.now.entries)
-        → FillsAll result (members_view members.old.entries) (members_view changes.now.entries)
+    ensures { FillsAll result (members_view members.old.entries) (members_view changes.now.entries)
         (members_view members.new.entries) }
 {
     let mut log = Vec::with_capacity(alloc, changes.len())?;
-    if fill_each(alloc, changes, members, &mut log).is_err() {
-        restore(log, members);
-        return Err(AllocError);
-    }
-    Ok(log)
-}
-
-/// Fills the members up to the first for which memory is short.
-#[cycle(filling)]
-fn fill_each<'a>(
-    alloc: Global,
-    changes: &'a Map<String, Value>,
-    members: &mut Map<String, Value>,
-    log: &mut Vec<(&'a str, Former<'a>)>,
-) -> Result<(), AllocError>
-    ensures filled { OnOk result (AreMembers (members_view members.old.entries)
-        → AreMembers (members_view changes.now.entries)
-        → AreFilled (members_view members.old.entries) (members_view changes.now.entries)
-        (members_view members.new.entries)) }
-    ensures back { AreMembers (members_view members.old.entries)
-        → AreMembers (members_view changes.now.entries)
-        → AreMembers (members_view members.new.entries)
-        × (members_before log.new.items (members_view members.new.entries)
-        ≡ members_before log.old.items (members_view members.old.entries)) }
-{
     for (name, change) in changes {
-        if !change.is_null() {
-            fill_member(alloc, name, change, members, log)?;
+        if !change.is_null() && fill_member(alloc, name, change, members, &mut log).is_err() {
+            restore(log, members);
+            return Err(AllocError);
         }
     }
-    Ok(())
+    Ok(log)
 }
 
 /// Makes one change, and records what it found.
@@ -107,8 +79,7 @@ fn fill_member<'a>(
     members: &mut Map<String, Value>,
     log: &mut Vec<(&'a str, Former<'a>)>,
 ) -> Result<(), AllocError>
-    ensures { AreMembers (members_view members.old.entries) → IsDocument (view change.now)
-        → Logs result (string_bytes name.now) log.old.items log.new.items
+    ensures { Logs result (string_bytes name.now) log.old.items log.new.items
         (λ r. FillsAt r (string_bytes name.now) (members_view members.old.entries)
         (view change.now) (members_view members.new.entries)) }
 {
@@ -131,8 +102,7 @@ fn fill_found<'a>(
     member: &mut Value,
     log: &mut Vec<(&'a str, Former<'a>)>,
 ) -> Result<(), AllocError>
-    ensures { IsDocument (view member.old) → IsDocument (view change.now)
-        → Logs result name.now log.old.items log.new.items
+    ensures { Logs result name.now log.old.items log.new.items
         (λ r. Fills r (view member.old) (view change.now) (view member.new)) }
 {
     log.reserve(1)?;
@@ -173,43 +143,24 @@ fn restore_member(name: &str, former: Former<'_>, members: &mut Map<String, Valu
         }
         Former::Filled(log) => {
             if let Some(member) = members.get_mut(name) {
-                restore_in(log, member);
+                if let Value::Object(inner) = member {
+                    restore(log, inner);
+                }
             }
         }
     }
 }
 
-#[cycle(restoring)]
-fn restore_in(log: Vec<(&str, Former<'_>)>, target: &mut Value)
-    ensures { former_value (Filled log.entry) (Some (view target.old)) ≡ Some (view target.new) }
-{
-    if let Value::Object(members) = target {
-        restore(log, members);
-    }
-}
-
 /// Removes what the patch removes.
-#[cycle(pruning)]
 fn prune(patch: &Value, target: &mut Value)
-    ensures { IsDocument (view target.old) → IsDocument (view patch.now)
-        → IsDocument (view target.new) × ((d : Data) → IsFilled d (view patch.now) (view target.old)
-        → IsMerged d (view patch.now) (view target.new)) }
+    ensures { Prunes (view target.old) (view patch.now) (view target.new) }
 {
-    if let Value::Object(changes) = patch {
-        if let Value::Object(members) = target {
-            prune_members(changes, members);
-        }
-    }
-}
-
-#[cycle(pruning)]
-fn prune_members(changes: &Map<String, Value>, members: &mut Map<String, Value>)
-    ensures { AreMembers (members_view members.old.entries)
-        → AreMembers (members_view changes.now.entries)
-        → AreMembers (members_view members.new.entries)
-        × ArePruned (members_view members.old.entries) (members_view changes.now.entries)
-        (members_view members.new.entries) }
-{
+    let Value::Object(changes) = patch else {
+        return;
+    };
+    let Value::Object(members) = target else {
+        return;
+    };
     for (name, change) in changes {
         if change.is_null() {
             drop(members.remove(name.as_str()));

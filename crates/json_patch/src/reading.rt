@@ -38,9 +38,7 @@ fn read_path(alloc: Global, value: &Value) -> Result<PointerBuf, ReadFault>
         → IfUnreadAlone result (RefusesFields names (view value.now)) }
     ensures alone { IfUnreadAlone result (RefusesFields (codes "path" ∷ []) (view value.now)) }
 {
-    if !value.is_object() {
-        return Err(ReadFault::from(ReadKind::NotAnObject));
-    }
+    value.as_object().ok_or(ReadKind::NotAnObject)?;
     let member = value.get("path").ok_or(ReadKind::MissingPath)?;
     let text = member.as_str().ok_or(ReadKind::PathNotText)?;
     let pointer = Pointer::parse(text).map_err(ReadKind::BadPath)?;
@@ -66,9 +64,7 @@ fn read_from_and_path(alloc: Global, value: &Value) -> Result<(PointerBuf, Point
     ensures read { IfOk result (λ r. ReadsFields (view value.now) (move r.0 r.1)) }
     ensures refused { IfUnreadAlone result (RefusesFields from_and_path (view value.now)) }
 {
-    if !value.is_object() {
-        return Err(ReadFault::from(ReadKind::NotAnObject));
-    }
+    value.as_object().ok_or(ReadKind::NotAnObject)?;
     let member = value.get("from").ok_or(ReadKind::MissingFrom)?;
     let text = member.as_str().ok_or(ReadKind::FromNotText)?;
     let from = Pointer::parse(text).map_err(ReadKind::BadFrom)?;
@@ -173,9 +169,7 @@ fn read_name(value: &Value) -> Result<&str, ReadFault>
     ensures read { IfOk result (λ n. get (codes "op") (view value.now) ≡ Some (string n.now)) }
     ensures refused { IfUnreadAlone result (RefusesOperation (view value.now)) }
 {
-    if !value.is_object() {
-        return Err(ReadFault::from(ReadKind::NotAnObject));
-    }
+    value.as_object().ok_or(ReadKind::NotAnObject)?;
     let member = value.get("op").ok_or(ReadKind::MissingOp)?;
     Ok(member.as_str().ok_or(ReadKind::OpNotText)?)
 }
@@ -189,9 +183,7 @@ impl Patch {
         ensures refused { IfUnreadable result (λ e.
             RefusesPatch (view value.now) e.operation e.kind) }
     {
-        let Value::Array(items) = value else {
-            return Err(ReadFault::from(ReadKind::NotAList));
-        };
+        let items = value.as_array().ok_or(ReadKind::NotAList)?;
         let mut operations = Vec::new(alloc);
         for (number, item) in items.iter().enumerate() {
             match PatchOperation::from_value(alloc, item) {

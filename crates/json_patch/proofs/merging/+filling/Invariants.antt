@@ -2,8 +2,8 @@ use Rattle.json_patch.proofs.Common.{◌≡◌, members_view, AreMembers, IsFill
 use Rattle.json_patch.proofs.MergeLoops.{Passes}
 use Rattle.json_patch.proofs.merging.+filling.Given as goal
 
-abbrev pub invariant-fill_each-loop-name : goal.invariant-fill_each-loop-name
-invariant-fill_each-loop-name l =
+abbrev pub invariant-fill-loop-name : goal.invariant-fill-loop-name
+invariant-fill-loop-name l =
     AreMembers (members_view l.initial.members.entries) → AreMembers (members_view l.changes.entries)
     → Passes IsFilledMember (members_view l.initial.members.entries) (members_view l.changes.entries) (members_view l.members.entries) (members_view l.name-iterator)
-    × (members_before l.log.items (members_view l.members.entries) ≡ members_before l.initial.log.items (members_view l.initial.members.entries))
+    × (members_before l.log.items (members_view l.members.entries) ≡ members_view l.initial.members.entries)

@@ -18,17 +18,20 @@ restore_member-returns-in-Some t c = puts_back c.args.name.now c.args.members.no
 pub restore_member-returns-in_default : goal.restore_member-returns-in_default
 restore_member-returns-in_default t c = puts_nothing_back c.args.name.now c.args.members.now.entries _ c.args.former c.in_default.ensures.value (ap (λ m. m.entries) c.get_mut.follows.holds-at-none) (search (rules, c.in-Replaced.is, of_formers))
 
-pub restore_member-restore_in-requires : goal.restore_member-restore_in-requires
-restore_member-restore_in-requires t c =
+pub restore_member-restore-requires : goal.restore_member-restore-requires
+restore_member-restore-requires t c =
     let e : weight c.args.former ≡ suc (weights c.in-Filled.log.items) = search (rules, c.in-Filled.is, of_formers) in
     (omega (arith, e), tt)
 
-pub restore_member-returns-in-Some-get_mut : goal.restore_member-returns-in-Some-get_mut
-restore_member-returns-in-Some-get_mut t c =
-    puts_back c.args.name.now c.args.members.now.entries _ c.args.former c.in-Some-get_mut.member.now c.restore_in.new.target c.get_mut-in-Filled.ensures.ordered c.in-Some-get_mut.ensures.value (c.get_mut-in-Filled.follows.holds c.restore_in.new.target).0 (rw c.in-Filled.is c.restore_in.ensures)
+pub restore_member-returns-in-Object : goal.restore_member-returns-in-Object
+restore_member-returns-in-Object t c =
+    puts_back c.args.name.now c.args.members.now.entries _ c.args.former c.in-Some-get_mut.member.now _ c.get_mut-in-Filled.ensures.ordered c.in-Some-get_mut.ensures.value (c.get_mut-in-Filled.follows.holds _).0
+    (rw c.in-Filled.is (restored_object c.in-Filled.log _ _ _ c.restore.new.members (c.in-Object.is ∙ ap Object (sym c.in-Object.inner-is)) (search (rules, the_lemmas)) c.restore.ensures))
 
 pub restore_member-returns-in_default-get_mut : goal.restore_member-returns-in_default-get_mut
 restore_member-returns-in_default-get_mut t c = puts_nothing_back c.args.name.now c.args.members.now.entries _ c.args.former c.in_default-get_mut.ensures.value (ap (λ m. m.entries) c.get_mut-in-Filled.follows.holds-at-none) (search (rules, c.in-Filled.is, of_formers))
 
-pub restore_in-returns-in-Object : goal.restore_in-returns-in-Object
-restore_in-returns-in-Object t c = restored_object c.args.log _ _ _ c.restore.new.members (c.in-Object.is ∙ ap Object (sym c.in-Object.members-is)) (search (rules, the_lemmas)) c.restore.ensures
+pub restore_member-returns-in_default-member : goal.restore_member-returns-in_default-member
+restore_member-returns-in_default-member t c =
+    puts_back c.args.name.now c.args.members.now.entries _ c.args.former c.in-Some-get_mut.member.now _ c.get_mut-in-Filled.ensures.ordered c.in-Some-get_mut.ensures.value (c.get_mut-in-Filled.follows.holds _).0
+    (rw c.in-Filled.is (search (rules, the_lemmas, of_formers, c.in_default-member.not-Object)))

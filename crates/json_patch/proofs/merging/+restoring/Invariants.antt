@@ -1,4 +1,4 @@
-use Rattle.json_patch.proofs.Common.{◌≡◌, ◌≤◌, ◌*◌, ◌+◌, members_view, members_before}
+use Rattle.json_patch.proofs.Common.{◌≡◌, ◌≤◌, ◌*◌, members_view, members_before}
 use Rattle.json_patch.proofs.MergeFills.{weight, weights}
 use Rattle.json_patch.proofs.merging.+restoring.Given as goal
 
@@ -16,6 +16,3 @@ decreases-restore l = 2 * weights l.log.items
 
 abbrev pub decreases-restore_member : goal.decreases-restore_member
 decreases-restore_member l = 2 * weight l.former
-
-abbrev pub decreases-restore_in : goal.decreases-restore_in
-decreases-restore_in l = 2 * weights l.log.items + 1

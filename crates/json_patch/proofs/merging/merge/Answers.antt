@@ -1,23 +1,20 @@
-use Rattle.json_patch.proofs.Common.{rules, refl, sym, ap, ◌∙◌, view, members_view, Object, the_lemmas}
-use Rattle.json_patch.proofs.MergeFills.{same_object, merged_object, object_members, members_object, other_value, filled_whole}
+use Rattle.json_patch.proofs.Common.{rules, refl, sym, ap, ◌∙◌, Object, the_lemmas, Ok, Err, IsDocument, subst}
+use Rattle.json_patch.specs.declared.merging.Former.{Filled}
+use Rattle.json_patch.proofs.MergeFills.{of_objects, other_value, filled_whole}
 use Rattle.json_patch.proofs.merging.merge.Goals.{in-Object+in_default-doc, in_default}
 use Rattle.json_patch.proofs.merging.merge.Goals as goal
 
 pub returns-in_err-fill-clause-unchanged : goal.returns-in_err-fill-clause-unchanged
-returns-in_err-fill-clause-unchanged c = search (rules, the_lemmas, same_object, object_members)
+returns-in_err-fill-clause-unchanged c = search (rules, the_lemmas, of_objects (Err c.in_err-fill.field-0.0))
 
 pub returns-in_err-fill-clause-document : goal.returns-in_err-fill-clause-document
-returns-in_err-fill-clause-document c = search (rules, the_lemmas, object_members, members_object)
+returns-in_err-fill-clause-document c = subst IsDocument (sym (of_objects (Err c.in_err-fill.field-0.0) _ _ _ _ c.fill.new.members c.in-Object.changes (c.in-Object-doc.is ∙ ap Object (sym c.in-Object-doc.members-is)) (search (rules, the_lemmas)) c.in-Object.is c.in_err-fill.ensures c.requires.document c.requires.whole)) c.requires.document
 
-pub returns-in-Object-doc-clause-merged : goal.returns-in-Object-doc-clause-merged
-returns-in-Object-doc-clause-merged c =
-    let old = c.in-Object-doc.is ∙ ap Object (sym c.in-Object-doc.members-is) in
-    let hp = object_members _ _ c.in-Object.is c.requires.whole in
-    let r = c.in_ok-fill.ensures (object_members _ _ old c.requires.document) hp in
-    merged_object _ _ _ _ c.prune_members.new.members c.in-Object.changes (members_view c.fill.new.members.entries) old (search (rules, the_lemmas)) c.in-Object.is r.0 (c.prune_members.ensures r.1 hp).1
-
-pub returns-in-Object-doc-clause-document : goal.returns-in-Object-doc-clause-document
-returns-in-Object-doc-clause-document c = search (rules, the_lemmas, object_members, members_object)
+pub returns-in-Object-doc : goal.returns-in-Object-doc
+returns-in-Object-doc c =
+    let r = of_objects (Ok (Filled c.in_ok-fill.field-0)) _ _ _ _ c.fill.new.members c.in-Object.changes (c.in-Object-doc.is ∙ ap Object (sym c.in-Object-doc.members-is)) refl c.in-Object.is c.in_ok-fill.ensures c.requires.document c.requires.whole in
+    let e = c.prune.ensures (search rules) c.requires.whole in
+    record { merged = e.1 _ (search rules); unchanged = search rules; document = e.0 }
 
 pub returns-clause-merged : goal.returns-clause-merged
 returns-clause-merged c =
@@ -27,4 +24,4 @@ returns-clause-merged c =
       | in_default w ↦ λ named. absurd (other_value c.args.patch.now w.in_default.not-Object named)
     ])
     c.in_ok-doc.ensures.cases refl c.requires.whole in
-    (c.prune.ensures r.1 c.requires.whole).1 _ r.0
+    (c.prune-2.ensures r.1 c.requires.whole).1 _ r.0

@@ -1,4 +1,4 @@
-use Rattle.json_patch.proofs.Common.{rules}
+use Rattle.json_patch.proofs.Common.{rules, view, IsObject}
 use Rattle.json_patch.proofs.PatchFaults.{past_from}
 use Rattle.json_patch.proofs.reading.read_path.Goals as goal
 
@@ -9,4 +9,4 @@ pub returns-in_err-text : goal.returns-in_err-text
 returns-in_err-text c = search (rules, past_from)
 
 pub returns-in_err-pointer : goal.returns-in_err-pointer
-returns-in_err-pointer c = search (rules, past_from)
+returns-in_err-pointer c = let object : IsObject (view c.args.value.now) = search rules in search (rules, past_from)

@@ -11,8 +11,5 @@ loop-number-preserved c = search (rules, item_read)
 pub returns-clause-whole : goal.returns-clause-whole
 returns-clause-whole c = search (rules, reads_whole _ _ c.loop-number.invariant)
 
-pub returns-in_default : goal.returns-in_default
-returns-in_default c = search (rules, the_lemmas)
-
 pub returns-clause-read : goal.returns-clause-read
 returns-clause-read c = search (rules, the_lemmas, take_all)

@@ -1,0 +1,9 @@
+use Rattle.json_patch.proofs.Common.{view, members_view, AreMembers, IsDocument, IsPrunedMember}
+use Rattle.json_patch.specs.MergedComputed.{members_of}
+use Rattle.json_patch.proofs.MergeLoops.{Passes}
+use Rattle.json_patch.proofs.merging.+prune.Given as goal
+
+abbrev pub invariant-loop-name : goal.invariant-loop-name
+invariant-loop-name l =
+    AreMembers (members_view l.initial.members.entries) → IsDocument (view l.patch)
+    → Passes IsPrunedMember (members_view l.initial.members.entries) (members_of (view l.patch)) (members_view l.members.entries) (members_view l.name-iterator)
