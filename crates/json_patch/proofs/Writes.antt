@@ -1,5 +1,5 @@
 -- What a write to a list or a map of values leaves of its view.
-use Rattle.json_patch.proofs.Common.{◌≡◌, ℕ, suc, ◌<◌, ◌≤◌, List, [], ◌∷◌, length, set, Option, Some, Bool, slice_index_or, Ordering, Less, String, Global, cond, is_eq, string_bytes, nat_cmp, refl, ap, ◌∙◌, arith, rules, slice_cmp, lookup, set_value, remove_entry, keys_of, Data, item, Members, member, put, view, items_view, members_view, Value, Entry, members_view-insert_entry, view-lookup, IsBelowMembers, insert_item, remove_item, set_item, without, put_if}
+use Rattle.json_patch.proofs.Common.{◌≡◌, ℕ, suc, ◌<◌, ◌≤◌, List, [], ◌∷◌, length, set, Option, Some, Bool, slice_index_or, Ordering, Less, String, Global, cond, is_eq, string_bytes, nat_cmp, refl, ap, arith, rules, slice_cmp, lookup, set_value, remove_entry, keys_of, item, Members, member, put, view, items_view, members_view, Value, Entry, members_view-insert_entry, view-lookup, IsBelowMembers, insert_item, remove_item, set_item, without}
 use Rattle.std.specs.List.{insert, remove, AllByRecursion}
 use Rattle.std.specs.List.Sorted.{IsStrictlySortedBy}
 use Rattle.std.specs.BTreeMap.{insert_entry, is_at}
@@ -69,7 +69,5 @@ pub items_view-set_same : (vs : List Value) (i : ℕ) (w v : Value) → v ≡ sl
 items_view-set_same (u ∷ vs) (suc i) w v is same h = ap (item (view u)) (items_view-set_same vs i w v is same (omega arith))
 items_view-set_same vs i w v is same h = search rules
 
--- a value that is put in where there is one
-pub inserts_if : (name : List ℕ) (o : Option Data) (es new : List Entry) (k : String Global) (v : Value) → string_bytes k ≡ name → Some (view v) ≡ o → new ≡ insert_entry string_cmp es k v
-    → members_view new ≡ put_if name o (members_view es)
-inserts_if name o es new k v named is wrote = ap members_view wrote ∙ members_view-insert_entry es k v ∙ rw (named, ← is) refl
+pub members_view_inserted : (es : List Entry) (k : String Global) (v : Value) → members_view (insert_entry string_cmp es k v) ≡ put (string_bytes k) (view v) (members_view es)
+members_view_inserted = members_view-insert_entry
