@@ -12,12 +12,18 @@ use serde_json::{Map, Number, Value};
 
 /// Whether each number in the value is held as an unsigned or a signed one of 64 bits. A number
 /// with a fraction or an exponent, minus zero and one of more bits are held as floats.
-#[tactic(auto, using(crate::proofs::Floats::whole_says))]
+#[cycle(whole)]
+#[tactic(auto, using(crate::proofs::Floats::no_float, serde_json::specs::declared::value::Value::the_lemmas))]
 pub fn is_whole(value: &Value) -> bool
     ensures document { IsTrue result ↔ IsDocument (view value.now) }
     ensures no_float { IsTrue result ↔ (has_float (view value.now) ≡ false) }
 {
-    is_whole_value(value)
+    match value {
+        Value::Number(number) => is_whole_number(number),
+        Value::Array(items) => is_whole_list(items),
+        Value::Object(members) => is_whole_map(members),
+        _ => true,
+    }
 }
 
 impl Patch {
@@ -43,25 +49,12 @@ impl PatchOperation {
 }
 
 #[cycle(whole)]
-fn is_whole_value(value: &Value) -> bool
-    ensures no_float { result ≡ not (has_float (view value.now)) }
-    ensures document { IsTrue result → IsDocument (view value.now) }
-{
-    match value {
-        Value::Number(number) => is_whole_number(number),
-        Value::Array(items) => is_whole_list(items),
-        Value::Object(members) => is_whole_map(members),
-        _ => true,
-    }
-}
-
-#[cycle(whole)]
 fn is_whole_list(items: &Vec<Value>) -> bool
     ensures no_float { result ≡ not (items_have_float (items_view items.now.items)) }
     ensures documents { IsTrue result → AreDocuments (items_view items.now.items) }
 {
     for item in items {
-        if !is_whole_value(item) {
+        if !is_whole(item) {
             return false;
         }
     }
@@ -74,7 +67,7 @@ fn is_whole_map(members: &Map<String, Value>) -> bool
     ensures members { IsTrue result → AreMembers (members_view members.now.entries) }
 {
     for (_name, value) in members.iter() {
-        if !is_whole_value(value) {
+        if !is_whole(value) {
             return false;
         }
     }
