@@ -1,14 +1,13 @@
 //! The test that all numbers of a value are whole, or of the values in operations.
 
 ghost use Rattle.std.specs.Prelude.{◌≡◌, ◌↔◌, IsTrue, false, not};
-ghost use Rattle.serde_json.specs.Find.{is_float};
-ghost use Rattle.serde_json.specs.View.{view, number_view, items_view, members_view};
+ghost use Rattle.serde_json.specs.View.{view, items_view, members_view};
 ghost use Rattle.serde_json.specs.Written.{has_float, items_have_float, members_have_float};
-ghost use Rattle.json_patch.specs.Document.{AreDocuments, AreMembers, IsDocument, IsWhole};
+ghost use Rattle.json_patch.specs.Document.{AreDocuments, AreMembers, IsDocument};
 ghost use Rattle.json_patch.specs.Operation.{AreWhole, IsWholeOp, operation_of, operations};
 
 use crate::operation::{Patch, PatchOperation};
-use serde_json::{Map, Number, Value};
+use serde_json::{Map, Value};
 
 /// Whether each number in the value is held as an unsigned or a signed one of 64 bits. A number
 /// with a fraction or an exponent, minus zero and one of more bits are held as floats.
@@ -19,7 +18,7 @@ pub fn is_whole(value: &Value) -> bool
     ensures no_float { IsTrue result ↔ (has_float (view value.now) ≡ false) }
 {
     match value {
-        Value::Number(number) => is_whole_number(number),
+        Value::Number(number) => number.as_u64().is_some() || number.as_i64().is_some(),
         Value::Array(items) => is_whole_list(items),
         Value::Object(members) => is_whole_map(members),
         _ => true,
@@ -72,11 +71,4 @@ fn is_whole_map(members: &Map<String, Value>) -> bool
         }
     }
     true
-}
-
-fn is_whole_number(number: &Number) -> bool
-    ensures no_float { result ≡ not (is_float (number_view number.now)) }
-    ensures whole { IsTrue result → IsWhole (number_view number.now) }
-{
-    number.as_u64().is_some() || number.as_i64().is_some()
 }
