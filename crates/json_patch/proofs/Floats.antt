@@ -1,13 +1,9 @@
 -- A document has no float, and a value with none that a program holds is a document: what a map's order and a number's
 -- range give.
-use Rattle.json_patch.proofs.Common.{◌≡◌, List, [], ◌∷◌, String, Global, Less, Bool, true, false, not, string_bytes, ◌↔◌, IsTrue, refl, ap, ◌∙◌, subst, rules, keys_of, Num, Data, array, object, Items, no_items, item, Members, no_members, member, is_float, view, members_view, Entry, IsWhole, IsDocument, AreDocuments, IsBelowMembers, AreMembers}
-use Rattle.std.specs.List.{AllByRecursion}
+use Rattle.json_patch.proofs.Common.{◌≡◌, List, ◌∷◌, false, refl, ◌∙◌, subst, rules, Data, array, object, Items, no_items, item, Members, no_members, member, view, members_view, Entry, IsDocument, AreDocuments, AreMembers}
 use Rattle.std.specs.List.Sorted.{IsStrictlySortedBy}
-use Rattle.std.specs.String.{string_cmp}
 use Rattle.serde_json.specs.Written.{has_float, items_have_float, members_have_float}
-
-whole : (n : Num) → IsWhole n → is_float n ≡ false
-whole n h = search rules
+use Rattle.json_patch.proofs.Writes.{AreInOrder, below}
 
 mutual
   pub no_float : (d : Data) → IsDocument d → has_float d ≡ false
@@ -25,23 +21,14 @@ mutual
 
 -- ---- a value that a program holds
 
-below : (k : String Global) (es : List Entry) → AllByRecursion (λ y. string_cmp k y ≡ Less) (keys_of es) → IsBelowMembers (string_bytes k) (members_view es)
-below k [] h = tt
-below k (e ∷ es) h = (h.0, below k es h.1)
+-- what the members that are left tell of all of them
+pub record TellsOfAll (left all : List Entry) : Type 0 where
+  pub order : AreInOrder left
+  pub floats : members_have_float (members_view all) ≡ members_have_float (members_view left)
+  pub members : AreMembers (members_view left) → AreMembers (members_view all)
 
-pub sorted_rest : (e : Entry) (es left : List Entry) → left ≡ e ∷ es → IsStrictlySortedBy string_cmp (keys_of left) → IsStrictlySortedBy string_cmp (keys_of es)
+pub one_less : (e : Entry) (es left all : List Entry) → left ≡ e ∷ es → has_float (view e.1) ≡ false → IsDocument (view e.1) → TellsOfAll left all → TellsOfAll es all
 unfolding IsStrictlySortedBy
-sorted_rest e es left is h = (subst (λ xs. IsStrictlySortedBy string_cmp (keys_of xs)) is h).1
-
-pub members_more : (e : Entry) (es left : List Entry) → left ≡ e ∷ es → IsStrictlySortedBy string_cmp (keys_of left) → IsDocument (view e.1) → AreMembers (members_view es) → AreMembers (members_view left)
-unfolding IsStrictlySortedBy
-members_more e es left is h here later = rw is (below e.0 es (subst (λ xs. IsStrictlySortedBy string_cmp (keys_of xs)) is h).0, here, later)
-
-whole_here : (b c : Bool) → true ≡ not b → c ≡ true → b ≡ false
-whole_here b c h g = search rules
-
-pub float_more : (e : Entry) (es left : List Entry) → left ≡ e ∷ es → true ≡ not (has_float (view e.1)) → members_have_float (members_view left) ≡ members_have_float (members_view es)
-float_more e es left is h = rw (is, whole_here (has_float (view e.1)) true h refl)
-
-pub whole_says : (r : Bool) (d : Data) → r ≡ not (has_float d) → (IsTrue r → IsDocument d) → IsTrue r ↔ IsDocument d
-whole_says r d is here = (here, λ h. is ∙ ap not (no_float d h))
+one_less e es left all is none here tells =
+    let t = subst (λ xs. TellsOfAll xs all) is tells in
+    record { order = t.order.1; floats = t.floats ∙ rw none refl; members = λ later. t.members (below e.0 es t.order.0, here, later) }

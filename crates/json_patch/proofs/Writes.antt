@@ -39,7 +39,7 @@ pub members_view-remove_entry : (name : List ℕ) (es : List Entry) → members_
 members_view-remove_entry name [] = refl
 members_view-remove_entry name (e ∷ es) = removes (slice_cmp nat_cmp name (string_bytes e.0)) e es _ _ (members_view-remove_entry name es)
 
-below : (k : String Global) (es : List Entry) → AllByRecursion (λ y. string_cmp k y ≡ Less) (keys_of es) → IsBelowMembers (string_bytes k) (members_view es)
+pub below : (k : String Global) (es : List Entry) → AllByRecursion (λ y. string_cmp k y ≡ Less) (keys_of es) → IsBelowMembers (string_bytes k) (members_view es)
 below k [] h = tt
 below k (e ∷ es) h = (h.0, below k es h.1)
 

@@ -1,23 +1,28 @@
 //! The test that all numbers of a value are whole, or of the values in operations.
 
 ghost use Rattle.std.specs.Prelude.{◌≡◌, ◌↔◌, IsTrue, false, not};
-ghost use Rattle.serde_json.specs.Find.{is_float};
-ghost use Rattle.serde_json.specs.View.{view, number_view, items_view, members_view};
+ghost use Rattle.serde_json.specs.View.{view, items_view, members_view};
 ghost use Rattle.serde_json.specs.Written.{has_float, items_have_float, members_have_float};
-ghost use Rattle.json_patch.specs.Document.{AreDocuments, AreMembers, IsDocument, IsWhole};
+ghost use Rattle.json_patch.specs.Document.{AreDocuments, AreMembers, IsDocument};
 ghost use Rattle.json_patch.specs.Operation.{AreWhole, IsWholeOp, operation_of, operations};
 
 use crate::operation::{Patch, PatchOperation};
-use serde_json::{Map, Number, Value};
+use serde_json::{Map, Value};
 
 /// Whether each number in the value is held as an unsigned or a signed one of 64 bits. A number
 /// with a fraction or an exponent, minus zero and one of more bits are held as floats.
-#[tactic(auto, using(crate::proofs::Floats::whole_says))]
+#[cycle(whole)]
+#[tactic(auto, using(crate::proofs::Floats::no_float, serde_json::specs::declared::value::Value::the_lemmas))]
 pub fn is_whole(value: &Value) -> bool
     ensures document { IsTrue result ↔ IsDocument (view value.now) }
     ensures no_float { IsTrue result ↔ (has_float (view value.now) ≡ false) }
 {
-    is_whole_value(value)
+    match value {
+        Value::Number(number) => number.as_u64().is_some() || number.as_i64().is_some(),
+        Value::Array(items) => is_whole_list(items),
+        Value::Object(members) => is_whole_map(members),
+        _ => true,
+    }
 }
 
 impl Patch {
@@ -43,25 +48,12 @@ impl PatchOperation {
 }
 
 #[cycle(whole)]
-fn is_whole_value(value: &Value) -> bool
-    ensures no_float { result ≡ not (has_float (view value.now)) }
-    ensures document { IsTrue result → IsDocument (view value.now) }
-{
-    match value {
-        Value::Number(number) => is_whole_number(number),
-        Value::Array(items) => is_whole_list(items),
-        Value::Object(members) => is_whole_map(members),
-        _ => true,
-    }
-}
-
-#[cycle(whole)]
 fn is_whole_list(items: &Vec<Value>) -> bool
     ensures no_float { result ≡ not (items_have_float (items_view items.now.items)) }
     ensures documents { IsTrue result → AreDocuments (items_view items.now.items) }
 {
     for item in items {
-        if !is_whole_value(item) {
+        if !is_whole(item) {
             return false;
         }
     }
@@ -74,16 +66,9 @@ fn is_whole_map(members: &Map<String, Value>) -> bool
     ensures members { IsTrue result → AreMembers (members_view members.now.entries) }
 {
     for (_name, value) in members.iter() {
-        if !is_whole_value(value) {
+        if !is_whole(value) {
             return false;
         }
     }
     true
-}
-
-fn is_whole_number(number: &Number) -> bool
-    ensures no_float { result ≡ not (is_float (number_view number.now)) }
-    ensures whole { IsTrue result → IsWhole (number_view number.now) }
-{
-    number.as_u64().is_some() || number.as_i64().is_some()
 }
