@@ -27,7 +27,7 @@ other_here d b is tested h = search rules
 pub atom_here : (d : Data) (b : Bool) → b ≡ is_some (as_object d) → b ≡ false → sight_of d ≢ Sight.object
 atom_here d b is tested h = search rules
 
-found_at : (t : List ℕ) (es : List Entry) (o : Option Value) → o ≡ lookup (is_named t) es → get_member t (members_view es) ≡ option_map view o
+pub found_at : (t : List ℕ) (es : List Entry) (o : Option Value) → o ≡ lookup (is_named t) es → get_member t (members_view es) ≡ option_map view o
 found_at t es o found = sym (view-lookup t es) ∙ ap (option_map view) (sym found)
 
 pub found_document : (t : List ℕ) (es : List Entry) (d : Value) → Some d ≡ lookup (is_named t) es → AreMembers (members_view es) → IsDocument (view d)
@@ -41,26 +41,20 @@ prunes_unnamed now was stays = m.stays
 pub prunes_null : (now : Option Data) (q : Data) → q ≡ null → IsPrunedMember now (Some q) None
 prunes_null now q is was h = rw is m.goes
 
-prunes_value : (q w e : Data) → q ≢ null → ((d : Data) → IsFilled d q w → IsMerged d q e) → IsPrunedMember (Some w) (Some q) (Some e)
-prunes_value q w e other step was left = absurd (other refl)
-prunes_value q w e other step was (fills o h) = m.merges o (step (unwrap_or was null) h)
-
 -- an atom needs no step
 pub prunes_atom : (q : Data) (now : Option Data) → q ≢ null → sight_of q ≢ Sight.object → IsPrunedMember now (Some q) now
 prunes_atom q now other atom was left = absurd (other refl)
 prunes_atom q now other atom was (fills o (replaces out)) = m.merges o (m.replaces out)
 prunes_atom q now other atom was (fills o (by_key named held each)) = absurd (atom named)
 
+pub prunes_found : (q w e : Data) (now : Option Data) → now ≡ Some w → q ≢ null → ((d : Data) → IsFilled d q w → IsMerged d q e) → IsPrunedMember now (Some q) (Some e)
+prunes_found q w e now is other step was left = absurd (other refl)
+prunes_found q w e now is other step was (fills {w = v} o h) = let same : v ≡ w = cc in m.merges o (step (unwrap_or was null) (subst (IsFilled (unwrap_or was null) q) same h))
+
 -- what is filled with an object stands
-prunes_absent : (q : Data) → q ≢ null → IsPrunedMember None (Some q) None
-prunes_absent q other was left = absurd (other refl)
-
-pub prunes_found : (t : List ℕ) (es : List Entry) (d : Value) (q e : Data) → Some d ≡ lookup (is_named t) es → q ≢ null → ((x : Data) → IsFilled x q (view d) → IsMerged x q e)
-    → IsPrunedMember (get_member t (members_view es)) (Some q) (Some e)
-prunes_found t es d q e found other step = subst (λ o. IsPrunedMember o (Some q) (Some e)) (sym (found_at t es (Some d) found)) (prunes_value q (view d) e other step)
-
-pub prunes_missing : (t : List ℕ) (es : List Entry) (q : Data) → None ≡ lookup (is_named t) es → q ≢ null → IsPrunedMember (get_member t (members_view es)) (Some q) (get_member t (members_view es))
-prunes_missing t es q found other = subst (λ o. IsPrunedMember o (Some q) o) (sym (found_at t es None found)) (prunes_absent q other)
+pub prunes_missing : (q : Data) (now : Option Data) → now ≡ None → q ≢ null → IsPrunedMember now (Some q) now
+prunes_missing q now is other was left = absurd (other refl)
+prunes_missing q now is other was (fills o h) = cc
 
 no_object : (d : Data) → None ≡ as_object d → sight_of d ≢ Sight.object
 no_object d none is = search rules
@@ -173,14 +167,10 @@ pub logs_nothing : (r : Result ⊤ AllocError) (t : List ℕ) (was now : List (B
 logs_nothing (Ok done) t was now P bad is h = search rules
 logs_nothing (Err e) t was now P bad is h = (is, h e)
 
-back_next : (was : List (Bor (List ℕ) × Former)) (name : Bor (List ℕ)) (former : Former) (w : Data) (ms : Members) → AreMembers ms → IsDocument w → former_value former (Some w) ≡ get_member name.now ms
-    → members_before (was ++ (name, former) ∷ []) (put name.now w ms) ≡ members_before was ms
-back_next was name former w ms h hw is = search (rules, before_last, get_member-put, back_at)
-
 -- one more change
 pub fills_back : (r : Result ⊤ AllocError) (t : List ℕ) (was now : List (Bor (List ℕ) × Former)) (ms ns : Members) (q : Data) → Logs r t was now (λ x. FillsAt x t ms q ns) → AreMembers ms → IsDocument q
     → members_before now ns ≡ members_before was ms
-fills_back (Ok done) t was now ms ns q h hm hq = let f = h.4 hm hq in rw (h.3, f.1, sym h.2) (back_next was h.0 h.1 f.0 ms hm f.3 (f.4 ∙ ap (λ k. get_member k ms) (sym h.2)))
+fills_back (Ok done) t was now ms ns q h hm hq = let f = h.4 hm hq in rw (h.3, f.1, sym h.2) (search (rules, before_last, get_member-put, back_at))
 fills_back (Err e) t was now ms ns q h hm hq = search rules
 
 pub fills_step : (r : Result ⊤ AllocError) (t : List ℕ) (was now : List (Bor (List ℕ) × Former)) (ms ns : Members) (q : Data) → Logs r t was now (λ x. FillsAt x t ms q ns) → AreMembers ms → IsDocument q → IsOk r → q ≢ null

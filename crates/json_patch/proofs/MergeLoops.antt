@@ -16,16 +16,13 @@ changes_nothing t now new h is = record { document = subst AreMembers (sym is) h
 pub changes_put : (t : List ℕ) (d : Data) (now new : Members) → AreMembers now → IsDocument d → new ≡ put t d now → ChangesAt t now new (Some d)
 changes_put t d now new h hd is = search (rules, put_members, get_member-put_other, get_member-put)
 
-pub changes_without : (t : List ℕ) (now new : Members) → AreMembers now → new ≡ without t now → ChangesAt t now new None
-changes_without t now new h is = search (rules, without_members, get_without_other, get_without)
-
 pub changes_written : (t : List ℕ) (es new : List Entry) (d w : Value) → AreInOrder es → Some d ≡ lookup (is_named t) es → new ≡ set_value (is_named t) es w → AreMembers (members_view es) → IsDocument (view w)
     → ChangesAt t (members_view es) (members_view new) (Some (view w))
 changes_written t es new d w order found is h hw =
     changes_put t (view w) (members_view es) (members_view new) h hw (ap members_view is ∙ members_view-set_value t es w d order (sym found))
 
 pub changes_removed : (t : List ℕ) (es new : List Entry) → new ≡ remove_entry (is_named t) es → AreMembers (members_view es) → ChangesAt t (members_view es) (members_view new) None
-changes_removed t es new is h = changes_without t (members_view es) (members_view new) h (ap members_view is ∙ members_view-remove_entry t es)
+changes_removed t es new is h = let e : members_view new ≡ without t (members_view es) = ap members_view is ∙ members_view-remove_entry t es in search (rules, without_members, get_without_other, get_without)
 
 -- of all the patch's members some are left: at the names of those, now is as at the start
 pub record Passes (M : Option Data → Option Data → Option Data → Type 0) (start all now left : Members) : Type 0 where
@@ -35,25 +32,24 @@ pub record Passes (M : Option Data → Option Data → Option Data → Type 0) (
   pub kept : (k : List ℕ) (q : Data) → get_member k left ≡ Some q → get_member k now ≡ get_member k start
   pub passed : (k : List ℕ) → get_member k left ≡ None → M (get_member k start) (get_member k all) (get_member k now)
 
-module _ (M : Option Data → Option Data → Option Data → Type 0) where
-  module _ (start all now new ps : Members) (l : List ℕ) (q : Data) (o : Option Data) (h : Passes M start all now (member l q ps)) (changes : ChangesAt l now new o) (here : M (get_member l now) (Some q) o) where
-    apart : (k : List ℕ) (p : Data) → get_member k ps ≡ Some p → k ≢ l
-    apart k p is same = let e : get_member k ps ≡ None = ap (λ x. get_member x ps) same ∙ below_absent l ps h.members.0 in cc
+module _ (M : Option Data → Option Data → Option Data → Type 0) (start all now new ps : Members) (l : List ℕ) (q : Data) (o : Option Data) (h : Passes M start all now (member l q ps)) (changes : ChangesAt l now new o) (here : M (get_member l now) (Some q) o) where
+  apart : (k : List ℕ) (p : Data) → get_member k ps ≡ Some p → k ≢ l
+  apart k p is same = let e : get_member k ps ≡ None = ap (λ x. get_member x ps) same ∙ below_absent l ps h.members.0 in cc
 
-    at_l : M (get_member l start) (get_member l all) (get_member l new)
-    at_l = rw (sym (h.kept l q (found_first l q ps)), h.named l q (found_first l q ps), changes.here) here
+  at_l : M (get_member l start) (get_member l all) (get_member l new)
+  at_l = rw (sym (h.kept l q (found_first l q ps)), h.named l q (found_first l q ps), changes.here) here
 
-    at_other : (k : List ℕ) → get_member k ps ≡ None → k ≢ l → M (get_member k start) (get_member k all) (get_member k new)
-    at_other k is other = subst (M (get_member k start) (get_member k all)) (sym (changes.others k other)) (h.passed k (skips k l q ps other ∙ is))
+  at_other : (k : List ℕ) → get_member k ps ≡ None → k ≢ l → M (get_member k start) (get_member k all) (get_member k new)
+  at_other k is other = subst (M (get_member k start) (get_member k all)) (sym (changes.others k other)) (h.passed k (skips k l q ps other ∙ is))
 
-    pub steps : Passes M start all new ps
-    steps = record {
-      members = h.members.2;
-      document = changes.document;
-      named = λ k p is. h.named k p (skips k l q ps (apart k p is) ∙ is);
-      kept = λ k p is. changes.others k (apart k p is) ∙ h.kept k p (skips k l q ps (apart k p is) ∙ is);
-      passed = λ k is. ⊎_elim (λ (same : k ≡ l). subst (λ x. M (get_member x start) (get_member x all) (get_member x new)) (sym same) at_l) (at_other k is) (name_cases k l);
-    }
+  pub steps : Passes M start all new ps
+  steps = record {
+    members = h.members.2;
+    document = changes.document;
+    named = λ k p is. h.named k p (skips k l q ps (apart k p is) ∙ is);
+    kept = λ k p is. changes.others k (apart k p is) ∙ h.kept k p (skips k l q ps (apart k p is) ∙ is);
+    passed = λ k is. ⊎_elim (λ (same : k ≡ l). subst (λ x. M (get_member x start) (get_member x all) (get_member x new)) (sym same) at_l) (at_other k is) (name_cases k l);
+  }
 
 pub starts : {M : Option Data → Option Data → Option Data → Type 0} → ((was : Option Data) → M was None was) → (start all left : Members) → left ≡ all → AreMembers start → AreMembers all → Passes M start all start left
 starts unnamed start all left is h hp = rw is (search rules)

@@ -1,4 +1,5 @@
-use Rattle.json_patch.proofs.Common.{string_bytes, rules, refl, sym, ap, ◌∙◌, view, Object, the_lemmas, stays, left, by_key, Ok, Err}
+use Rattle.json_patch.proofs.Common.{◌≡◌, ◌≢◌, sight_of, string_bytes, rules, refl, sym, ap, ◌∙◌, view, Object, the_lemmas, stays, left, by_key, Ok, Err}
+use Rattle.json_patch.specs.Sight.{Sight}
 use Rattle.json_patch.specs.declared.merging.Former.{Nothing, Filled, the_lemmas as of_formers}
 use Rattle.json_patch.proofs.MergeLoops.{starts, steps_at, changes_nothing, next_document}
 use Rattle.json_patch.proofs.MergeFills.{null_here, other_here, other_value, filled_whole, of_objects, fills_found, fills_missing, fills_back, fills_step, logs_other, logs_nothing}
@@ -6,30 +7,19 @@ use Rattle.json_patch.proofs.merging.+filling.Goals.{fill-else-not-is_null-via-t
 use Rattle.json_patch.proofs.merging.+filling.Goals as goal
 
 pub fill_found-returns : goal.fill_found-returns
-fill_found-returns t c = (
-  c.args.name,
-  _,
-  refl,
-  search rules,
-  λ hd. filled_whole c.args.member.now c.args.change.now c.replace.new.dest c.replace.result
-      (elim c.match-change.branch [
-        | fill_found-in-Object+in_default-member w ↦ λ named. other_value c.args.member.now w.in_default-member.not-Object
-        | fill_found-in_default w ↦ λ named. absurd (other_value c.args.change.now w.in_default.not-Object named)
-      ])
-      (ap view c.replace.ensures.after ∙ c.in_ok-value.ensures.cases) c.replace.ensures.value,
-)
+fill_found-returns t c =
+    let other : sight_of (view c.args.change.now) ≡ Sight.object → sight_of (view c.args.member.now) ≢ Sight.object = elim c.match-change.branch [
+      | fill_found-in-Object+in_default-member w ↦ λ named. other_value c.args.member.now w.in_default-member.not-Object
+      | fill_found-in_default w ↦ λ named. absurd (other_value c.args.change.now w.in_default.not-Object named)
+    ] in
+    (c.args.name, _, refl, search rules, λ hd. filled_whole c.args.member.now c.args.change.now c.replace.new.dest c.replace.result other (ap view c.replace.ensures.after ∙ c.in_ok-value.ensures.cases) c.replace.ensures.value)
 
 pub fill_found-returns-in_err-within : goal.fill_found-returns-in_err-within
 fill_found-returns-in_err-within t c = logs_nothing _ _ _ _ _ (search rules) (search rules) (λ e. λ hd hp. of_objects (Err e) _ _ _ _ c.fill.new.members c.in-Object.changes (c.in-Object-member.is ∙ ap Object (sym c.in-Object-member.members-is)) (search (rules, the_lemmas)) c.in-Object.is c.in_err-within.ensures hd hp)
 
 pub fill_found-returns-in-Object-member : goal.fill_found-returns-in-Object-member
-fill_found-returns-in-Object-member t c = (
-  c.args.name,
-  _,
-  refl,
-  search rules,
-  λ hd hp. of_objects (Ok (Filled c.in_ok-within.within)) _ _ _ _ c.fill.new.members c.in-Object.changes (c.in-Object-member.is ∙ ap Object (sym c.in-Object-member.members-is)) (search (rules, the_lemmas)) c.in-Object.is c.in_ok-within.ensures hd hp,
-)
+fill_found-returns-in-Object-member t c =
+    (c.args.name, _, refl, search rules, λ hd hp. of_objects (Ok (Filled c.in_ok-within.within)) _ _ _ _ c.fill.new.members c.in-Object.changes (c.in-Object-member.is ∙ ap Object (sym c.in-Object-member.members-is)) (search (rules, the_lemmas)) c.in-Object.is c.in_ok-within.ensures hd hp)
 
 pub fill-loop-name-init : goal.fill-loop-name-init
 fill-loop-name-init t c hs hp = (starts (λ was. stays) _ _ _ (search rules) hs hp, search rules)

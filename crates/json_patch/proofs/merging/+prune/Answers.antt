@@ -1,6 +1,6 @@
 use Rattle.json_patch.proofs.Common.{rules, refl, sym, ap, ◌∙◌, view, members_view, Object, the_lemmas, view-Object}
 use Rattle.json_patch.proofs.MergeLoops.{starts, steps_at, changes_nothing, changes_written, changes_removed}
-use Rattle.json_patch.proofs.MergeFills.{null_here, other_here, atom_here, prunes_atom, named_members, pruned_object, pruned_other, other_value, prunes_unnamed, prunes_null, prunes_found, prunes_missing, found_document}
+use Rattle.json_patch.proofs.MergeFills.{null_here, other_here, atom_here, prunes_atom, named_members, pruned_object, pruned_other, other_value, prunes_unnamed, prunes_null, prunes_found, prunes_missing, found_at, found_document}
 use Rattle.json_patch.proofs.merging.+prune.Goals as goal
 
 pub loop-name-init : goal.loop-name-init
@@ -23,7 +23,7 @@ loop-name-preserved-in-Some-get_mut t c hm hp =
     (λ hq. (let r = c.prune.ensures (found_document name c.loop-name.members.entries c.in-Some-get_mut.member.now c.in-Some-get_mut.ensures.value h.document) hq in (
       _,
       changes_written name c.loop-name.members.entries _ c.in-Some-get_mut.member.now c.prune.new.target c.get_mut.ensures.ordered c.in-Some-get_mut.ensures.value (c.get_mut.follows.holds c.prune.new.target).0 h.document r.0,
-      prunes_found name c.loop-name.members.entries c.in-Some-get_mut.member.now q _ c.in-Some-get_mut.ensures.value (other_here q _ c.is_null.ensures c.if-is_null.false) r.1,
+      prunes_found q _ _ _ (found_at name c.loop-name.members.entries _ c.in-Some-get_mut.ensures.value) (other_here q _ c.is_null.ensures c.if-is_null.false) r.1,
     )))
 
 pub loop-name-preserved-in_default-get_mut : goal.loop-name-preserved-in_default-get_mut
@@ -35,7 +35,7 @@ loop-name-preserved-in_default-get_mut t c hm hp =
     (λ hq. (
       _,
       changes_nothing name _ _ h.document (ap (λ m. members_view m.entries) c.get_mut.follows.holds-at-none),
-      prunes_missing name c.loop-name.members.entries q c.in_default-get_mut.ensures.value (other_here q _ c.is_null.ensures c.if-is_null.false),
+      prunes_missing q _ (found_at name c.loop-name.members.entries _ c.in_default-get_mut.ensures.value) (other_here q _ c.is_null.ensures c.if-is_null.false),
     ))
 
 pub loop-name-preserved : goal.loop-name-preserved
