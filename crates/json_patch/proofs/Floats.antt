@@ -21,14 +21,14 @@ mutual
 
 -- ---- a value that a program holds
 
--- what the members that are left tell of all of them
-pub record TellsOfAll (left all : List Entry) : Type 0 where
+-- what the members that are left tell of a value
+pub record TellsOf (d : Data) (left : List Entry) : Type 0 where
   pub order : AreInOrder left
-  pub floats : members_have_float (members_view all) ≡ members_have_float (members_view left)
-  pub members : AreMembers (members_view left) → AreMembers (members_view all)
+  pub float : has_float d ≡ members_have_float (members_view left)
+  pub document : AreMembers (members_view left) → IsDocument d
 
-pub one_less : (e : Entry) (es left all : List Entry) → left ≡ e ∷ es → has_float (view e.1) ≡ false → IsDocument (view e.1) → TellsOfAll left all → TellsOfAll es all
+pub one_less : (e : Entry) (es left : List Entry) (d : Data) → left ≡ e ∷ es → has_float (view e.1) ≡ false → IsDocument (view e.1) → TellsOf d left → TellsOf d es
 unfolding IsStrictlySortedBy
-one_less e es left all is none here tells =
-    let t = subst (λ xs. TellsOfAll xs all) is tells in
-    record { order = t.order.1; floats = t.floats ∙ rw none refl; members = λ later. t.members (below e.0 es t.order.0, here, later) }
+one_less e es left d is none here tells =
+    let t = subst (TellsOf d) is tells in
+    record { order = t.order.1; float = t.float ∙ rw none refl; document = λ later. t.document (below e.0 es t.order.0, here, later) }

@@ -1,13 +1,13 @@
 //! The test that all numbers of a value are whole, or of the values in operations.
 
-ghost use Rattle.std.specs.Prelude.{◌≡◌, ◌↔◌, IsTrue, false, not};
-ghost use Rattle.serde_json.specs.View.{view, items_view, members_view};
-ghost use Rattle.serde_json.specs.Written.{has_float, items_have_float, members_have_float};
-ghost use Rattle.json_patch.specs.Document.{AreDocuments, AreMembers, IsDocument};
+ghost use Rattle.std.specs.Prelude.{◌≡◌, ◌↔◌, IsTrue, false};
+ghost use Rattle.serde_json.specs.View.{view};
+ghost use Rattle.serde_json.specs.Written.{has_float};
+ghost use Rattle.json_patch.specs.Document.{IsDocument};
 ghost use Rattle.json_patch.specs.Operation.{AreWhole, IsWholeOp, operation_of, operations};
 
 use crate::operation::{Patch, PatchOperation};
-use serde_json::{Map, Value};
+use serde_json::Value;
 
 /// Whether each number in the value is held as an unsigned or a signed one of 64 bits. A number
 /// with a fraction or an exponent, minus zero and one of more bits are held as floats.
@@ -19,8 +19,22 @@ pub fn is_whole(value: &Value) -> bool
 {
     match value {
         Value::Number(number) => number.as_u64().is_some() || number.as_i64().is_some(),
-        Value::Array(items) => is_whole_list(items),
-        Value::Object(members) => is_whole_map(members),
+        Value::Array(items) => {
+            for item in items {
+                if !is_whole(item) {
+                    return false;
+                }
+            }
+            true
+        }
+        Value::Object(members) => {
+            for (_name, member) in members.iter() {
+                if !is_whole(member) {
+                    return false;
+                }
+            }
+            true
+        }
         _ => true,
     }
 }
@@ -45,30 +59,4 @@ impl PatchOperation {
     {
         self.parts().value.is_none_or(is_whole)
     }
-}
-
-#[cycle(whole)]
-fn is_whole_list(items: &Vec<Value>) -> bool
-    ensures no_float { result ≡ not (items_have_float (items_view items.now.items)) }
-    ensures documents { IsTrue result → AreDocuments (items_view items.now.items) }
-{
-    for item in items {
-        if !is_whole(item) {
-            return false;
-        }
-    }
-    true
-}
-
-#[cycle(whole)]
-fn is_whole_map(members: &Map<String, Value>) -> bool
-    ensures no_float { result ≡ not (members_have_float (members_view members.now.entries)) }
-    ensures members { IsTrue result → AreMembers (members_view members.now.entries) }
-{
-    for (_name, value) in members.iter() {
-        if !is_whole(value) {
-            return false;
-        }
-    }
-    true
 }

@@ -1,12 +1,12 @@
-use Rattle.json_patch.proofs.Common.{◌≡◌, drop, items_view, AreDocuments}
-use Rattle.serde_json.specs.Written.{items_have_float}
-use Rattle.json_patch.proofs.Floats.{TellsOfAll}
+use Rattle.json_patch.proofs.Common.{◌≡◌, ◌↔◌, drop, view, items_view, IsDocument, AreDocuments}
+use Rattle.serde_json.specs.Written.{has_float, items_have_float}
+use Rattle.json_patch.proofs.Floats.{TellsOf}
 use Rattle.json_patch.proofs.wholeness.+whole.Given as goal
 
-abbrev pub invariant-is_whole_list-loop-item : goal.invariant-is_whole_list-loop-item
-invariant-is_whole_list-loop-item l =
-    (items_have_float (items_view l.items.items) ≡ items_have_float (items_view (drop l.item-index l.item-items)))
-    × (AreDocuments (items_view (drop l.item-index l.item-items)) → AreDocuments (items_view l.items.items))
+abbrev pub invariant-loop-item : goal.invariant-loop-item
+invariant-loop-item l =
+    (has_float (view l.value) ≡ items_have_float (items_view (drop l.item-index l.item-items)))
+    × (IsDocument (view l.value) ↔ AreDocuments (items_view (drop l.item-index l.item-items)))
 
-abbrev pub invariant-is_whole_map-loop-name : goal.invariant-is_whole_map-loop-name
-invariant-is_whole_map-loop-name l = TellsOfAll l._name-iterator l.members.entries
+abbrev pub invariant-loop-name : goal.invariant-loop-name
+invariant-loop-name l = TellsOf (view l.value) l._name-iterator
