@@ -25,12 +25,12 @@ pub changes_removed : (t : List ℕ) (es new : List Entry) → new ≡ remove_en
 changes_removed t es new is h = let e : members_view new ≡ without t (members_view es) = ap members_view is ∙ members_view-remove_entry t es in search (rules, without_members, get_without_other, get_without)
 
 -- of all the patch's members some are left: at the names of those, now is as at the start
-pub record Passes (M : Option Data → Option Data → Option Data → Type 0) (start all now left : Members) : Type 0 where
-  pub members : AreMembers left
+pub record Passes (M : Option Data → Option Data → Option Data → Type 0) (start all now rest : Members) : Type 0 where
+  pub members : AreMembers rest
   pub document : AreMembers now
-  pub named : (k : List ℕ) (q : Data) → get_member k left ≡ Some q → get_member k all ≡ Some q
-  pub kept : (k : List ℕ) (q : Data) → get_member k left ≡ Some q → get_member k now ≡ get_member k start
-  pub passed : (k : List ℕ) → get_member k left ≡ None → M (get_member k start) (get_member k all) (get_member k now)
+  pub named : (k : List ℕ) (q : Data) → get_member k rest ≡ Some q → get_member k all ≡ Some q
+  pub kept : (k : List ℕ) (q : Data) → get_member k rest ≡ Some q → get_member k now ≡ get_member k start
+  pub passed : (k : List ℕ) → get_member k rest ≡ None → M (get_member k start) (get_member k all) (get_member k now)
 
 module _ (M : Option Data → Option Data → Option Data → Type 0) (start all now new ps : Members) (l : List ℕ) (q : Data) (o : Option Data) (h : Passes M start all now (member l q ps)) (changes : ChangesAt l now new o) (here : M (get_member l now) (Some q) o) where
   apart : (k : List ℕ) (p : Data) → get_member k ps ≡ Some p → k ≢ l
@@ -51,14 +51,14 @@ module _ (M : Option Data → Option Data → Option Data → Type 0) (start all
     passed = λ k is. ⊎_elim (λ (same : k ≡ l). subst (λ x. M (get_member x start) (get_member x all) (get_member x new)) (sym same) at_l) (at_other k is) (name_cases k l);
   }
 
-pub starts : {M : Option Data → Option Data → Option Data → Type 0} → ((was : Option Data) → M was None was) → (start all left : Members) → left ≡ all → AreMembers start → AreMembers all → Passes M start all start left
-starts unnamed start all left is h hp = rw is (search rules)
+pub starts : {M : Option Data → Option Data → Option Data → Type 0} → ((was : Option Data) → M was None was) → (start all rest : Members) → rest ≡ all → AreMembers start → AreMembers all → Passes M start all start rest
+starts unnamed start all rest is h hp = rw is (search rules)
 
 -- the entry e is next, and t is its name
-pub steps_at : {M : Option Data → Option Data → Option Data → Type 0} {start all now new : Members} {items left : List Entry} (e : Entry) (t : List ℕ)
-    → items ≡ e ∷ left → t ≡ string_bytes e.0 → Passes M start all now (members_view items)
-    → (IsDocument (view e.1) → (o : Option Data) × ChangesAt t now new o × M (get_member t now) (Some (view e.1)) o) → Passes M start all new (members_view left)
-steps_at {M} {start} {all} {now} {new} {items} {left} e t is_next named before step = search (rules, steps M start all now new (members_view left) t (view e.1), steps)
+pub steps_at : {M : Option Data → Option Data → Option Data → Type 0} {start all now new : Members} {items rest : List Entry} (e : Entry) (t : List ℕ)
+    → items ≡ e ∷ rest → t ≡ string_bytes e.0 → Passes M start all now (members_view items)
+    → (IsDocument (view e.1) → (o : Option Data) × ChangesAt t now new o × M (get_member t now) (Some (view e.1)) o) → Passes M start all new (members_view rest)
+steps_at {M} {start} {all} {now} {new} {items} {rest} e t is_next named before step = search (rules, steps M start all now new (members_view rest) t (view e.1), steps)
 
-pub next_document : (items left : List Entry) (e : Entry) → items ≡ e ∷ left → AreMembers (members_view items) → IsDocument (view e.1)
-next_document items left e is_next h = (subst (λ es. AreMembers (members_view es)) is_next h).1
+pub next_document : (items rest : List Entry) (e : Entry) → items ≡ e ∷ rest → AreMembers (members_view items) → IsDocument (view e.1)
+next_document items rest e is_next h = (subst (λ es. AreMembers (members_view es)) is_next h).1
