@@ -1,5 +1,5 @@
 -- A recorded run, undone.
-use Rattle.json_patch.proofs.Common.{common_steps, ◌≡◌, ◌+◌, ℕ, List, [], ◌∷◌, ◌++◌, length, drop, take, map, Bool, bytes_eq, if◌then◌else◌, Vec, vec_len, Global, Option, Some, None, Result, Ok, Err, IfOk, refl, sym, ap, ◌∙◌, subst, append_assoc, arith, rules, IsErrAnd, map-append, reverse-append, Data, view, Value, Array, items_len-items_view, view-Array, Pointer, IsPrefix, ReplacesLast, next_token, decimal_token, place_is_plain, ComesTo, pointee, front_of, last_of, block, settled_token, undo_add, undo_at, undo_in, with_found, Operation, move, replace, operation_of, operations, path_of, after_run, then_run, after_step, strip, AreUndos, IsUndo, IsUndoable, Records, count_in, PatchErrorKind, StepFault, PatchOperation}
+use Rattle.json_patch.proofs.Common.{common_steps, ◌≡◌, ◌+◌, ℕ, List, [], ◌∷◌, ◌++◌, length, drop, take, Bool, bytes_eq, if◌then◌else◌, Vec, vec_len, Global, Option, Some, None, Result, Ok, Err, IfOk, refl, sym, ap, ◌∙◌, subst, append_assoc, arith, rules, IsErrAnd, map-append, reverse-append, Data, view, Value, Array, items_len-items_view, view-Array, Pointer, IsPrefix, ReplacesLast, next_token, decimal_token, place_is_plain, ComesTo, pointee, front_of, last_of, block, settled_token, undo_add, undo_at, undo_in, with_found, Operation, move, replace, operation_of, operations, path_of, after_run, then_run, after_step, strip, AreUndos, IsUndo, IsUndoable, Records, count_in, PatchErrorKind, StepFault, PatchOperation}
 use Rattle.std.specs.declared.alloc.AllocError.{AllocError}
 use mathlib.Core.List.{reverse}
 use Rattle.json_patch.specs.InPlace.{AreUnescaped, IsUnescaped}
