@@ -143,10 +143,10 @@ pub of_objects : (r : Result Former AllocError) (old new patch : Value) (m n ps 
     → Fills r (object (members_view m.entries)) (object (members_view ps.entries)) (object (members_view n.entries)) → Fills r (view old) (view patch) (view new)
 of_objects r old new patch m n ps is after named h = rw (is, after, named, view-Object m, view-Object n, view-Object ps) h
 
-pub fills_found : (r : Result Former AllocError) (t : List ℕ) (es new : List Entry) (d w : Value) (q : Data) → AreInOrder es → Some d ≡ lookup (is_named t) es → new ≡ set_value (is_named t) es w
+pub fills_found : (r : Result Former AllocError) (t name : List ℕ) (es new : List Entry) (d w : Value) (q : Data) → name ≡ t → AreInOrder es → Some d ≡ lookup (is_named name) es → new ≡ set_value (is_named name) es w
     → Fills r (view d) q (view w) → FillsAt r t (members_view es) q (members_view new)
-fills_found (Ok former) t es new d w q order found is step = λ h hq. let f = step (found_document t es d found h) hq in search (rules, found_at, members_view-set_value, unwrap_or)
-fills_found (Err e) t es new d w q order found is step = λ h hq. let f = step (found_document t es d found h) hq in search (rules, found_at, members_view-set_value, members_view-set_same)
+fills_found (Ok former) t name es new d w q named order found is step = subst (λ k. FillsAt (Ok former) k (members_view es) q (members_view new)) named (λ h hq. let f = step (found_document name es d found h) hq in search (rules, found_at, members_view-set_value, unwrap_or))
+fills_found (Err e) t name es new d w q named order found is step = subst (λ k. FillsAt (Err e) k (members_view es) q (members_view new)) named (λ h hq. let f = step (found_document name es d found h) hq in search (rules, found_at, members_view-set_value, members_view-set_same))
 
 pub fills_missing : (t : List ℕ) (es new : List Entry) (k : String Global) (w : Value) (q : Data) → None ≡ lookup (is_named t) es → string_bytes k ≡ t → new ≡ insert_entry string_cmp es k w → view w ≡ q
     → FillsAt (Ok Nothing) t (members_view es) q (members_view new)
@@ -158,10 +158,6 @@ fills_missing t es new k w q found named is same h hq =
       hq,
       search (rules, of_formers) ∙ sym here,
     )
-
-pub logs_other : (r : Result ⊤ AllocError) (t : List ℕ) (was now : List (Bor (List ℕ) × Former)) (P Q : Result Former AllocError → Type 0) → ((x : Result Former AllocError) → P x → Q x) → Logs r t was now P → Logs r t was now Q
-logs_other (Ok done) t was now P Q turn h = (h.0, h.1, h.2, h.3, turn (Ok h.1) h.4)
-logs_other (Err e) t was now P Q turn h = (h.0, turn (Err e) h.1)
 
 pub logs_nothing : (r : Result ⊤ AllocError) (t : List ℕ) (was now : List (Bor (List ℕ) × Former)) (P : Result Former AllocError → Type 0) → IsErr r → now ≡ was → ((e : AllocError) → P (Err e)) → Logs r t was now P
 logs_nothing (Ok done) t was now P bad is h = search rules

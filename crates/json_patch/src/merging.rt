@@ -1,7 +1,7 @@
 //! JSON Merge Patch (RFC 7396, section 2).
 
 ghost use Rattle.json_patch.specs.Document.{IsDocument};
-ghost use Rattle.json_patch.specs.Filled.{Fills, FillsAll, FillsAt, Logs, Prunes, former_value, members_before, with_member};
+ghost use Rattle.json_patch.specs.Filled.{FillsAll, FillsAt, Logs, Prunes, former_value, members_before, with_member};
 ghost use Rattle.json_patch.specs.Merged.{IsMerged};
 ghost use Rattle.serde_json.specs.Find.{get_member};
 ghost use Rattle.serde_json.specs.View.{view, members_view};
@@ -83,38 +83,21 @@ fn fill_member<'a>(
         (λ r. FillsAt r (string_bytes name.now) (members_view members.old.entries)
         (view change.now) (members_view members.new.entries)) }
 {
-    let name_text = name.as_str();
-    if let Some(member) = members.get_mut(name_text) {
-        return fill_found(alloc, name_text, change, member, log);
-    }
     log.reserve(1)?;
-    drop(members.insert(name.clone()?, change.clone()?)?);
-    log.push_reserved((name_text, Former::Nothing));
-    Ok(())
-}
-
-/// Makes it in a member that is there.
-#[cycle(filling)]
-fn fill_found<'a>(
-    alloc: Global,
-    name: &'a str,
-    change: &'a Value,
-    member: &mut Value,
-    log: &mut Vec<(&'a str, Former<'a>)>,
-) -> Result<(), AllocError>
-    ensures { Logs result name.now log.old.items log.new.items
-        (λ r. Fills r (view member.old) (view change.now) (view member.new)) }
-{
-    log.reserve(1)?;
+    let Some(member) = members.get_mut(name.as_str()) else {
+        drop(members.insert(name.clone()?, change.clone()?)?);
+        log.push_reserved((name.as_str(), Former::Nothing));
+        return Ok(());
+    };
     if let Value::Object(changes) = change {
-        if let Value::Object(members) = member {
-            let within = fill(alloc, changes, members)?;
-            log.push_reserved((name, Former::Filled(within)));
+        if let Value::Object(within) = member {
+            let former = Former::Filled(fill(alloc, changes, within)?);
+            log.push_reserved((name.as_str(), former));
             return Ok(());
         }
     }
-    let value = change.clone()?;
-    log.push_reserved((name, Former::Replaced(mem::replace(member, value))));
+    let former = Former::Replaced(mem::replace(member, change.clone()?));
+    log.push_reserved((name.as_str(), former));
     Ok(())
 }
 

@@ -1,25 +1,10 @@
 use Rattle.json_patch.proofs.Common.{◌≡◌, ◌≢◌, sight_of, string_bytes, rules, refl, sym, ap, ◌∙◌, view, Object, the_lemmas, stays, left, by_key, Ok, Err}
 use Rattle.json_patch.specs.Sight.{Sight}
-use Rattle.json_patch.specs.declared.merging.Former.{Nothing, Filled, the_lemmas as of_formers}
+use Rattle.json_patch.specs.declared.merging.Former.{Nothing, Replaced, Filled, the_lemmas as of_formers}
 use Rattle.json_patch.proofs.MergeLoops.{starts, steps_at, changes_nothing, next_document}
-use Rattle.json_patch.proofs.MergeFills.{null_here, other_here, other_value, filled_whole, of_objects, fills_found, fills_missing, fills_back, fills_step, logs_other, logs_nothing}
-use Rattle.json_patch.proofs.merging.+filling.Goals.{fill-else-not-is_null-via-then-not-is_null+else-is_err, fill-else-not-is_null-via-else-not-is_null, fill_found-in-Object+in_default-member, fill_found-in_default}
+use Rattle.json_patch.proofs.MergeFills.{null_here, other_here, other_value, filled_whole, of_objects, fills_found, fills_missing, fills_back, fills_step, logs_nothing}
+use Rattle.json_patch.proofs.merging.+filling.Goals.{fill-else-not-is_null-via-then-not-is_null+else-is_err, fill-else-not-is_null-via-else-not-is_null, fill_member-in-Object+in_default-member, fill_member-in_default-change}
 use Rattle.json_patch.proofs.merging.+filling.Goals as goal
-
-pub fill_found-returns : goal.fill_found-returns
-fill_found-returns t c =
-    let other : sight_of (view c.args.change.now) ≡ Sight.object → sight_of (view c.args.member.now) ≢ Sight.object = elim c.match-change.branch [
-      | fill_found-in-Object+in_default-member w ↦ λ named. other_value c.args.member.now w.in_default-member.not-Object
-      | fill_found-in_default w ↦ λ named. absurd (other_value c.args.change.now w.in_default.not-Object named)
-    ] in
-    (c.args.name, _, refl, search rules, λ hd. filled_whole c.args.member.now c.args.change.now c.replace.new.dest c.replace.result other (ap view c.replace.ensures.after ∙ c.in_ok-value.ensures.cases) c.replace.ensures.value)
-
-pub fill_found-returns-in_err-within : goal.fill_found-returns-in_err-within
-fill_found-returns-in_err-within t c = logs_nothing _ _ _ _ _ (search rules) (search rules) (λ e. λ hd hp. of_objects (Err e) _ _ _ _ c.fill.new.members c.in-Object.changes (c.in-Object-member.is ∙ ap Object (sym c.in-Object-member.members-is)) (search (rules, the_lemmas)) c.in-Object.is c.in_err-within.ensures hd hp)
-
-pub fill_found-returns-in-Object-member : goal.fill_found-returns-in-Object-member
-fill_found-returns-in-Object-member t c =
-    (c.args.name, _, refl, search rules, λ hd hp. of_objects (Ok (Filled c.in_ok-within.within)) _ _ _ _ c.fill.new.members c.in-Object.changes (c.in-Object-member.is ∙ ap Object (sym c.in-Object-member.members-is)) (search (rules, the_lemmas)) c.in-Object.is c.in_ok-within.ensures hd hp)
 
 pub fill-loop-name-init : goal.fill-loop-name-init
 fill-loop-name-init t c hs hp = (starts (λ was. stays) _ _ _ (search rules) hs hp, search rules)
@@ -44,13 +29,23 @@ pub fill-returns : goal.fill-returns
 fill-returns t c hs hp =
     let h = c.loop-name.invariant hs hp in (by_key refl refl (λ k. h.0.passed k (search rules)), h.0.document, search (rules, of_formers))
 
-pub fill_member-returns-in-Some : goal.fill_member-returns-in-Some
-fill_member-returns-in-Some t c =
-    let name = c.as_str-name_text.result.now in
-    rw (sym c.as_str-name_text.ensures.value)
-    (logs_other _ _ _ _ _ _
-    (λ r. fills_found r name c.args.members.now.entries _ c.in-Some.member.now c.fill_found.new.member (view c.args.change.now) c.get_mut.ensures.ordered c.in-Some.ensures.value (c.get_mut.follows.holds c.fill_found.new.member).0)
-    c.fill_found.ensures)
+pub fill_member-returns-in_default : goal.fill_member-returns-in_default
+fill_member-returns-in_default t c = (c.as_str-in_default.result, Nothing, c.as_str-in_default.ensures.value, search rules, fills_missing (string_bytes c.args.name.now) c.args.members.now.entries c.insert.new.self.entries c.in_ok-clone.field-0 c.in_ok-clone-2.field-0 (view c.args.change.now) (rw c.as_str.ensures.value at c.in_default.ensures.value) (search rules) (search rules) (search rules))
+
+pub fill_member-returns-in_err-fill : goal.fill_member-returns-in_err-fill
+fill_member-returns-in_err-fill t c = logs_nothing _ _ _ _ _ (search rules) (search rules) (λ e. fills_found (Err e) _ c.as_str.result.now c.args.members.now.entries _ c.in-Some.member.now _ (view c.args.change.now) c.as_str.ensures.value c.get_mut.ensures.ordered c.in-Some.ensures.value (c.get_mut.follows.holds _).0 (λ hd hp. of_objects (Err e) _ _ _ _ c.fill.new.members c.in-Object.changes (c.in-Object-member.is ∙ ap Object (sym c.in-Object-member.within-is)) (search (rules, the_lemmas)) c.in-Object.is c.in_err-fill.ensures hd hp))
+
+pub fill_member-returns-in-Object-member : goal.fill_member-returns-in-Object-member
+fill_member-returns-in-Object-member t c =
+    (c.as_str-in-Object-member.result, Filled c.in_ok-fill.field-0, c.as_str-in-Object-member.ensures.value, search rules, fills_found (Ok (Filled c.in_ok-fill.field-0)) _ c.as_str.result.now c.args.members.now.entries _ c.in-Some.member.now _ (view c.args.change.now) c.as_str.ensures.value c.get_mut.ensures.ordered c.in-Some.ensures.value (c.get_mut.follows.holds _).0 (λ hd hp. of_objects (Ok (Filled c.in_ok-fill.field-0)) _ _ _ _ c.fill.new.members c.in-Object.changes (c.in-Object-member.is ∙ ap Object (sym c.in-Object-member.within-is)) (search (rules, the_lemmas)) c.in-Object.is c.in_ok-fill.ensures hd hp))
+
+pub fill_member-returns-in_err-clone-3 : goal.fill_member-returns-in_err-clone-3
+fill_member-returns-in_err-clone-3 t c = logs_nothing _ _ _ _ _ (search rules) (search rules) (λ e. fills_found (Err e) _ c.as_str.result.now c.args.members.now.entries _ c.in-Some.member.now c.in-Some.member.now (view c.args.change.now) c.as_str.ensures.value c.get_mut.ensures.ordered c.in-Some.ensures.value (c.get_mut.follows.holds c.in-Some.member.now).0 (λ hd hp. refl))
 
 pub fill_member-returns : goal.fill_member-returns
-fill_member-returns t c = (c.as_str-name_text.result, Nothing, c.as_str-name_text.ensures.value, search rules, fills_missing (string_bytes c.args.name.now) c.args.members.now.entries c.insert.new.self.entries c.in_ok-clone.field-0 c.in_ok-clone-2.field-0 (view c.args.change.now) (rw c.as_str-name_text.ensures.value at c.in_default.ensures.value) (search rules) (search rules) (search rules))
+fill_member-returns t c =
+    let other : sight_of (view c.args.change.now) ≡ Sight.object → sight_of (view c.in-Some.member.now) ≢ Sight.object = elim c.match-change.branch [
+      | fill_member-in-Object+in_default-member w ↦ λ named. other_value c.in-Some.member.now w.in_default-member.not-Object
+      | fill_member-in_default-change w ↦ λ named. absurd (other_value c.args.change.now w.in_default-change.not-Object named)
+    ] in
+    (c.as_str-2.result, Replaced c.replace.result, c.as_str-2.ensures.value, search rules, fills_found (Ok (Replaced c.replace.result)) _ c.as_str.result.now c.args.members.now.entries _ c.in-Some.member.now c.replace.new.dest (view c.args.change.now) c.as_str.ensures.value c.get_mut.ensures.ordered c.in-Some.ensures.value (c.get_mut.follows.holds c.replace.new.dest).0 (λ hd. filled_whole c.in-Some.member.now c.args.change.now c.replace.new.dest c.replace.result other (ap view c.replace.ensures.after ∙ c.in_ok-clone-3.ensures.cases) c.replace.ensures.value))
