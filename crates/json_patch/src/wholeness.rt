@@ -4,9 +4,9 @@ ghost use Rattle.std.specs.Prelude.{◌≡◌, ◌↔◌, IsTrue, false};
 ghost use Rattle.serde_json.specs.View.{view};
 ghost use Rattle.serde_json.specs.Written.{has_float};
 ghost use Rattle.json_patch.specs.Document.{IsDocument};
-ghost use Rattle.json_patch.specs.Operation.{AreWhole, IsWholeOp, operation_of, operations};
+ghost use Rattle.json_patch.specs.Operation.{AreWhole, operations};
 
-use crate::operation::{Patch, PatchOperation};
+use crate::operation::Patch;
 use serde_json::Value;
 
 /// Whether each number in the value is held as an unsigned or a signed one of 64 bits. A number
@@ -45,18 +45,10 @@ impl Patch {
         ensures { IsTrue result ↔ AreWhole (operations self.now.0.items) }
     {
         for operation in &self.0 {
-            if !operation.is_whole() {
+            if !operation.parts().value.is_none_or(is_whole) {
                 return false;
             }
         }
         true
-    }
-}
-
-impl PatchOperation {
-    fn is_whole(&self) -> bool
-        ensures { IsTrue result ↔ IsWholeOp (operation_of self.now) }
-    {
-        self.parts().value.is_none_or(is_whole)
     }
 }
