@@ -20,10 +20,10 @@ pub use Rattle.json_patch.specs.Attempt.{Attempts, ComesTo, TakesOut}
 pub use Rattle.json_patch.specs.Change.{IsBeside, TakesAt, IsRemoved, ShiftsUp, PutsAt, IsAdded, IsReplaced, SetsAt}
 pub use Rattle.json_patch.specs.ChangeComputed.{segment_of, set_child, pointee, after_change, after_replace, front_of, last_of, drop_child, take_from, after_remove, remove_item, without, after_add, put_in, insert_item, set_item, slot_in, slot_of}
 pub use Rattle.json_patch.specs.Document.{Segment, child, IsDocument, key, place, look, sight, value_at, AreMembers, IsBelowMembers, AreDocuments, sight_of, IsWhole}
-pub use Rattle.json_patch.specs.Filled.{IsFilled, IsFilledMember, AreFilled, replaces, by_key, stays, left, fills, Fills, FillsAt, Logs, IsPrunedMember, ArePruned, with_member, former_value, restore_members, members_before}
+pub use Rattle.json_patch.specs.Filled.{IsFilled, IsFilledMember, replaces, by_key, stays, left, fills, Fills, FillsAt, Logs, IsPrunedMember, ArePruned, with_member, former_value, restore_members, members_before}
 pub use Rattle.json_patch.specs.InverseComputed.{undo_in, undo_add, with_found, with_left, block, inverse, settled_token, undo_at}
 pub use Rattle.json_patch.specs.Operation.{Operation, test, IsWholeOp, AreWhole, operation_of, operations, add, move, remove, replace, copy, path_of, from_of, Parts, parts_of, IsMove}
-pub use Rattle.json_patch.specs.PatchValue.{IfUnreadAlone, OfKind, ReadsItems, ReadsOperation, ReadsPatch, RefusesItem, RefusesFields, RefusesOperation, name_of, field_names, put_if, IsObject, Lacks, HasNoText, HasNoPointer, HasNoDocument, IsFieldFault, NoneBelow, IsFirst, rank, field_if, pointer_text, ReadsFields, IsOneOf, IsOperationFault, written_value, written_fields, written_patch, from_and_path, all_fields}
+pub use Rattle.json_patch.specs.PatchValue.{IfUnreadAlone, OfKind, ReadsItems, ReadsOperation, ReadsPatch, RefusesItem, RefusesFields, RefusesOperation, name_of, field_names, IsObject, Lacks, HasNoText, HasNoPointer, HasNoDocument, IsFieldFault, NoneBelow, IsFirst, rank, field_if, pointer_text, ReadsFields, IsOneOf, IsOperationFault, written_value, written_fields, written_patch, from_and_path, all_fields}
 pub use Rattle.json_patch.specs.Printed.{character_text, quote, value_text, printed_items, printed_members, fields_text, parts_text, leading_text, trailing_text, operation_items, object_of}
 pub use Rattle.json_patch.specs.Resolve.{Names, Resolves, StandsAt, Aims, HasTarget}
 pub use Rattle.json_patch.specs.Run.{Accepts, RefusesAt, IsAccepted, IsRefused, Ends, AreTests}

@@ -50,10 +50,6 @@ former_value = fold-Former (Option Data → Option Data) former_value_step
 abbrev pub members_before : List (Bor (List ℕ) × Former) → Members → Members
 members_before log ms = restore_members (map (λ e. (e.0, former_value e.1)) log) ms
 
--- at each name
-abbrev pub AreFilled : Members → Members → Members → Type 0
-AreFilled ms ps ns = (k : List ℕ) → IsFilledMember (get_member k ms) (get_member k ps) (get_member k ns)
-
 -- a document is filled, and what was found leads back; or it is as it was
 abbrev pub Fills : Result Former AllocError → Data → Data → Data → Type 0
 Fills (Ok former) d p w = IsDocument d → IsDocument p → IsFilled d p w × IsDocument w × (former_value former (Some w) ≡ Some d)
