@@ -221,8 +221,3 @@ named_fields name p = field_if (codes "op") (option_map string name) ++ part_fie
 -- the value of parts
 abbrev pub written_parts : Option (List ℕ) → Parts → Data
 written_parts name p = object (sorted_members (named_fields name p))
-
--- the members with this one, if there is one
-abbrev pub put_if : List ℕ → Option Data → Members → Members
-put_if name None ms = ms
-put_if name (Some d) ms = put name d ms
