@@ -30,9 +30,9 @@ module _ (d : Data) (S : Pointer) (b : Data) (at : pointee d S ≡ Some b) where
 -- ---- blocks
 
 module _ (d : Data) (S : Pointer) (b : Data) (hd : IsDocument d) (at : pointee d S ≡ Some b) where
-  move_under : (t : List ℕ) (F : Pointer) (u : List ℕ) (P : Pointer) → block d (move (S ++ t ∷ F) (S ++ u ∷ P)) ≡ extend_all S (block b (move (t ∷ F) (u ∷ P)))
+  move_block_under : (t : List ℕ) (F : Pointer) (u : List ℕ) (P : Pointer) → block d (move (S ++ t ∷ F) (S ++ u ∷ P)) ≡ extend_all S (block b (move (t ∷ F) (u ∷ P)))
   unfolding over
-  move_under t F u P =
+  move_block_under t F u P =
       rw (found_under d S (t ∷ F) b at, removed_under d S t F b at)
       (with_under S (pointee b (t ∷ F)) _ _ (λ v stood. left v (after_remove b (t ∷ F)) refl))
     where
@@ -45,7 +45,7 @@ module _ (d : Data) (S : Pointer) (b : Data) (hd : IsDocument d) (at : pointee d
           rw x.1 (ap (λ o. o ∷ add (S ++ t ∷ F) v ∷ []) (undo_under x.0 S m (replaces d S m x.0 hd hm x.1).found_there u P))
 
   pub block_under : (op : Operation) → IsWithin S op → block d op ≡ extend_all S (block b (strip S op))
-  block_under op h = grind (arith, common_steps, with_one, undo_under, found_under, with_under, with_two, move_under)
+  block_under op h = grind (arith, common_steps, with_one, undo_under, found_under, with_under, with_two, move_block_under)
 
 -- ---- lists
 
