@@ -156,7 +156,7 @@ module _ (d : Data) (S : Pointer) (b : Data) (hd : IsDocument d) (at : pointee d
   move_under t F u P =
       rw (begins_under S (t ∷ F) (u ∷ P), found_under d S (t ∷ F) b at, removed_under d S t F b at)
       (on_test (begins (t ∷ F) (u ∷ P)) (after_move (S ++ u ∷ P) (pointee b (t ∷ F)) (over d S (after_remove b (t ∷ F)))) (after_move (u ∷ P) (pointee b (t ∷ F)) (after_remove b (t ∷ F)))
-      (moved_under u P (pointee b (t ∷ F)) (after_remove b (t ∷ F)) (λ v is. found_document b (t ∷ F) v part_document is) (λ m is. (removed_is b (t ∷ F) m there is).4)))
+      (moved_under u P (pointee b (t ∷ F)) (after_remove b (t ∷ F)) (λ v is. found_document b (t ∷ F) v part_document is) (λ m is. (removed_is b (t ∷ F) m part_document is).4)))
 
   pub stepped_under : (op : Operation) → IsWithin S op → after_step d op ≡ lifted d S (after_step b (strip S op))
   stepped_under (remove P) h =
