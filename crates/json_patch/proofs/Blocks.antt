@@ -1,14 +1,97 @@
 -- The blocks and the inverse that are computed are those that the definitions name, and no others are.
-use Rattle.json_patch.proofs.Common.{◌≡◌, inl, inr, ⊎_elim, ℕ, List, [], ◌∷◌, bytes_eq, Option, Some, None, refl, sym, ap, ◌∙◌, subst, rules, ◌++◌, Data, array, object, Items, Pointer, place_of, next_token, IsDocument, Segment, key, place, Aims, Operation, add, remove, replace, move, copy, test, IsWholeOp, AreWhole, Leaves, Accepts, pointee, after_add, front_of, last_of, put_in, settled_token, undo_at, undo_in, undo_add, block, inverse, place_is_token}
-use Rattle.json_patch.specs.Inverse.{TakesBack, UndoesAdd, IsBlock, IsInverse}
-use Rattle.json_patch.proofs.Pointees.{found_resolves, resolves_found}
-use Rattle.json_patch.proofs.Locations.{split_whole, split_is}
+use Rattle.json_patch.proofs.Common.{◌≡◌, ◌≤◌, ◌*◌, ℕ, List, [], ◌∷◌, ◌++◌, length, length-append, append_assoc, append-nil, Option, Some, Ok, refl, sym, ap, ◌∙◌, arith, rules, subst, Data, Pointer, IsDocument, Operation, add, remove, replace, move, copy, test, IsWholeOp, AreWhole, InvalidPointer, Leaves, Accepts, pointee, after_remove, or_refused, after_step, after_run, undo_in, undo_add, with_left, block, inverse, inl, inr, ⊎_elim, bytes_eq, None, array, object, Items, place_of, next_token, Segment, key, place, Aims, after_add, front_of, last_of, put_in, settled_token, undo_at, place_is_token, ◌↔◌, Err, look, Resolves, IsReplaced, PatchErrorKind, Refuses, RefusesAt, fault, TakesBack, UndoesAdd, IsBlock, IsInverse}
+use Rattle.json_patch.proofs.Changes.{added_exact, removed_exact, replaced_exact}
+use Rattle.json_patch.proofs.Locations.{resolves_found, found_resolves, split_whole, split_is, resolves_same}
 use Rattle.json_patch.proofs.Alterations.{IsAltered, altered_is}
 use Rattle.json_patch.proofs.Slots.{PutsIn, put_in_puts}
-use Rattle.json_patch.proofs.OneResult.{added_exact, removed_exact}
-use Rattle.json_patch.proofs.StepOutcomes.{stands_found, stands_document, removed_document, found_never, never_found, leaves_document}
-use Rattle.json_patch.proofs.BlocksLeadBack.{settled_place}
-use Rattle.json_patch.proofs.InverseRuns.{inverse_step}
+use Rattle.json_patch.proofs.StepOutcomes.{stands_found, stands_document, removed_document, leaves_stepped, leaves_document, found_never, never_found, stepped_leaves, refuses_stepped, stepped_refuses}
+use Rattle.json_patch.proofs.Runs.{ran_accepts, accepts_document, accepts_joined, accepts_ran, refuses_ran, ran_refuses, accepts_split}
+use Rattle.json_patch.proofs.BlocksLeadBack.{found_document, undo_added, undo_removed, undo_replaced, settled_place}
+
+-- ---- the inverse of an accepted list leads back, through every state
+
+ran_one : (u : Operation) (e d : Data) → after_step e u ≡ Ok d → after_run e (u ∷ []) ≡ Ok d
+ran_one u e d is = rw is refl
+
+ran_two : (u w : Operation) (e m d : Data) → after_step e u ≡ Ok m → after_step m w ≡ Ok d → after_run e (u ∷ w ∷ []) ≡ Ok d
+ran_two u w e m d is next = rw (is, next) refl
+
+-- on the document that the operation left, its block leads to the one before
+block_ran : (d : Data) (op : Operation) (e : Data) → IsDocument d → IsWholeOp op → Leaves d op e → after_run e (block d op) ≡ Ok d
+block_ran d (add P v) e hd hv h = ran_one (undo_add d P) e d (undo_added d P v e hd hv (added_exact d P v e hd hv h))
+block_ran d (remove P) e hd hv h =
+    let was : pointee d P ≡ Some h.2 = resolves_found d P _ h.2 h.3 in
+    rw was (ran_one (add P h.2) e d (ap (or_refused InvalidPointer) (undo_removed d P h.2 e hd (removed_exact d P e hd h) was).1))
+block_ran d (replace P v) e hd hv h =
+    let was : pointee d P ≡ Some h.1 = resolves_found d P h.0 h.1 h.2 in
+    rw was (ran_one (replace P h.1) e d (ap (or_refused InvalidPointer) (undo_replaced d P v h.1 e hd hv (replaced_exact d P v e hd hv h) was)))
+block_ran d (move F P) e hd hv h =
+    let v = h.1.0 in let m = h.1.1 in
+    let hw : IsDocument v = stands_document d F v hd h.1.2 in
+    let hm : IsDocument m = removed_document d F m h.1.3 in
+    let was : pointee d F ≡ Some v = stands_found d F v h.1.2 in
+    let left : after_remove d F ≡ Some m = removed_exact d F m hd h.1.3 in
+    rw (was, left)
+    (ran_two (undo_add m P) (add F v) e m d (undo_added m P v e hm hw (added_exact m P v e hm hw h.1.4)) (ap (or_refused InvalidPointer) (undo_removed d F v m hd left was).1))
+block_ran d (copy F P) e hd hv h =
+    let hw : IsDocument h.0 = stands_document d F h.0 hd h.1 in
+    ran_one (undo_add d P) e d (undo_added d P h.0 e hd hw (added_exact d P h.0 e hd hw h.2))
+block_ran d (test P v) e hd hv h = ap Ok h.1
+
+-- ---- the block's values are documents
+
+undo_in_whole : (d : Data) (front : Pointer) (last : List ℕ) (P : Pointer) (o : Option Data) → IsDocument d → IsWholeOp (undo_in d front last P o)
+undo_in_whole d front last P o hd = search (rules, found_document)
+
+pub block_whole : (d : Data) (op : Operation) (e : Data) → IsDocument d → IsWholeOp op → Leaves d op e → AreWhole (block d op)
+block_whole d (move F P) e hd hv h =
+    rw (stands_found d F h.1.0 h.1.2, removed_exact d F h.1.1 hd h.1.3)
+    ((search (rules, undo_in_whole)), (stands_document d F h.1.0 hd h.1.2, tt))
+block_whole d op e hd hv h = search (rules, undo_in_whole, resolves_found, found_document)
+
+pub block_back : (d : Data) (op : Operation) (e : Data) → IsDocument d → IsWholeOp op → Leaves d op e → Accepts e (block d op) d
+block_back d op e hd hv h = ran_accepts e (block d op) d (leaves_document d op e hd hv h) (block_whole d op e hd hv h) (block_ran d op e hd hv h)
+
+-- ---- lists
+
+pub whole_joined : (xs ys : List Operation) → AreWhole xs → AreWhole ys → AreWhole (xs ++ ys)
+whole_joined [] ys h g = g
+whole_joined (op ∷ xs) ys h g = (h.0, whole_joined xs ys h.1 g)
+
+pub inverse_step : (d : Data) (op : Operation) (ops : List Operation) (m : Data) → IsDocument d → IsWholeOp op → Leaves d op m → inverse d (op ∷ ops) ≡ inverse m ops ++ block d op
+inverse_step d op ops m hd hv h = ap (λ r. with_left r (λ m. inverse m ops) ++ block d op) (leaves_stepped d op m hd hv h)
+
+pub inverse_whole : (d : Data) (ops : List Operation) (e : Data) → IsDocument d → AreWhole ops → Accepts d ops e → AreWhole (inverse d ops)
+inverse_whole d [] e hd hv h = tt
+inverse_whole d (op ∷ ops) e hd hv h =
+    subst AreWhole (sym (inverse_step d op ops h.0 hd hv.0 h.1))
+    (whole_joined (inverse h.0 ops) (block d op) (inverse_whole h.0 ops e (leaves_document d op h.0 hd hv.0 h.1) hv.1 h.2) (block_whole d op h.0 hd hv.0 h.1))
+
+-- the inverse is accepted on the end, and leads to the first document
+pub inverse_back : (d : Data) (ops : List Operation) (e : Data) → IsDocument d → AreWhole ops → Accepts d ops e → Accepts e (inverse d ops) d
+inverse_back d [] e hd hv h = sym h
+inverse_back d (op ∷ ops) e hd hv h =
+    subst (λ I. Accepts e I d) (sym (inverse_step d op ops h.0 hd hv.0 h.1))
+    (accepts_joined e (inverse h.0 ops) (block d op) h.0 d (inverse_back h.0 ops e (leaves_document d op h.0 hd hv.0 h.1) hv.1 h.2) (block_back d op h.0 hd hv.0 h.1))
+
+-- the inverse of a joined list: what leads back over the second part stands first
+pub inverse_joined : (d : Data) (xs ys : List Operation) (m : Data) → IsDocument d → AreWhole xs → Accepts d xs m → inverse d (xs ++ ys) ≡ inverse m ys ++ inverse d xs
+inverse_joined d [] ys m hd hv h = ap (λ x. inverse x ys) h ∙ sym (append-nil (inverse m ys))
+inverse_joined d (op ∷ xs) ys m hd hv h =
+    inverse_step d op (xs ++ ys) h.0 hd hv.0 h.1 ∙ ap (λ I. I ++ block d op) (inverse_joined h.0 xs ys m (leaves_document d op h.0 hd hv.0 h.1) hv.1 h.2)
+    ∙ append_assoc (inverse m ys) (inverse h.0 xs) (block d op) ∙ ap (λ I. inverse m ys ++ I) (sym (inverse_step d op xs h.0 hd hv.0 h.1))
+
+-- the inverse of the inverse is accepted on the first document, and leads to the end
+pub inverse_twice : (d : Data) (ops : List Operation) (e : Data) → IsDocument d → AreWhole ops → Accepts d ops e → Accepts d (inverse e (inverse d ops)) e
+inverse_twice d ops e hd hv h = inverse_back e (inverse d ops) d (accepts_document d ops e hd hv h) (inverse_whole d ops e hd hv h) (inverse_back d ops e hd hv h)
+
+-- ---- its length
+
+pub inverse_length : (ops : List Operation) (d : Data) → length (inverse d ops) ≤ 2 * length ops
+inverse_length [] d = omega arith
+inverse_length (op ∷ ops) d = search (rules, length-append, inverse_length ops)
+
+-- ---- the blocks and the inverse that are computed are those that the definitions name, and no others are
 
 -- ---- a last token as a number
 
@@ -92,3 +175,54 @@ inverse_only d (op ∷ ops) I hd hv h =
 pub inverse_accepted : (d : Data) (ops : List Operation) (I : List Operation) → IsInverse d ops I → (e : Data) × Accepts d ops e
 inverse_accepted d [] I h = (d, refl)
 inverse_accepted d (op ∷ ops) I h = let i : (e : Data) × Accepts h.0 ops e = inverse_accepted h.0 ops h.1 h.4 in (i.0, (h.0, h.3, i.1))
+
+-- ---- the inverse in the words of the definitions
+
+-- ---- what is computed, both ways
+
+module _ (d : Data) (op : Operation) (hd : IsDocument d) (hv : IsWholeOp op) where
+  pub step_left : (e : Data) → Leaves d op e ↔ (after_step d op ≡ Ok e)
+  step_left e = (λ h. leaves_stepped d op e hd hv h, λ h. stepped_leaves d op e hd hv h)
+
+  pub step_refused : (kind : PatchErrorKind) → Refuses d op kind ↔ (after_step d op ≡ Err kind)
+  step_refused kind = (λ h. refuses_stepped d op kind hd hv h, λ h. stepped_refuses d op kind hd hv h)
+
+module _ (d : Data) (ops : List Operation) (hd : IsDocument d) (hv : AreWhole ops) where
+  pub run_accepted : (e : Data) → Accepts d ops e ↔ (after_run d ops ≡ Ok e)
+  run_accepted e = (λ h. accepts_ran d ops e hd hv h, λ h. ran_accepts d ops e hd hv h)
+
+  pub run_refused : (k : ℕ) (kind : PatchErrorKind) → RefusesAt d ops k kind ↔ (after_run d ops ≡ Err (fault k kind))
+  run_refused k kind = (λ h. refuses_ran d ops k kind hd hv h, λ h. ran_refuses d ops k kind hd hv h)
+
+pub joined : (d : Data) (xs ys : List Operation) (e : Data) → Accepts d (xs ++ ys) e ↔ ((m : Data) × Accepts d xs m × Accepts m ys e)
+joined d xs ys e = (λ h. accepts_split d xs ys e h, λ h. accepts_joined d xs ys h.0 e h.1 h.2)
+
+-- ---- blocks and inverses
+
+module _ (d : Data) (op : Operation) (e : Data) (hd : IsDocument d) (hv : IsWholeOp op) (h : Leaves d op e) where
+  pub block_exactly : (B : List Operation) → IsBlock d op B ↔ (block d op ≡ B)
+  block_exactly B = (λ g. sym (block_only d op B hd g), λ g. subst (IsBlock d op) g (block_is d op e hd hv h))
+
+  pub block_leads_back : (B : List Operation) → IsBlock d op B → AreWhole B × (length B ≤ 2) × Accepts e B d
+  block_leads_back B g = search (rules, block_only, block_whole, block_back)
+
+module _ (d : Data) (ops : List Operation) (hd : IsDocument d) (hv : AreWhole ops) where
+  pub inverse_exactly : (e : Data) → Accepts d ops e → (I : List Operation) → IsInverse d ops I ↔ (inverse d ops ≡ I)
+  inverse_exactly e h I = (λ g. sym (inverse_only d ops I hd hv g), λ g. subst (IsInverse d ops) g (inverse_is d ops e hd hv h))
+
+  pub inverse_leads_back : (e : Data) (I : List Operation) → Accepts d ops e → IsInverse d ops I → AreWhole I × (length I ≤ 2 * length ops) × Accepts e I d
+  inverse_leads_back e I h g = search (rules, inverse_only, inverse_whole, inverse_length, inverse_back)
+
+  -- the inverse of the inverse leads from the first document to the end
+  pub inverse_again : (e : Data) (I J : List Operation) → Accepts d ops e → IsInverse d ops I → IsInverse e I J → Accepts d J e
+  inverse_again e I J h g k = search (rules, inverse_only, accepts_document, inverse_whole, inverse_twice)
+
+-- the inverse of a joined list is the inverse of the second part, which leads back to the state between, and then that of the first
+pub passes_back : (d : Data) (xs ys : List Operation) (m e : Data) (I : List Operation) → IsDocument d → AreWhole xs → AreWhole ys → Accepts d xs m → Accepts m ys e → IsInverse d (xs ++ ys) I
+    → (J K : List Operation) × IsInverse m ys J × IsInverse d xs K × (I ≡ J ++ K) × Accepts e J m × Accepts m K d
+passes_back d xs ys m e I hd hx hy h g i = search (rules, accepts_document, inverse_is, inverse_only, whole_joined, inverse_joined, inverse_back)
+
+-- ---- replace
+
+pub replace_elsewhere : (d : Data) (P : Pointer) (v e : Data) (L : List Segment) (c : Data) (X : List Segment) → IsReplaced d P v e → Resolves d P L c → ((R : List Segment) → X ≡ L ++ R → ⊥) → look e X ≡ look d X
+replace_elsewhere d P v e L c X h r out = search (rules, resolves_same)

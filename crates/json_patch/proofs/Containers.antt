@@ -1,9 +1,19 @@
--- What an edit makes of a container that holds values, and what it finds there.
-use Rattle.json_patch.proofs.Common.{◌≡◌, ℕ, ◌<◌, ◌≤◌, List, [], ◌∷◌, length, set, get_or, Vec, vec_len, Option, Some, None, option_map, option_and_then, String, Global, string_bytes, refl, sym, ap, ◌∙◌, arith, rules, lookup, set_value, remove_entry, Data, array, object, view, items_view, members_view, Value, Entry, view-lookup, get_item_within, get_item_past, items_len-items_view, members_view-insert_entry, place_of, Segment, key, place, child, slot_in, segment_of, put_in, take_from, set_child, drop_child, pointee, after_change}
-use Rattle.std.specs.List.{insert, remove}
-use Rattle.std.specs.BTreeMap.{insert_entry}
-use Rattle.std.specs.String.{string_cmp}
-use Rattle.json_patch.proofs.Writes.{is_named, AreInOrder, items_view-set, items_view-insert, items_view-remove, members_view-remove_entry, members_view-set_value}
+-- One change in a container, and on the way down to it.
+use Rattle.json_patch.proofs.Common.{◌≡◌, Option, None, Result, rules, IsErr, IsErrAnd, Data, Attempts, PatchErrorKind, InvalidPointer, StepFault, ℕ, ◌<◌, ◌≤◌, List, [], ◌∷◌, length, set, get_or, Vec, vec_len, Some, option_map, option_and_then, String, Global, string_bytes, refl, sym, ap, ◌∙◌, arith, lookup, set_value, remove_entry, array, object, view, items_view, members_view, Value, Entry, view-lookup, get_item_within, get_item_past, items_len-items_view, members_view-insert_entry, place_of, Segment, key, place, child, slot_in, segment_of, put_in, take_from, set_child, drop_child, pointee, after_change, ◌≢◌, Bool, true, false, bytes_eq, MatchResult, bytes_eq-Decides, next_is_no_place, next_token, IfOk, BTreeMap, Array, Object, view-Array, view-Object, Pointer, Refused, insert, insert_entry, string_cmp, nat_tests, Displaces, DisplacesAt, Displaced}
+use Rattle.std.specs.List.{remove}
+use Rattle.jsonptr.specs.Indexes.{IsIndexText, place_in}
+use Rattle.jsonptr.specs.declared.index.Index.{Index}
+use Rattle.std.specs.Vec.{with_item}
+use Rattle.json_patch.specs.declared.walk.Edit.{Edit}
+use Rattle.json_patch.proofs.Writes.{is_named, AreInOrder, items_view-set, items_view-insert, items_view-remove, members_view-remove_entry, members_view-set_value, items_view-set_same, members_view-set_same}
+
+-- ---- attempts at a change, by how they end
+
+-- a refusal that `?` passed on
+pub refused_attempt : {T : Type 0} (r : Result T StepFault) (kind : PatchErrorKind) (wanted : Option Data) (d : Data) → IsErr r × IsErrAnd r (λ f. f ≡ Refused kind) → kind ≡ InvalidPointer → wanted ≡ None → Attempts r wanted d d
+refused_attempt r kind wanted d h at none = search rules
+
+-- ---- what an edit makes of a container that holds values, and what it finds there
 
 -- the token names the item at i, among so many
 abbrev pub IsItem : List ℕ → ℕ → ℕ → Type 0
@@ -100,3 +110,87 @@ found_key t k es o v name some is = found_member t es o v some (is ∙ ap (λ n.
 
 pub found_no_key : (t : List ℕ) (k : String Global) (es : List Entry) (o : Option Value) → string_bytes k ≡ t → o ≡ None → o ≡ lookup (is_named (string_bytes k)) es → pointee (object (members_view es)) (t ∷ []) ≡ None
 found_no_key t k es o name none is = found_no_member t es o none (is ∙ ap (λ n. lookup (is_named n) es) name)
+
+-- ---- the item that a token names, and the place at which it puts a new one, by the index that is read of it
+
+-- a refusal that `?` made of an index's
+pub refused : (r : Result ℕ PatchErrorKind) (P : ℕ → Type 0) (Q : Type 0) → IsErr r × IsErrAnd r (λ kind. kind ≡ InvalidPointer) → Q → MatchResult r P (λ kind. (kind ≡ InvalidPointer) × Q)
+refused r P Q h q = search rules
+
+-- ---- items
+
+pub item_outside : (t : List ℕ) (index : Index) (len : ℕ) → IsIndexText t index → len ≤ place_in index len → IsNoItem t len
+item_outside t index len h out = search (rules, next_is_no_place)
+
+-- ---- slots
+
+pub not_next : (b : Bool) (t : List ℕ) → bytes_eq t next_token ≡ b → t ≢ next_token → b ≡ false
+not_next b t is other = search rules
+
+place_is_not_next : (t : List ℕ) (i : ℕ) → place_of t ≡ Some i → t ≢ next_token
+place_is_not_next t i h is = let none : place_of t ≡ None = ap place_of is ∙ next_is_no_place in cc
+
+is_next : (t : List ℕ) → t ≡ next_token → bytes_eq t next_token ≡ true
+is_next t is = (bytes_eq-Decides t next_token).1 is
+
+pub slot_outside : (t : List ℕ) (index : Index) (len : ℕ) → IsIndexText t index → len < place_in index len → slot_in t len ≡ None
+slot_outside t index len h out = search (rules, not_next, place_is_not_next)
+
+pub slot_within : (t : List ℕ) (index : Index) (len n : ℕ) → IsIndexText t index → n ≡ place_in index len → n ≤ len → (n ≤ len) × (slot_in t len ≡ Some n)
+slot_within t index len n h is le = search (rules, not_next, bytes_eq, place_is_not_next, nat_tests, is_next)
+
+-- ---- a walk down a value: what an attempt at a child leaves of what holds the child, and what stands there
+
+-- what comes of a change of the child at a token
+abbrev pub within : (Data → Option Data) → List ℕ → Data → Option Data
+within f t d = option_and_then (λ s. option_and_then (λ c. option_map (λ e. set_child s e d) (f c)) (child s d)) (segment_of d t)
+
+-- ---- at a child that is there
+
+-- ---- at values
+
+pub walks_to_item : {T : Type 0} (r : Result T StepFault) (wanted : Option Data) (f : Data → Option Data) (t : List ℕ) (old new : Value) (m : Vec Value Global) (len i : ℕ) (v w : Value)
+    → wanted ≡ within f t (view old) → old ≡ Array m → new ≡ Array (with_item m i w) → len ≡ vec_len m → IsItem t len i → v ≡ get_or m.items i v → Attempts r (f (view v)) (view v) (view w) → Attempts r wanted (view old) (view new)
+walks_to_item r wanted f t old new m len i v w q o n e at is h = rw (q, o, n, view-Array m, view-Array (with_item m i w)) (search (rules, item_child, items_view-set, items_view-set_same))
+
+pub walks_to_member : {T : Type 0} (r : Result T StepFault) (wanted : Option Data) (f : Data → Option Data) (t : List ℕ) (old new : Value) (m n : BTreeMap (String Global) Value) (v w : Value)
+    → wanted ≡ within f t (view old) → old ≡ Object m → new ≡ Object n → AreInOrder m.entries → Some v ≡ lookup (is_named t) m.entries → n.entries ≡ set_value (is_named t) m.entries w → Attempts r (f (view v)) (view v) (view w)
+    → Attempts r wanted (view old) (view new)
+walks_to_member r wanted f t old new m n v w q o p order is wrote h = rw (q, o, p, view-Object m, view-Object n) (search (rules, member_child, members_view-set_value, members_view-set_same))
+
+pub walks_to_no_item : {T : Type 0} (r : Result T StepFault) (kind : PatchErrorKind) (wanted : Option Data) (f : Data → Option Data) (t : List ℕ) (old new : Value) (m : Vec Value Global) (len : ℕ)
+    → wanted ≡ within f t (view old) → old ≡ Array m → new ≡ Array m → len ≡ vec_len m → IsErr r × IsErrAnd r (λ x. x ≡ Refused kind) → kind ≡ InvalidPointer → IsNoItem t len → Attempts r wanted (view old) (view new)
+walks_to_no_item r kind wanted f t old new m len q o n e gives at past = search (rules, refused_attempt, view-Array, no_item t m len, goes_none (array (items_view m.items)), no_item, goes_none)
+
+pub walks_to_no_member : (wanted : Option Data) (f : Data → Option Data) (t : List ℕ) (old new : Value) (m n : BTreeMap (String Global) Value)
+    → wanted ≡ within f t (view old) → old ≡ Object m → new ≡ Object n → None ≡ lookup (is_named t) m.entries → n ≡ m → (wanted ≡ None) × (view new ≡ view old)
+walks_to_no_member wanted f t old new m n q o p none same = (rw (q, o, view-Object m) ((search (rules, no_member t m.entries None, goes_none (object (members_view m.entries)), no_member))), rw (o, p, same))
+
+-- the next token of the way
+pub next_within : (f : Data → Option Data) (d : Data) (P rest : Pointer) (t : List ℕ) → P ≡ t ∷ rest → after_change f d P ≡ within (λ c. after_change f c rest) t d
+next_within f d P rest t is = rw is
+
+-- ---- what stands there
+
+pub found_at_item : (t : List ℕ) (P rest : Pointer) (old : Value) (m : Vec Value Global) (len i : ℕ) (v : Value) → P ≡ t ∷ rest → old ≡ Array m → len ≡ vec_len m → IsItem t len i → v ≡ get_or m.items i v → pointee (view old) P ≡ pointee (view v) rest
+found_at_item t P rest old m len i v way o e at is = search (rules, view-Array, item_child)
+
+pub found_at_member : (t : List ℕ) (P rest : Pointer) (old : Value) (m : BTreeMap (String Global) Value) (v : Value) → P ≡ t ∷ rest → old ≡ Object m → Some v ≡ lookup (is_named t) m.entries → pointee (view old) P ≡ pointee (view v) rest
+found_at_member t P rest old m v way o is = search (rules, view-Object, member_child)
+
+pub displaces_below : (r : Result Displaced StepFault) (edit : Edit) (d c : Data) (P rest : Pointer) (last : List ℕ) → pointee d P ≡ pointee c rest → IfOk r (DisplacesAt edit c rest last) → IfOk r (DisplacesAt edit d P last)
+displaces_below r edit d c P rest last same h = search rules
+
+-- ---- an edit of the members
+
+pub attempts_at_members : {T : Type 0} (r : Result T StepFault) (f : Data → Option Data) (old new : Value) (m n : BTreeMap (String Global) Value) → old ≡ Object m → new ≡ Object n
+    → Attempts r (f (object (members_view m.entries))) (object (members_view m.entries)) (object (members_view n.entries)) → Attempts r (f (view old)) (view old) (view new)
+attempts_at_members r f old new m n o p h = rw (o, p, view-Object m, view-Object n) h
+
+pub displaces_at_members : (r : Result Displaced StepFault) (edit : Edit) (t : List ℕ) (old : Value) (m : BTreeMap (String Global) Value) → old ≡ Object m → IfOk r (Displaces edit t (object (members_view m.entries))) → IfOk r (Displaces edit t (view old))
+displaces_at_members r edit t old m o h = rw (o, view-Object m) h
+
+-- ---- where nothing stands
+
+pub found_no_item : (t : List ℕ) (P rest : Pointer) (old : Value) (m : Vec Value Global) (len : ℕ) → P ≡ t ∷ rest → old ≡ Array m → len ≡ vec_len m → IsNoItem t len → None ≡ pointee (view old) P
+found_no_item t P rest old m len way o e past = search (rules, view-Array m, no_item t m len, goes_none (array (items_view m.items)), view-Array, no_item, goes_none)

@@ -1,11 +1,8 @@
 -- What is computed for a merge patch is what it leaves, and that alone.
-use Rattle.json_patch.proofs.Common.{◌≡◌, ◌≢◌, ◌↔◌, ◌⊎◌, inl, inr, ⊎_elim, ℕ, List, Option, Some, None, unwrap_or, refl, sym, ap, ◌∙◌, subst, rules, Data, null, boolean, number, string, array, object, Members, no_members, member, put, get, get_member, get_member-put, get_member-put_other, IsDocument, AreMembers, Segment, key, child, sight_of, without}
-use Rattle.json_patch.specs.Sight.{Sight}
-use Rattle.json_patch.specs.Merged.{IsMerged, replaces, by_key, IsMergedMember, stays, goes, merges}
-use Rattle.json_patch.specs.MergedComputed.{members_of, after_merge, members_after_merge}
-use Rattle.json_patch.proofs.Members.{put_members, without_members, member_document, get_without, get_without_other, below_absent, found_first, skips}
-use Rattle.json_patch.proofs.Children.{child_document, step_cases}
-use Rattle.json_patch.proofs.ChildChanges.{one_level}
+use Rattle.json_patch.proofs.Common.{◌≡◌, ◌≢◌, ◌↔◌, ◌⊎◌, inl, inr, ⊎_elim, ℕ, List, Option, Some, None, unwrap_or, refl, sym, ap, ◌∙◌, subst, rules, Data, null, boolean, number, string, array, object, Members, no_members, member, put, get, get_member, get_member-put, get_member-put_other, IsDocument, AreMembers, Segment, key, child, sight_of, without, Sight, IsMerged, replaces, IsMergedMember, goes, merges, members_of, after_merge, members_after_merge}
+use Rattle.json_patch.specs.Merged.{by_key, stays}
+use Rattle.json_patch.proofs.Members.{put_members, without_members, member_document, get_without, get_without_other, below_absent, found_first, skips, child_document, step_cases}
+use Rattle.json_patch.proofs.BlocksLeadBack.{one_level}
 
 -- ---- what is computed, one member of the patch after another
 

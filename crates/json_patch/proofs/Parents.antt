@@ -1,9 +1,6 @@
 -- An operation as a change of its container, which the walk finds at all tokens but the last.
-use Rattle.json_patch.proofs.Common.{common_steps, ◌≡◌, ℕ, List, [], ◌∷◌, ◌++◌, length, drop, not, true, false, Bool, IsTrue, Option, Some, None, option_map, option_and_then, Result, Ok, Err, IfOk, refl, sym, ap, ◌∙◌, subst, rules, arith, IsErr, IsErrAnd, append_cancel_left, Data, object, view, Value, Pointer, IsProperPrefix, Attempts, ComesTo, TakesOut, child, add, move, replace, path_of, segment_of, set_child, put_in, take_from, pointee, after_change, after_add, after_remove, after_replace, undo_in, undo_add, after_step, strip, InvalidFromPointer, CannotMoveInsideItself, StepFault}
+use Rattle.json_patch.proofs.Common.{common_steps, ◌≡◌, ℕ, List, [], ◌∷◌, ◌++◌, length, drop, not, true, false, Bool, IsTrue, Option, Some, None, option_map, option_and_then, Result, Ok, Err, IfOk, refl, sym, ap, ◌∙◌, subst, rules, arith, IsErr, IsErrAnd, append_cancel_left, Data, object, view, Value, Pointer, IsProperPrefix, Attempts, ComesTo, TakesOut, child, add, move, replace, path_of, segment_of, set_child, put_in, take_from, pointee, after_change, after_add, after_remove, after_replace, undo_in, undo_add, after_step, strip, InvalidFromPointer, CannotMoveInsideItself, StepFault, Displaces, DisplacesAt, IsTaken, Undoes, undo_at_place, AreUnescaped, IsUnescaped, Displaced}
 use Rattle.std.specs.Prelude.{◌↔◌}
-use Rattle.json_patch.specs.Edits.{Displaces, DisplacesAt, IsTaken, Undoes, undo_at_place}
-use Rattle.json_patch.specs.InPlace.{AreUnescaped, IsUnescaped}
-use Rattle.json_patch.specs.declared.walk.Displaced.{Displaced}
 use Rattle.json_patch.specs.declared.walk.Displaced.TheVariants.{Nothing, Former}
 use Rattle.json_patch.specs.declared.walk.Edit.TheVariants.{Insert, Take, Swap}
 use Rattle.json_patch.proofs.Locations.{split_is}

@@ -1,11 +1,7 @@
 -- A value reads as one patch, or is refused with one number and kind; what is written_value reads back.
-use Rattle.json_patch.proofs.Common.{◌≡◌, ℕ, zero, suc, List, [], ◌∷◌, map, ◌⊎◌, Option, Some, None, refl, sym, ◌∙◌, inl, inr, ⊎_elim, codes, Bool, false, true≢false, rules, subst, bytes_eq-Decides, Data, null, string, array, Items, no_items, item, get, items_of, Pointer, text_of, IsDocument, AreDocuments, Operation, add, remove, replace, move, copy, test, IsWholeOp, AreWhole, name_of, field_names, ReadsFields, ReadsOperation, ReadsItems, ReadsPatch, IsObject, IsOneOf, IsFieldFault, IsOperationFault, RefusesFields, RefusesOperation, RefusesItem, written_value, written_fields, written_patch}
+use Rattle.json_patch.proofs.Common.{◌≡◌, ℕ, zero, suc, List, [], ◌∷◌, map, ◌⊎◌, Option, Some, None, refl, sym, ◌∙◌, inl, inr, ⊎_elim, codes, Bool, false, true≢false, rules, subst, bytes_eq-Decides, Data, null, string, array, Items, no_items, item, get, items_of, Pointer, text_of, IsDocument, AreDocuments, Operation, add, remove, replace, move, copy, test, IsWholeOp, AreWhole, name_of, field_names, ReadsFields, ReadsOperation, ReadsItems, ReadsPatch, IsObject, IsOneOf, IsFieldFault, IsOperationFault, RefusesFields, RefusesOperation, RefusesItem, written_value, written_fields, written_patch, HasAnyFrom, ReadKind, NotAList, NotAnObject, MissingOp, OpNotText, UnknownOp, MissingFrom, FromNotText, BadFrom, MissingPath, PathNotText, BadPath, MissingValue, ValueNotWhole, one_pointer}
 use Rattle.std.specs.Str.{bytes_eq}
-use Rattle.json_patch.specs.ReadSteps.{HasAnyFrom}
 use Rattle.json_patch.specs.ReadLaws.{IsRead, HasReadFault, IsReadAlone, HasReadFaultAlone, IsReadLike, HasReadFaultLike}
-use Rattle.json_patch.specs.declared.error.ReadKind.{ReadKind}
-use Rattle.json_patch.specs.declared.error.ReadKind.TheVariants.{NotAList, NotAnObject, MissingOp, OpNotText, UnknownOp, MissingFrom, FromNotText, BadFrom, MissingPath, PathNotText, BadPath, MissingValue, ValueNotWhole}
-use Rattle.jsonptr.specs.TextLaws.{one_pointer}
 use Rattle.json_patch.proofs.PatchFaults.{Text, pointer, lacks, no_text, no_pointer, text_at, Held, document, lacks_it, no_document, held_at, object_or_not, found_lacks, found_text, found_pointer, found_document, no_pointer_one, past_from, first_one, past_path}
 
 -- ---- what is read

@@ -1,16 +1,13 @@
 -- An inverse holds `add`, `remove` and `replace` alone, and no `-` for a place in a list.
-use Rattle.json_patch.proofs.Common.{◌≡◌, ℕ, List, [], ◌∷◌, ◌++◌, append_assoc, Option, Some, None, option_and_then, Ok, refl, sym, ap, ◌∙◌, subst, rules, option_and_then_some, Data, array, Items, Pointer, next_token, IsDocument, child, Operation, add, remove, replace, move, copy, test, IsWholeOp, AreWhole, Leaves, Accepts, segment_of, set_child, take_from, pointee, after_change, after_remove, front_of, last_of, after_step, undo_at, undo_in, undo_add, block, inverse, next_is_no_place}
-use Rattle.json_patch.specs.Inverse.{NamesNoNext, IsPlain, ArePlain, IsInverse}
-use Rattle.json_patch.proofs.Blocks.{inverse_only}
-use Rattle.json_patch.proofs.Children.{child_set}
-use Rattle.json_patch.proofs.OneResult.{added_exact, removed_exact}
-use Rattle.json_patch.proofs.InverseRuns.{block_back, block_whole, inverse_back, inverse_step, inverse_whole}
-use Rattle.json_patch.proofs.ChildChanges.{step_of_set}
+use Rattle.json_patch.proofs.Common.{◌≡◌, ℕ, List, [], ◌∷◌, ◌++◌, append_assoc, Option, Some, None, option_and_then, Ok, refl, sym, ap, ◌∙◌, subst, rules, option_and_then_some, Data, array, Items, Pointer, next_token, IsDocument, child, Operation, add, remove, replace, move, copy, test, IsWholeOp, AreWhole, Leaves, Accepts, segment_of, set_child, take_from, pointee, after_change, after_remove, front_of, last_of, after_step, undo_at, undo_in, undo_add, block, inverse, next_is_no_place, NamesNoNext, IsPlain, ArePlain, IsInverse}
+use Rattle.json_patch.proofs.Blocks.{inverse_only, block_back, block_whole, inverse_back, inverse_step, inverse_whole}
+use Rattle.json_patch.proofs.Members.{child_set}
+use Rattle.json_patch.proofs.Changes.{added_exact, removed_exact}
+use Rattle.json_patch.proofs.BlocksLeadBack.{step_of_set, found_append, undo_added}
 use Rattle.json_patch.proofs.Parents.{removed_in}
 use Rattle.json_patch.proofs.Locations.{option_map_some, split_whole}
 use Rattle.json_patch.proofs.Runs.{accepted, accepts_document, accepts_ran}
 use Rattle.json_patch.proofs.StepOutcomes.{leaves_document, leaves_stepped, removed_document, stands_document, stands_found}
-use Rattle.json_patch.proofs.BlocksLeadBack.{found_append, undo_added}
 
 -- ---- what is pointee after a change
 

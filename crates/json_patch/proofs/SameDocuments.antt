@@ -1,11 +1,8 @@
 -- On documents equality is `≡`, and what a comparison answers is what it says.
-use Rattle.json_patch.proofs.Common.{◌≡◌, ◌↔◌, IsTrue, List, [], ◌∷◌, Bool, true, Option, Some, IfSome, sym, ap, subst, rules, pointwise, Data, array, object, Items, item, Members, member, IsDocument, AreDocuments, AreMembers, Operation, Parts, parts_of, operation_of, operations, IsWholeOp, AreWhole, PatchOperation}
-use Rattle.std.specs.Bool.{Decides}
-use Rattle.std.specs.Ordering.{on}
-use Rattle.std.proofs.lemmas.Bool.Decides.{Decides-and, Decides-at, Decides-like}
-use Rattle.json_patch.specs.Same.{AreSame, AreSameItems, AreSameMembers, AreSameAt, AreSameParts, AreSameOperations, AreSameLists}
-use Rattle.json_patch.specs.SameComputed.{same, same_parts, same_operation}
+use Rattle.json_patch.proofs.Common.{◌≡◌, ◌↔◌, IsTrue, List, [], ◌∷◌, Bool, true, Option, Some, IfSome, sym, ap, subst, rules, pointwise, Data, array, object, Items, item, Members, member, IsDocument, AreDocuments, AreMembers, Operation, Parts, parts_of, operation_of, operations, IsWholeOp, AreWhole, PatchOperation, ℕ, Ordering, Equal, nat_cmp, refl, slice_cmp, no_members, get_member, IsBelowMembers, Decides, on, Decides-and, Decides-at, Decides-like, same, same_parts, same_operation}
+use Rattle.json_patch.specs.Same.{AreSame, AreSameItems, AreSameMembers, AreSameAt, AreSameParts, AreSameOperations, AreSameLists, AreInOrder}
 use Rattle.json_patch.specs.SameLaws.{AreSame-refl, AreSame-sym, AreSame-trans, same-Decides, parts-refl, parts-Decides}
+use Rattle.json_patch.proofs.Members.{tied_same, less_back, below_more, below_absent, found_first}
 
 mutual
   pub AreSame-is : (d e : Data) → IsDocument d → AreSame d e → d ≡ e
@@ -72,3 +69,43 @@ operations_say r xs ys is = Decides-at r (pointwise (on operation_of same_operat
 
 -- what the laws of equality follow from
 pub ruleset laws_of_equality = (AreSame-refl, AreSame-sym, AreSame-trans, AreSame-document, AreSameLists-whole)
+
+-- ---- objects whose members stand in order are the same where each name has the same in both
+
+abbrev AreSameByName : Members → Members → Type 0
+AreSameByName ms ns = (q : List ℕ) → AreSameAt (get_member q ms) (get_member q ns)
+
+by_name : (ms ns : Members) → AreSameMembers ms ns → AreSameByName ms ns
+by_name (member k d ms) (member l e ns) h q = search (rules, by_name ms ns)
+by_name ms ns h q = search rules
+
+module _ (k : List ℕ) (d e : Data) (ms ns : Members) (below : IsBelowMembers k ms) (under : IsBelowMembers k ns) (same : AreSameByName (member k d ms) (member k e ns)) where
+  first_same : AreSame d e
+  first_same = rw (found_first k d ms, found_first k e ns) at (same k)
+
+  rest_at : (q : List ℕ) (o : Ordering) → slice_cmp nat_cmp q k ≡ o → AreSameAt (get_member q ms) (get_member q ns)
+  rest_at q Equal is = let e : q ≡ k = tied_same q k is in rw (e, below_absent k ms below, below_absent k ns under) tt
+  rest_at q o is = search rules
+
+-- a name that is below all of ns is not in ns
+left_alone : (k : List ℕ) (d : Data) (ms ns : Members) → IsBelowMembers k ns → AreSameAt (get_member k (member k d ms)) (get_member k ns) → ⊥
+left_alone k d ms ns h same = rw (found_first k d ms, below_absent k ns h) at same
+
+right_alone : (k : List ℕ) (e : Data) (ms ns : Members) → IsBelowMembers k ms → AreSameAt (get_member k ms) (get_member k (member k e ns)) → ⊥
+right_alone k e ms ns h same = rw (found_first k e ns, below_absent k ms h) at same
+
+step : (o : Ordering) (k l : List ℕ) (d e : Data) (ms ns : Members) → slice_cmp nat_cmp k l ≡ o → IsBelowMembers k ms → IsBelowMembers l ns
+    → AreSameByName (member k d ms) (member l e ns) → (AreSameByName ms ns → AreSameMembers ms ns) → AreSameMembers (member k d ms) (member l e ns)
+step Equal k l d e ms ns is below under same rest = search (rules, first_same k d e ms ns below, rest_at k d e ms ns below, tied_same k l is, first_same, rest_at, tied_same)
+step o k l d e ms ns is below under same rest = search (rules, left_alone, below_more, less_back, right_alone)
+
+in_turn : (ms ns : Members) → AreInOrder ms → AreInOrder ns → AreSameByName ms ns → AreSameMembers ms ns
+in_turn no_members no_members h g same = tt
+in_turn no_members (member l e ns) h g same = absurd (right_alone l e no_members ns tt (same l))
+in_turn (member k d ms) no_members h g same = absurd (left_alone k d ms no_members tt (same k))
+in_turn (member k d ms) (member l e ns) h g same =
+    step (slice_cmp nat_cmp k l) k l d e ms ns refl h.0 g.0 same (λ s. in_turn ms ns h.1 g.1 s)
+
+pub same_by_name : (ms ns : Members) → AreInOrder ms → AreInOrder ns
+    → AreSame (object ms) (object ns) ↔ ((k : List ℕ) → AreSameAt (get_member k ms) (get_member k ns))
+same_by_name ms ns h g = (by_name ms ns, in_turn ms ns h g)

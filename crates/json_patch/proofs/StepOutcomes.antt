@@ -1,13 +1,43 @@
 -- An operation leaves, or is refused for, exactly what is computed.
-use Rattle.json_patch.proofs.Common.{◌≡◌, ◌&&◌, ℕ, List, [], ◌∷◌, ◌++◌, Bool, true, false, bytes_eq, if◌then◌else◌, Option, Some, None, Ok, Err, refl, sym, ap, ◌∙◌, subst, rules, bytes_eq-Decides, Data, Pointer, IsProperPrefix, IsDocument, IsAdded, IsRemoved, IsReplaced, Operation, add, remove, replace, move, copy, test, IsWholeOp, PatchErrorKind, TestFailed, InvalidFromPointer, InvalidPointer, CannotMoveInsideItself, StandsAt, Never, Leaves, Refuses, pointee, after_add, after_remove, after_replace, begins, or_refused, after_move, after_copy, after_test, after_step}
-use Rattle.json_patch.specs.SameComputed.{same}
+use Rattle.json_patch.proofs.Common.{◌≡◌, ℕ, List, [], ◌∷◌, ◌++◌, Option, Some, option_map, option_and_then, refl, ap, rules, Data, Segment, child, segment_of, set_child, pointee, after_change, after_replace, front_of, last_of, ◌&&◌, Bool, true, false, bytes_eq, if◌then◌else◌, None, Ok, Err, sym, ◌∙◌, subst, bytes_eq-Decides, Pointer, IsProperPrefix, IsDocument, IsAdded, IsRemoved, IsReplaced, Operation, add, remove, replace, move, copy, test, IsWholeOp, PatchErrorKind, TestFailed, InvalidFromPointer, InvalidPointer, CannotMoveInsideItself, StandsAt, Never, Leaves, Refuses, after_add, after_remove, begins, or_refused, after_move, after_copy, after_test, after_step, same}
+use Rattle.json_patch.proofs.Changes.{added_is, added_none, IsAdded_document, removed_is, removed_none, replaced_is, replaced_none, added_exact, removed_exact, replaced_exact}
+use Rattle.json_patch.proofs.Locations.{resolves_document, found_resolves, resolves_found}
 use Rattle.json_patch.proofs.SameDocuments.{same-is, same-refl}
-use Rattle.json_patch.proofs.Locations.{resolves_document}
-use Rattle.json_patch.proofs.Pointees.{found_resolves, resolves_found}
-use Rattle.json_patch.proofs.Additions.{added_is, added_none, IsAdded_document}
-use Rattle.json_patch.proofs.Removals.{removed_is, removed_none}
-use Rattle.json_patch.proofs.Replacements.{replaced_is, replaced_none}
-use Rattle.json_patch.proofs.OneResult.{added_exact, removed_exact, replaced_exact}
+
+-- ---- an operation as a walk to the parent, a change there, and the parent put back
+
+again : (o : Option Data) → o ≡ option_and_then (λ q. Some q) o
+again o = search rules
+
+inside : (g : Data → Data) (h : Data → Option Data) (o : Option Data) → option_map g (option_and_then h o) ≡ option_and_then (λ q. option_map g (h q)) o
+inside g h o = search rules
+
+within : (g : Data → Data) (f : Data → Option Data) (h : Data → Option Data) (o : Option Data)
+    → option_map g (option_and_then (λ p. option_and_then h (f p)) o) ≡ option_and_then (λ p. option_and_then (λ q. option_map g (h q)) (f p)) o
+within g f h o = search rules
+
+abbrev Walks : (Data → Option Data) → Data → List (List ℕ) → Type 0
+Walks f d P = after_change f d P ≡ option_and_then (λ p. option_and_then (λ q. after_replace d P q) (f p)) (pointee d P)
+
+module _ (f : Data → Option Data) (d : Data) (P : List (List ℕ)) (more : (c : Data) → Walks f c P) where
+  at_step : (o : Option Segment) → option_and_then (λ s. option_and_then (λ c. option_map (λ e. set_child s e d) (after_change f c P)) (child s d)) o
+      ≡ option_and_then (λ p. option_and_then (λ q. option_and_then (λ s. option_and_then (λ c. option_map (λ e. set_child s e d) (after_replace c P q)) (child s d)) o) (f p))
+      (option_and_then (λ s. option_and_then (λ c. pointee c P) (child s d)) o)
+  at_step o = search rules
+
+pub altered_walks : (f : Data → Option Data) (d : Data) (P : List (List ℕ)) → Walks f d P
+altered_walks f d [] = again (f d)
+altered_walks f d (t ∷ P) = at_step f d P (λ c. altered_walks f c P) (segment_of d t)
+
+pub front_append : (u t : List ℕ) (P : List (List ℕ)) → front_of u (P ++ t ∷ []) ≡ u ∷ P
+front_append u t [] = refl
+front_append u t (w ∷ P) = ap (λ Q. u ∷ Q) (front_append w t P)
+
+pub last_append : (u t : List ℕ) (P : List (List ℕ)) → last_of u (P ++ t ∷ []) ≡ t
+last_append u t [] = refl
+last_append u t (w ∷ P) = last_append w t P
+
+-- ---- an operation leaves, or is refused for, exactly what is computed
 
 -- ---- proper prefixes
 

@@ -1,12 +1,45 @@
 -- A recorded run, undone.
-use Rattle.json_patch.proofs.Common.{common_steps, ◌≡◌, ◌+◌, ℕ, List, [], ◌∷◌, ◌++◌, length, drop, take, Bool, bytes_eq, if◌then◌else◌, Vec, vec_len, Global, Option, Some, None, Result, Ok, Err, IfOk, refl, sym, ap, ◌∙◌, subst, append_assoc, arith, rules, IsErrAnd, map-append, reverse-append, Data, view, Value, Array, items_len-items_view, view-Array, Pointer, IsPrefix, ReplacesLast, next_token, decimal_token, place_is_plain, ComesTo, pointee, front_of, last_of, block, settled_token, undo_add, undo_at, undo_in, with_found, Operation, move, replace, operation_of, operations, path_of, after_run, then_run, after_step, strip, AreUndos, IsUndo, IsUndoable, Records, count_in, PatchErrorKind, StepFault, PatchOperation}
-use Rattle.std.specs.declared.alloc.AllocError.{AllocError}
-use mathlib.Core.List.{reverse}
-use Rattle.json_patch.specs.InPlace.{AreUnescaped, IsUnescaped}
-use Rattle.json_patch.specs.declared.record.Keep.TheVariants.{Inverse}
-use Rattle.json_patch.proofs.Below.{drop-append}
-use Rattle.json_patch.proofs.Parents.{no_last}
+use Rattle.json_patch.proofs.Common.{common_steps, ◌≡◌, ◌<◌, ◌-◌, ℕ, suc, List, ◌∷◌, length, get_or, IsTrue, true, false, sym, ◌∙◌, subst, arith, rules, Operation, test, IsMove, operation_of, operations, IsUndoable, PatchOperation, ◌+◌, [], ◌++◌, drop, take, Bool, bytes_eq, if◌then◌else◌, Vec, vec_len, Global, Option, Some, None, Result, Ok, Err, IfOk, refl, ap, append_assoc, IsErrAnd, map-append, reverse-append, Data, view, Value, Array, items_len-items_view, view-Array, Pointer, IsPrefix, ReplacesLast, next_token, decimal_token, place_is_plain, ComesTo, pointee, front_of, last_of, block, settled_token, undo_add, undo_at, undo_in, with_found, move, replace, path_of, after_run, then_run, after_step, strip, AreUndos, IsUndo, Records, count_in, PatchErrorKind, StepFault, AreInPlace, IsInPlace, AreTestsThenRemove, AreUnescaped, IsUnescaped, AllocError, reverse, Inverse}
+use Rattle.std.specs.Prelude.{◌↔◌}
 use Rattle.json_patch.proofs.Locations.{split_is, split_whole}
+use Rattle.json_patch.proofs.Parents.{no_last}
+use Rattle.json_patch.proofs.ProgramRuns.{IsAt}
+use Rattle.json_patch.proofs.Locality.{drop-append}
+
+-- ---- operations that can be undone with no memory, by their number
+
+-- ---- an operation that can be undone, by its number
+
+same_at : (os : List PatchOperation) (k : ℕ) (x o : PatchOperation) → k < length os → get_or os k x ≡ get_or os k o
+same_at os k x o less = grind (arith, common_steps)
+
+pub undoable_at : (os : List PatchOperation) (k : ℕ) (x o : PatchOperation) → k < length os → IsAt os k x → IsAt os k o → IsUndoable (operation_of x) → IsUndoable (operation_of o)
+undoable_at os k x o less at is h = subst (λ y. IsUndoable (operation_of y)) (at ∙ same_at os k x o less ∙ sym is) h
+
+pub not_move : (op : Operation) → IsUndoable op → IsMove op → ⊥
+not_move op h m = search rules
+
+-- ---- `test`s and then at most one `remove`
+
+pub tests_in_place : (ops : List Operation) → AreTestsThenRemove ops → AreInPlace ops
+tests_in_place (test P v ∷ ops) h = (tt, tests_in_place ops h)
+tests_in_place ops h = search rules
+
+-- but for the last, each can be undone
+first_test : (op next : Operation) (ops : List Operation) → AreTestsThenRemove (op ∷ next ∷ ops) → IsUndoable op × AreTestsThenRemove (next ∷ ops)
+first_test op next ops h = search rules
+
+test_undoable : (os : List PatchOperation) (k : ℕ) (o : PatchOperation) → 1 < length os - k → IsAt os k o → AreTestsThenRemove (operations os) → IsUndoable (operation_of o)
+test_undoable (x ∷ y ∷ os) (suc k) o less is h = test_undoable (y ∷ os) k o (omega arith) is (first_test (operation_of x) (operation_of y) (operations os) h).1
+test_undoable os k o less is h = search (rules, first_test)
+
+pub not_undoable : (os : List PatchOperation) (k : ℕ) (o : PatchOperation) → 1 < length os - k → IsAt os k o → AreTestsThenRemove (operations os) → (IsTrue false ↔ IsUndoable (operation_of o)) → ⊥
+not_undoable os k o less is h told = let yes : false ≡ true = told.1 (test_undoable os k o less is h) in cc
+
+pub move_not_in_place : (op : Operation) → IsMove op → IsInPlace op → ⊥
+move_not_in_place op m h = search rules
+
+-- ---- a recorded run, undone
 
 -- ---- where what undoes an operation works
 

@@ -28,7 +28,7 @@ ghost use Rattle.json_patch.specs.declared.error.PatchErrorKind.{PatchErrorKind}
 ghost use Rattle.json_patch.specs.declared.error.ReadKind.{ReadKind};
 
 /// Single operations and runs.
-#[tactic(auto, using(crate::proofs::Inverses::step_left, crate::proofs::Inverses::step_refused, crate::proofs::Inverses::run_accepted, crate::proofs::Inverses::run_refused, crate::proofs::Runs::ends, crate::proofs::Runs::accepts_document, crate::proofs::Inverses::joined, crate::proofs::Runs::refuses_first, crate::proofs::Runs::refuses_second, crate::proofs::Runs::tests_end))]
+#[tactic(auto, using(crate::proofs::Blocks::step_left, crate::proofs::Blocks::step_refused, crate::proofs::Blocks::run_accepted, crate::proofs::Blocks::run_refused, crate::proofs::Runs::ends, crate::proofs::Runs::accepts_document, crate::proofs::Blocks::joined, crate::proofs::Runs::refuses_first, crate::proofs::Runs::refuses_second, crate::proofs::Runs::tests_end))]
 pub fn runs()
     // What an operation leaves is what is computed.
     ensures step_left { (d : Data) (op : Operation) → IsDocument d → IsWholeOp op
@@ -122,7 +122,7 @@ pub fn locality()
 
 /// What add, remove and replace leave: one document, where they are defined, and it is what is
 /// computed.
-#[tactic(auto, using(crate::proofs::Additions::added_one, crate::proofs::OneResult::added_computed, crate::proofs::Additions::IsAdded_document, crate::proofs::Removals::removed_there, crate::proofs::Replacements::replaced_there))]
+#[tactic(auto, using(crate::proofs::Changes::added_one, crate::proofs::Changes::added_computed, crate::proofs::Changes::IsAdded_document, crate::proofs::Changes::removed_there, crate::proofs::Changes::replaced_there))]
 pub fn changes()
     // Where a pointer has a target, add leaves a document.
     ensures added_at_a_target { (d : Data) (P : Pointer) (v : Data) (L : List Segment) (s : Segment)
@@ -172,7 +172,7 @@ pub fn changes()
 {}
 
 /// The operations that undo a run.
-#[tactic(auto, using(crate::proofs::Inverses::block_exactly, crate::proofs::Inverses::block_leads_back, crate::proofs::Inverses::inverse_exactly, crate::proofs::Inverses::inverse_leads_back, crate::proofs::Plain::inverse_is_plain, crate::proofs::Inverses::passes_back, crate::proofs::Inverses::inverse_again))]
+#[tactic(auto, using(crate::proofs::Blocks::block_exactly, crate::proofs::Blocks::block_leads_back, crate::proofs::Blocks::inverse_exactly, crate::proofs::Blocks::inverse_leads_back, crate::proofs::Plain::inverse_is_plain, crate::proofs::Blocks::passes_back, crate::proofs::Blocks::inverse_again))]
 pub fn inverse()
     // The block of an accepted operation is the one that is computed.
     ensures block_is_computed { (d : Data) (op : Operation) (e : Data) → IsDocument d → IsWholeOp op
@@ -213,7 +213,7 @@ pub fn inverse()
 {}
 
 /// Patches as JSON values.
-#[tactic(auto, using(crate::proofs::PatchValues::written_reads_back, crate::proofs::PatchValues::written_reads_alone, crate::proofs::PatchValues::written_fields_read_back, crate::proofs::PatchValues::written_patch_document, crate::proofs::ReadItems::patch_whole))]
+#[tactic(auto, using(crate::proofs::PatchValues::written_reads_back, crate::proofs::PatchValues::written_reads_alone, crate::proofs::PatchValues::written_fields_read_back, crate::proofs::PatchValues::written_patch_document, crate::proofs::PatchFaults::patch_whole))]
 pub fn values()
     // Each value reads as one patch, or is refused with one number and kind, and never both.
     ensures read_or_refused { (v : Data) → ((ops : List Operation) × IsRead v ops)
@@ -250,7 +250,7 @@ pub fn values()
 {}
 
 /// Equality of values and of lists of operations.
-#[tactic(auto, using(crate::proofs::SameDocuments::laws_of_equality, crate::proofs::SameMembers::same_by_name))]
+#[tactic(auto, using(crate::proofs::SameDocuments::laws_of_equality, crate::proofs::SameDocuments::same_by_name))]
 pub fn equality()
     // Each value is the same as itself.
     ensures same_as_itself { (d : Data) → AreSame d d }
@@ -301,7 +301,7 @@ pub fn merging()
 {}
 
 /// Documents: what is seen of them, and where pointers lead in them.
-#[tactic(auto, using(crate::proofs::PatchFaults::document_or_not, crate::proofs::Floats::no_float, crate::proofs::Alike::alike, crate::proofs::Pointees::resolves_standing))]
+#[tactic(auto, using(crate::proofs::PatchFaults::document_or_not, crate::proofs::Floats::no_float, crate::proofs::Alike::alike, crate::proofs::Locations::resolves_standing))]
 pub fn documents()
     // A value is a document, or it is none.
     ensures document_or_not { (d : Data) → IsDocument d ⊎ (IsDocument d → ⊥) }

@@ -77,7 +77,7 @@ pub(crate) fn edit_at(
 }
 
 /// Makes the edit in the container itself.
-#[tactic(auto, using(crate::proofs::Descents::attempts_at_members, serde_json::specs::declared::value::Value::the_lemmas, crate::proofs::Descents::displaces_at_members))]
+#[tactic(auto, using(crate::proofs::Containers::attempts_at_members, serde_json::specs::declared::value::Value::the_lemmas, crate::proofs::Containers::displaces_at_members))]
 fn edit_in(
     alloc: Global,
     container: &mut Value,
@@ -135,7 +135,7 @@ fn edit_members(
     }
 }
 
-#[tactic(auto, using(crate::proofs::Attempts::refused_attempt, crate::proofs::Containers::inserts_nowhere, crate::proofs::Containers::takes_no_item, crate::proofs::Containers::inserts_item, crate::proofs::Containers::takes_item, crate::proofs::Containers::found_item))]
+#[tactic(auto, using(crate::proofs::Containers::refused_attempt, crate::proofs::Containers::inserts_nowhere, crate::proofs::Containers::takes_no_item, crate::proofs::Containers::inserts_item, crate::proofs::Containers::takes_item, crate::proofs::Containers::found_item))]
 fn edit_items(items: &mut Vec<Value>, token: Token<'_>, edit: Edit) -> Result<Displaced, StepFault>
     ensures leaves { Attempts result
         (made_by edit (token_of token.entry) (array (items_view items.old.items)))
@@ -229,7 +229,7 @@ pub(crate) fn name_of<'a>(alloc: Global, token: Token<'a>) -> Result<CowStr<'a>,
 }
 
 /// The place of the item that a token names, among so many.
-#[tactic(auto, using(crate::proofs::Indices::refused, crate::proofs::Indices::item_outside))]
+#[tactic(auto, using(crate::proofs::Containers::refused, crate::proofs::Containers::item_outside))]
 pub(crate) fn item_index(token: Token<'_>, len: usize) -> Result<usize, PatchErrorKind>
     ensures { MatchResult result
         (λ i. (i < len) × (place_of (token_of token.entry) ≡ Some i))

@@ -1,5 +1,4 @@
-use Rattle.json_patch.proofs.Common.{◌≡◌, drop, items_view, members_view}
-use Rattle.json_patch.specs.SameComputed.{same_items, same_members}
+use Rattle.json_patch.proofs.Common.{◌≡◌, drop, items_view, members_view, same_items, same_members}
 use Rattle.json_patch.proofs.equality.+same.Given as goal
 
 abbrev pub invariant-same_lists-loop-x : goal.invariant-same_lists-loop-x

@@ -1,5 +1,4 @@
-use Rattle.json_patch.proofs.Common.{rules}
-use Rattle.json_patch.specs.PartsView.{parts_view}
+use Rattle.json_patch.proofs.Common.{rules, parts_view}
 use Rattle.json_patch.proofs.SameDocuments.{parts_say}
 use Rattle.json_patch.proofs.equality.same_parts.Goals as goal
 

@@ -1,8 +1,5 @@
-use Rattle.json_patch.proofs.Additions.{added_there}
-use Rattle.json_patch.proofs.Removals.{removed_one}
-use Rattle.json_patch.proofs.OneResult.{removed_computed, replaced_computed}
-use Rattle.json_patch.proofs.Replacements.{replaced_one}
-use Rattle.json_patch.proofs.Inverses.{replace_elsewhere}
+use Rattle.json_patch.proofs.Changes.{added_there, removed_one, removed_computed, replaced_computed, replaced_one}
+use Rattle.json_patch.proofs.Blocks.{replace_elsewhere}
 use Rattle.json_patch.proofs.laws.changes.Goals as goal
 
 pub returns-clause-added_at_a_target : goal.returns-clause-added_at_a_target

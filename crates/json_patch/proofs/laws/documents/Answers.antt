@@ -1,4 +1,4 @@
-use Rattle.json_patch.proofs.Pointees.{found_computed}
+use Rattle.json_patch.proofs.Locations.{found_computed}
 use Rattle.json_patch.proofs.laws.documents.Goals as goal
 
 pub returns-clause-found_is_computed : goal.returns-clause-found_is_computed

@@ -1,5 +1,4 @@
-use Rattle.json_patch.proofs.Locality.{runs_alike}
-use Rattle.json_patch.proofs.InversesBelow.{inverses_alike}
+use Rattle.json_patch.proofs.Locality.{runs_alike, inverses_alike}
 use Rattle.json_patch.proofs.SharedTokens.{shared_iff}
 use Rattle.json_patch.proofs.laws.locality.Goals as goal
 

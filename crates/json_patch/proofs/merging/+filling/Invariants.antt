@@ -1,5 +1,5 @@
 use Rattle.json_patch.proofs.Common.{◌≡◌, members_view, AreMembers, IsFilledMember, members_before}
-use Rattle.json_patch.proofs.MergeLoops.{Passes}
+use Rattle.json_patch.proofs.MergeFills.{Passes}
 use Rattle.json_patch.proofs.merging.+filling.Given as goal
 
 abbrev pub invariant-fill-loop-name : goal.invariant-fill-loop-name

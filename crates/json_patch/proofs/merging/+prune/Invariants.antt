@@ -1,6 +1,5 @@
-use Rattle.json_patch.proofs.Common.{view, members_view, AreMembers, IsDocument, IsPrunedMember}
-use Rattle.json_patch.specs.MergedComputed.{members_of}
-use Rattle.json_patch.proofs.MergeLoops.{Passes}
+use Rattle.json_patch.proofs.Common.{view, members_view, AreMembers, IsDocument, IsPrunedMember, members_of}
+use Rattle.json_patch.proofs.MergeFills.{Passes}
 use Rattle.json_patch.proofs.merging.+prune.Given as goal
 
 abbrev pub invariant-loop-name : goal.invariant-loop-name

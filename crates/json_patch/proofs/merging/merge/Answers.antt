@@ -1,5 +1,4 @@
-use Rattle.json_patch.proofs.Common.{rules, refl, sym, ap, ◌∙◌, Object, the_lemmas, Ok, Err, IsDocument, subst}
-use Rattle.json_patch.specs.declared.merging.Former.{Filled}
+use Rattle.json_patch.proofs.Common.{rules, refl, sym, ap, ◌∙◌, Object, the_lemmas, Ok, Err, IsDocument, subst, Filled}
 use Rattle.json_patch.proofs.MergeFills.{of_objects, other_value, filled_whole}
 use Rattle.json_patch.proofs.merging.merge.Goals.{in-Object+in_default-doc, in_default}
 use Rattle.json_patch.proofs.merging.merge.Goals as goal

@@ -1,8 +1,5 @@
-use Rattle.json_patch.proofs.Common.{◌≡◌, ℕ, List, [], ◌++◌, drop, items_view, members_view, printed_items, printed_members}
-use Rattle.std.specs.Fmt.{HasWritten, IsPlainFormatter}
+use Rattle.json_patch.proofs.Common.{◌≡◌, ℕ, List, [], ◌++◌, drop, items_view, members_view, printed_items, printed_members, HasWritten, IsPlainFormatter, Utf8, shadow}
 use Rattle.json_patch.proofs.printing.+printing.Given as goal
-use denote.Text.{Utf8}
-use denote.Shadow.{shadow}
 
 -- what is written, and the items that are left, are all the items
 abbrev pub invariant-write_items-items : goal.invariant-write_items-items

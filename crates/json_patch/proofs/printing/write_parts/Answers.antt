@@ -1,6 +1,4 @@
-use Rattle.json_patch.proofs.Common.{ap, rules, is_ok}
-use Rattle.std.proofs.Output.{has_written_append, has_written_of_eq}
-use Rattle.json_patch.specs.PartsView.{parts_view}
+use Rattle.json_patch.proofs.Common.{ap, rules, is_ok, has_written_append, has_written_of_eq, parts_view}
 use Rattle.json_patch.proofs.Texts.{printed_operation}
 use Rattle.json_patch.proofs.printing.write_parts.Goals as goal
 

@@ -1,7 +1,4 @@
-use Rattle.json_patch.proofs.Common.{◌≡◌, [], ◌++◌, ap, rules, refl, is_ok, character_text}
-use Rattle.std.proofs.lemmas.Str.{IsUtf8-past_char}
-use Rattle.std.proofs.Output.{has_written_append, has_written_of_eq}
-use Rattle.std.specs.Str.Iter.{chars_rest}
+use Rattle.json_patch.proofs.Common.{◌≡◌, [], ◌++◌, ap, rules, refl, is_ok, character_text, IsUtf8-past_char, has_written_append, has_written_of_eq, chars_rest}
 use Rattle.json_patch.proofs.Texts.{escaped_more, quoted_end}
 use Rattle.json_patch.proofs.printing.write_text.Goals as goal
 

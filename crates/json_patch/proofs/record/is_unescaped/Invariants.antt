@@ -1,5 +1,4 @@
-use Rattle.json_patch.proofs.Common.{◌↔◌, tokens_left, tokens_of}
-use Rattle.json_patch.specs.InPlace.{AreUnescaped}
+use Rattle.json_patch.proofs.Common.{◌↔◌, tokens_left, tokens_of, AreUnescaped}
 use Rattle.json_patch.proofs.record.is_unescaped.Given as goal
 
 abbrev pub invariant-loop-token : goal.invariant-loop-token

@@ -1,5 +1,4 @@
-use Rattle.json_patch.proofs.Common.{common_steps, Ok, ap, arith, view, tokens_of, operations}
-use Rattle.json_patch.specs.declared.walk.Displaced.{Displaced}
+use Rattle.json_patch.proofs.Common.{common_steps, Ok, ap, arith, view, tokens_of, operations, Displaced}
 use Rattle.json_patch.proofs.Parents.{move_goes, move_stops}
 use Rattle.json_patch.proofs.Undos.{move_refused}
 use Rattle.json_patch.proofs.record.record_move.Goals as goal

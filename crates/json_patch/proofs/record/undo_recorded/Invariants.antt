@@ -1,5 +1,4 @@
-use Rattle.json_patch.proofs.Common.{◌≡◌, Ok, Data, view, operations, after_run, AreUndos}
-use mathlib.Core.List.{reverse}
+use Rattle.json_patch.proofs.Common.{◌≡◌, Ok, Data, view, operations, after_run, AreUndos, reverse}
 use Rattle.json_patch.proofs.record.undo_recorded.Given as goal
 
 abbrev pub invariant-loop-operation : goal.invariant-loop-operation

@@ -1,8 +1,6 @@
 use Rattle.json_patch.proofs.Common.{Err, Vec, Global, rules, view, tokens_of, operation_of, PatchOperation}
-use Rattle.json_patch.proofs.ProgramRuns.{not_stopped, recorded_back, recorded_more, reported_names, state_more}
-use Rattle.json_patch.proofs.PartRuns.{begun_whole, block_whole, step_whole, stripped_whole}
-use Rattle.json_patch.proofs.Undoables.{not_move, not_undoable, tests_in_place, undoable_at}
-use Rattle.json_patch.proofs.Undos.{block_light, light_more}
+use Rattle.json_patch.proofs.ProgramRuns.{not_stopped, recorded_back, recorded_more, reported_names, state_more, begun_whole, block_whole, step_whole, stripped_whole}
+use Rattle.json_patch.proofs.Undos.{not_move, not_undoable, tests_in_place, undoable_at, block_light, light_more}
 use Rattle.json_patch.proofs.run.run.Goals as goal
 
 pub record_step-requires : goal.record_step-requires

@@ -1,6 +1,5 @@
 use Rattle.json_patch.proofs.Common.{◌≡◌, ◌<◌, ◌≤◌, take, length, refl, ap, ◌∙◌, arith, rules, length-map, take-map, view, tokens_of, operation_of, operations}
-use Rattle.json_patch.proofs.ProgramRuns.{reported_names, state_document, take_past}
-use Rattle.json_patch.proofs.PartRuns.{IsAtPart, Part, begun_part, made_put, part_at, part_end, part_first, part_more, part_recorded, part_stops, ended_at}
+use Rattle.json_patch.proofs.ProgramRuns.{reported_names, state_document, take_past, IsAtPart, Part, begun_part, made_put, part_at, part_end, part_first, part_more, part_recorded, part_stops, ended_at}
 use Rattle.json_patch.proofs.Undos.{same_count, take_more}
 use Rattle.json_patch.proofs.run.run_on_copy.Goals as goal
 

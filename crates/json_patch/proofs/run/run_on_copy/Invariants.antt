@@ -1,6 +1,5 @@
-use Rattle.json_patch.proofs.Common.{◌≡◌, ◌≤◌, take, view, tokens_of, operations, AreRecorded, From}
-use Rattle.json_patch.specs.declared.record.Keep.TheVariants.{Inverse}
-use Rattle.json_patch.proofs.PartRuns.{Part}
+use Rattle.json_patch.proofs.Common.{◌≡◌, ◌≤◌, take, view, tokens_of, operations, AreRecorded, From, Inverse}
+use Rattle.json_patch.proofs.ProgramRuns.{Part}
 use Rattle.json_patch.proofs.run.run_on_copy.Given as goal
 
 abbrev pub invariant-loop-number : goal.invariant-loop-number

@@ -1,7 +1,6 @@
 use Rattle.json_patch.proofs.Common.{Err, rules, view, tokens_of, operation_of}
-use Rattle.json_patch.proofs.ProgramRuns.{in_place_at, not_stopped, reported_names, state_more}
-use Rattle.json_patch.proofs.PartRuns.{begun_whole, ended_at, recorded_at, step_whole, stripped_whole}
-use Rattle.json_patch.proofs.Undoables.{move_not_in_place}
+use Rattle.json_patch.proofs.ProgramRuns.{in_place_at, not_stopped, reported_names, state_more, begun_whole, ended_at, recorded_at, step_whole, stripped_whole}
+use Rattle.json_patch.proofs.Undos.{move_not_in_place}
 use Rattle.json_patch.proofs.run.run_part.Goals as goal
 
 pub returns-then-end-start-gt1-clause-in_place : goal.returns-then-end-start-gt1-clause-in_place

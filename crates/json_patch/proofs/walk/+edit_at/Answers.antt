@@ -1,6 +1,5 @@
-use Rattle.json_patch.proofs.Common.{rules, ap, sym, ◌∙◌, Array, Object, the_lemmas, view, token_of, tokens_left, after_change}
-use Rattle.json_patch.specs.Edits.{made_by}
-use Rattle.json_patch.proofs.Descents.{displaces_below, found_at_item, found_at_member, next_within, walks_to_item, walks_to_member, walks_to_no_item, walks_to_no_member}
+use Rattle.json_patch.proofs.Common.{rules, ap, sym, ◌∙◌, Array, Object, the_lemmas, view, token_of, tokens_left, after_change, made_by}
+use Rattle.json_patch.proofs.Containers.{displaces_below, found_at_item, found_at_member, next_within, walks_to_item, walks_to_member, walks_to_no_item, walks_to_no_member}
 use Rattle.json_patch.proofs.walk.+edit_at.Goals as goal
 
 pub returns-in_default-get_mut-clause-leaves : goal.returns-in_default-get_mut-clause-leaves

@@ -1,5 +1,5 @@
 use Rattle.json_patch.proofs.Common.{[], refl, sym, token_of}
-use Rattle.json_patch.proofs.Descents.{found_at_item, found_no_item}
+use Rattle.json_patch.proofs.Containers.{found_at_item, found_no_item}
 use Rattle.json_patch.proofs.walk.child_of.Goals as goal
 
 pub returns-in-Ok : goal.returns-in-Ok

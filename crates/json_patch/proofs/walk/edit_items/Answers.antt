@@ -1,6 +1,5 @@
 use Rattle.json_patch.proofs.Common.{rules, view, token_of}
-use Rattle.json_patch.proofs.Attempts.{refused_attempt}
-use Rattle.json_patch.proofs.Containers.{swaps_item, swaps_no_item}
+use Rattle.json_patch.proofs.Containers.{refused_attempt, swaps_item, swaps_no_item}
 use Rattle.json_patch.proofs.walk.edit_items.Goals as goal
 
 pub returns-in_err-index-in-Swap-clause-leaves : goal.returns-in_err-index-in-Swap-clause-leaves

@@ -1,5 +1,5 @@
 use Rattle.json_patch.proofs.Common.{ap, ◌∙◌, view, pointee}
-use Rattle.json_patch.proofs.Pointees.{some_stands, none_stands}
+use Rattle.json_patch.proofs.Locations.{some_stands, none_stands}
 use Rattle.json_patch.proofs.walk.lookup.Goals as goal
 
 pub returns-clause-found : goal.returns-clause-found

@@ -1,5 +1,5 @@
 use Rattle.json_patch.proofs.Common.{rules, token_of}
-use Rattle.json_patch.proofs.Indices.{refused, slot_outside, slot_within}
+use Rattle.json_patch.proofs.Containers.{refused, slot_outside, slot_within}
 use Rattle.json_patch.proofs.walk.slot_index.Goals as goal
 
 pub returns-in_err-for_len_incl : goal.returns-in_err-for_len_incl

@@ -1,5 +1,5 @@
 use Rattle.json_patch.proofs.Common.{rules, take_all, the_lemmas}
-use Rattle.json_patch.proofs.ReadItems.{item_refused, item_read, reads_whole}
+use Rattle.json_patch.proofs.PatchFaults.{item_refused, item_read, reads_whole}
 use Rattle.json_patch.proofs.operation.Patch.from_value.Goals as goal
 
 pub returns-in-Err-Refused-clause-refused : goal.returns-in-Err-Refused-clause-refused

@@ -1,5 +1,5 @@
 use Rattle.json_patch.proofs.Common.{[], null, add, remove, replace, move, copy, test}
-use Rattle.json_patch.proofs.ReadItems.{named_fault}
+use Rattle.json_patch.proofs.PatchFaults.{named_fault}
 use Rattle.json_patch.proofs.operation.PatchOperation.from_value.Goals as goal
 
 pub returns-in_err-from_value-in-add-clause-refused : goal.returns-in_err-from_value-in-add-clause-refused

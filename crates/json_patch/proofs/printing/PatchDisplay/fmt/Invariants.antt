@@ -1,8 +1,5 @@
-use Rattle.json_patch.proofs.Common.{◌≡◌, ℕ, List, [], ◌++◌, drop, operations, operation_items, printed_items}
-use Rattle.std.specs.Fmt.{HasWritten, IsPlainFormatter}
+use Rattle.json_patch.proofs.Common.{◌≡◌, ℕ, List, [], ◌++◌, drop, operations, operation_items, printed_items, HasWritten, IsPlainFormatter, Utf8, shadow}
 use Rattle.json_patch.proofs.printing.PatchDisplay.fmt.Given as goal
-use denote.Text.{Utf8}
-use denote.Shadow.{shadow}
 
 -- what is written, and the operations that are left, are all the operations
 abbrev pub invariant-operations : goal.invariant-operations
