@@ -270,7 +270,7 @@ fn tells_faults_and_statuses(rt: HostRuntime) -> Result<(), Fail> {
 }
 
 /// An input of a mode, and its line.
-const ANSWERS: [(Mode, &[u8], &[u8]); 17] = [
+const ANSWERS: &[(Mode, &[u8], &[u8])] = &[
     (Mode::Patch, HAPPY, HAPPY_LINE),
     (
         Mode::Patch,
@@ -326,7 +326,7 @@ const ANSWERS: [(Mode, &[u8], &[u8]); 17] = [
 
 #[test]
 fn answers(rt: HostRuntime) -> Result<(), Fail> {
-    for (mode, text, line) in ANSWERS {
+    for &(mode, text, line) in ANSWERS {
         for (piece, interrupts) in [(1, false), (1, true), (7, true), (100, false)] {
             let mut reader = Drip::new(text, piece, interrupts);
             let mut writer = writer_with(rt.alloc(), Trouble::None);
@@ -344,7 +344,7 @@ fn answers(rt: HostRuntime) -> Result<(), Fail> {
 /// that answers `Memory` though memory is ample.
 #[test]
 fn read_always_fails(rt: HostRuntime) {
-    for (mode, text, line) in ANSWERS {
+    for &(mode, text, line) in ANSWERS {
         let mut reader = text;
         let mut writer = writer_with(rt.alloc(), Trouble::None);
         assert!(rt; run(rt.alloc(), mode, &mut reader, &mut writer).is_ok());
@@ -354,7 +354,7 @@ fn read_always_fails(rt: HostRuntime) {
 
 #[test]
 fn always_out_of_memory(rt: HostRuntime) -> Result<(), Fail> {
-    for (mode, text, line) in ANSWERS {
+    for &(mode, text, line) in ANSWERS {
         assert!(rt;
             respond(rt.alloc(), mode, text)?.as_bytes() == line,
             "at {text:?}"
@@ -526,25 +526,35 @@ fn nested_object(rt: &HostRuntime, depth: usize) -> Result<Vec<u8>, Fail> {
     Ok(text)
 }
 
+/// An object, and a list that copies the document into its member so many times.
+fn copies(rt: &HostRuntime, number: usize) -> Result<Vec<u8>, Fail> {
+    let copy = b"{\"op\":\"copy\",\"from\":\"\",\"path\":\"/a\"}";
+    let mut text = Vec::new(rt.alloc());
+    text.extend_from_slice(b"[{\"a\":1},[")?;
+    text.extend_from_slice(copy)?;
+    for _ in 1..number {
+        text.push(b',')?;
+        text.extend_from_slice(copy)?;
+    }
+    text.extend_from_slice(b"]]")?;
+    Ok(text)
+}
+
 #[test]
 fn answers_deeper_than_it_reads(rt: HostRuntime) -> Result<(), Fail> {
-    let mut input = Vec::new(rt.alloc());
-    input.extend_from_slice(b"[{\"a\":1},[")?;
-    for number in 0..200 {
-        if number > 0 {
-            input.push(b',')?;
-        }
-        input.extend_from_slice(b"{\"op\":\"copy\",\"from\":\"\",\"path\":\"/a\"}")?;
-    }
-    input.extend_from_slice(b"]]")?;
+    let input = copies(&rt, 200)?;
     let deep = nested_object(&rt, 201)?;
     let mut writer = writer_with(rt.alloc(), Trouble::None);
     assert!(rt; run(rt.alloc(), Mode::Patch, &mut input.as_slice(), &mut writer).is_ok());
     assert!(rt; writer.taken.as_slice().strip_suffix(b"\n") == Some(deep.as_slice()));
+    Ok(())
+}
 
+#[test]
+fn reads_no_such_answer_again(rt: HostRuntime) -> Result<(), Fail> {
     let mut again = Vec::new(rt.alloc());
     again.push(b'[')?;
-    again.extend_from_slice(&deep)?;
+    again.extend_from_slice(&nested_object(&rt, 201)?)?;
     again.extend_from_slice(b",[]]")?;
     refuse(&rt, Mode::Patch, &again, 2, "input is not JSON")
 }
@@ -569,13 +579,13 @@ fn reads_127_levels(rt: HostRuntime) -> Result<(), Fail> {
     assert!(rt; run(rt.alloc(), Mode::Patch, &mut text.as_slice(), &mut writer).is_ok());
     assert_eq!(rt; writer.taken.len(), 253);
     assert!(rt; writer.taken.iter().filter(|byte| **byte == b'[').count() == 126);
-
-    let mut writer = writer_with(rt.alloc(), Trouble::None);
-    let text = nested(&rt, 127)?;
-    let result = run(rt.alloc(), Mode::Patch, &mut text.as_slice(), &mut writer);
-    assert!(rt; matches!(&result, Err(ToolFault::Syntax)));
-    assert!(rt; writer.calls == 0);
     Ok(())
+}
+
+#[test]
+fn reads_no_128_levels(rt: HostRuntime) -> Result<(), Fail> {
+    let text = nested(&rt, 127)?;
+    refuse(&rt, Mode::Patch, &text, 2, "input is not JSON")
 }
 
 #[test]
@@ -619,17 +629,19 @@ fn ends_where_always_interrupted(rt: HostRuntime) {
 }
 
 #[test]
-fn ends_where_too_much_comes(rt: HostRuntime) {
-    let room = LIMIT - HAPPY.len();
+fn reads_as_much_as_it_may(rt: HostRuntime) {
     let mut writer = writer_with(rt.alloc(), Trouble::None);
     let mut reader = Padded {
         rest: HAPPY,
-        spaces: room,
+        spaces: LIMIT - HAPPY.len(),
     };
     assert!(rt; run(rt.alloc(), Mode::Patch, &mut reader, &mut writer).is_ok());
     assert!(rt; writer.taken.as_slice() == HAPPY_LINE);
+}
 
-    for spaces in [room + 1, usize::MAX] {
+#[test]
+fn ends_where_too_much_comes(rt: HostRuntime) {
+    for spaces in [LIMIT - HAPPY.len() + 1, usize::MAX] {
         let mut writer = writer_with(rt.alloc(), Trouble::None);
         let mut reader = Padded {
             rest: HAPPY,
@@ -684,7 +696,7 @@ fn ended<R: Read + Drop>(
 const MODES: [Mode; 4] = [Mode::Patch, Mode::Record, Mode::Merge, Mode::Edit];
 
 /// An input of a mode, the status, what is written, and what is told.
-const ENDINGS: [(Mode, &[u8], u8, &[u8], &[u8]); 12] = [
+const ENDINGS: &[(Mode, &[u8], u8, &[u8], &[u8])] = &[
     (Mode::Patch, HAPPY, 0, HAPPY_LINE, b""),
     (Mode::Record, OVER, 0, OVER_BACK, b""),
     (Mode::Merge, TITLED, 0, TITLED_LINE, b""),
@@ -711,7 +723,7 @@ const NO_SUCH_ITEM_TOLD: &[u8] = b"operation '/0' failed at path '/-': path is i
 
 #[test]
 fn ends_with_the_status_of_the_answer(rt: HostRuntime) {
-    for (mode, input, number, line, text) in ENDINGS {
+    for &(mode, input, number, line, text) in ENDINGS {
         let (status, written, told) = ended(
             &rt,
             Ok(Some(mode)),

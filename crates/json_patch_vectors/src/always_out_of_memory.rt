@@ -1,107 +1,169 @@
 //! A body that only answers that memory is short meets each contract, since a growth may be refused
 //! at any time. Here each call that takes memory has enough of it, and its answer is compared.
 
+ghost use Rattle.std.specs.Prelude.{IfOk};
+ghost use Rattle.serde_json.specs.View.{view};
+ghost use Rattle.json_patch.specs.Document.{IsDocument};
+ghost use Rattle.json_patch.specs.Operation.{AreWhole, operations};
+
+use crate::runner::{Readable, assert_text};
 use json_patch::jsonptr::PointerBuf;
 use json_patch::{
     AddOperation, CopyOperation, MoveOperation, Patch, PatchOperation, RemoveOperation,
     ReplaceOperation, TestOperation, apply_patches, is_whole, merge, patch, patch_unsafe, pretty,
 };
-use serde_json::{Value, json};
+use serde_json::Value;
+use std::alloc::{AllocGlobal, Global};
+use std::process::Abort;
 use std::test::Fail;
+
+const FIRST: &str = r#"{"a":{"b":1},"l":[2]}"#;
+
+const PATCHED: &str = r#"{"a":[3],"l":[1,2]}"#;
+
+const UNDO: &str = concat!(
+    r#"[{"op":"replace","path":"/a","value":{}},{"op":"remove","path":"/l/0"},"#,
+    r#"{"op":"add","path":"/a/b","value":1}]"#
+);
+
+/// The document of this text.
+fn document(rt: &(impl Abort + AllocGlobal), text: &str) -> Result<Value, Fail>
+    ensures { IfOk result (λ document. IsDocument (view document)) }
+{
+    let document = Value::from_str(rt.alloc(), text)?;
+    assert!(rt; is_whole(&document), "{text} is whole");
+    Ok(document)
+}
+
+/// The patch that makes `PATCHED` of `FIRST`.
+fn changes(alloc: Global) -> Result<Patch, Fail>
+    ensures { IfOk result (λ changes. AreWhole (operations changes.0.items)) }
+{
+    let operations = concat!(
+        r#"[{"op":"move","from":"/a/b","path":"/l/0"},"#,
+        r#"{"op":"add","path":"/a","value":[3]}]"#
+    );
+    Ok(Patch::from_value(alloc, &Value::from_str(alloc, operations)?)?)
+}
 
 #[test]
 fn a_patch_is_applied(rt: HostRuntime) -> Result<(), Fail> {
-    let alloc = rt.alloc();
-    let first = json!(in alloc; {"a": {"b": 1}, "l": [2]})?;
-    let operations = json!(in alloc; [
-        {"op": "move", "from": "/a/b", "path": "/l/0"},
-        {"op": "add", "path": "/a", "value": [3]}
-    ])?;
-    let changes = Patch::from_value(alloc, &operations)?;
-    let expected = r#"{"a":[3],"l":[1,2]}"#;
-    assert!(rt; is_whole(&first));
+    let changes = changes(rt.alloc())?;
+    let mut document = document(&rt, FIRST)?;
+    assert!(rt; patch(rt.alloc(), &mut document, changes.as_slice()).is_ok());
+    assert_text(&rt, "patch", "made", &document, PATCHED)
+}
 
-    let mut copied = first.clone()?;
-    assert!(rt; patch(alloc, &mut copied, changes.as_slice()).is_ok());
-    assert_eq!(rt; copied.to_string(alloc)?.as_str(), expected);
+#[test]
+fn a_patch_is_applied_in_place(rt: HostRuntime) -> Result<(), Fail> {
+    let changes = changes(rt.alloc())?;
+    let mut document = document(&rt, FIRST)?;
+    assert!(rt; patch_unsafe(rt.alloc(), &mut document, changes.as_slice()).is_ok());
+    assert_text(&rt, "patch_unsafe", "made", &document, PATCHED)
+}
 
-    let mut in_place = first.clone()?;
-    assert!(rt; patch_unsafe(alloc, &mut in_place, changes.as_slice()).is_ok());
-    assert_eq!(rt; in_place.to_string(alloc)?.as_str(), expected);
-
-    let mut recorded = first.clone()?;
-    let undo = apply_patches(alloc, &mut recorded, changes.as_slice())?;
-    assert_eq!(rt; recorded.to_string(alloc)?.as_str(), expected);
-    let back = concat!(
-        r#"[{"op":"replace","path":"/a","value":{}},{"op":"remove","path":"/l/0"},"#,
-        r#"{"op":"add","path":"/a/b","value":1}]"#
-    );
-    assert_eq!(rt; undo.to_string(alloc)?.as_str(), back);
+#[test]
+fn a_patch_is_recorded(rt: HostRuntime) -> Result<(), Fail> {
+    let changes = changes(rt.alloc())?;
+    let mut document = document(&rt, FIRST)?;
+    let undo = apply_patches(rt.alloc(), &mut document, changes.as_slice())?;
+    assert_text(&rt, "apply_patches", "made", &document, PATCHED)?;
+    assert_eq!(rt; undo.to_string(rt.alloc())?.as_str(), UNDO);
     Ok(())
 }
 
 #[test]
-fn a_document_is_merged_and_printed(rt: HostRuntime) -> Result<(), Fail> {
-    let alloc = rt.alloc();
-    let mut document = json!(in alloc; {"a": 1})?;
-    let changes = json!(in alloc; {"a": null, "b": [true]})?;
-    merge(alloc, &mut document, &changes)?;
-    assert_eq!(rt; document.to_string(alloc)?.as_str(), r#"{"b":[true]}"#);
-    let text = pretty(alloc, &document)?;
+fn a_document_is_merged(rt: HostRuntime) -> Result<(), Fail> {
+    let changes = document(&rt, r#"{"a":null,"b":[true]}"#)?;
+    let mut document = document(&rt, r#"{"a":1}"#)?;
+    merge(rt.alloc(), &mut document, &changes)?;
+    assert_text(&rt, "merge", "made", &document, r#"{"b":[true]}"#)
+}
+
+#[test]
+fn a_document_is_printed(rt: HostRuntime) -> Result<(), Fail> {
+    let document = document(&rt, r#"{"b":[true]}"#)?;
+    let text = pretty(rt.alloc(), &document)?;
     assert_eq!(rt; text.as_str(), "{\n  \"b\": [\n    true\n  ]\n}");
     Ok(())
 }
 
 // The value is read from the text, written as it, and cloned.
-macro_rules! assert_answers {
-    ($rt:expr, $kind:ident, $made:expr, $text:expr) => {{
-        let alloc = $rt.alloc();
-        let made = $made;
-        let read = $kind::from_value(alloc, &Value::from_str(alloc, $text)?)?;
-        assert!($rt; read == made, "read from {}", $text);
-        let written = made.to_value(alloc)?;
-        assert_eq!($rt; written.to_string(alloc)?.as_str(), $text);
-        assert!($rt; made.clone(alloc)? == made, "a clone of {}", $text);
-    }};
+fn assert_answers<T: Readable>(
+    rt: &(impl Abort + AllocGlobal),
+    made: &T,
+    text: &str,
+) -> Result<(), Fail> {
+    let read = T::read(rt.alloc(), &Value::from_str(rt.alloc(), text)?)?;
+    assert!(rt; read == *made, "read from {text}");
+    assert_text(rt, text, "written", &made.written(rt.alloc())?, text)?;
+    assert!(rt; made.cloned(rt.alloc())? == *made, "a clone of {text}");
+    Ok(())
+}
+
+const WITH_VALUE: &str = r#"{"path":"/l/0","value":{"k":[7]}}"#;
+
+#[test]
+fn an_add_is_read_written_and_cloned(rt: HostRuntime) -> Result<(), Fail> {
+    let path = PointerBuf::parse(rt.alloc(), "/l/0")?;
+    let value = Value::from_str(rt.alloc(), r#"{"k":[7]}"#)?;
+    assert_answers(&rt, &AddOperation { path, value }, WITH_VALUE)
 }
 
 #[test]
-fn operations_are_read_written_and_cloned(rt: HostRuntime) -> Result<(), Fail> {
-    let alloc = rt.alloc();
-    let path = PointerBuf::parse(alloc, "/l/0")?;
-    let value = json!(in alloc; {"k": [7]})?;
-    let text = r#"{"path":"/l/0","value":{"k":[7]}}"#;
-    let add = AddOperation { path, value };
-    assert_answers!(rt, AddOperation, add.clone(alloc)?, text);
-    let AddOperation { path, value } = add.clone(alloc)?;
-    assert_answers!(rt, ReplaceOperation, ReplaceOperation { path, value }, text);
-    let AddOperation { path, value } = add;
-    assert_answers!(rt, TestOperation, TestOperation { path, value }, text);
+fn a_remove_is_read_written_and_cloned(rt: HostRuntime) -> Result<(), Fail> {
+    let path = PointerBuf::parse(rt.alloc(), "/a~1b")?;
+    let text = r#"{"path":"/a~1b"}"#;
+    assert_answers(&rt, &RemoveOperation { path }, text)
+}
 
-    let path = PointerBuf::parse(alloc, "/a~1b")?;
-    let remove = RemoveOperation { path };
-    assert_answers!(rt, RemoveOperation, remove, r#"{"path":"/a~1b"}"#);
+#[test]
+fn a_replace_is_read_written_and_cloned(rt: HostRuntime) -> Result<(), Fail> {
+    let path = PointerBuf::parse(rt.alloc(), "/l/0")?;
+    let value = Value::from_str(rt.alloc(), r#"{"k":[7]}"#)?;
+    let made = ReplaceOperation { path, value };
+    assert_answers(&rt, &made, WITH_VALUE)
+}
 
-    let from = PointerBuf::parse(alloc, "/x")?;
-    let path = PointerBuf::parse(alloc, "/y")?;
+#[test]
+fn a_move_is_read_written_and_cloned(rt: HostRuntime) -> Result<(), Fail> {
+    let from = PointerBuf::parse(rt.alloc(), "/x")?;
+    let path = PointerBuf::parse(rt.alloc(), "/y")?;
     let text = r#"{"from":"/x","path":"/y"}"#;
-    let moved = MoveOperation { from, path };
-    assert_answers!(rt, MoveOperation, moved.clone(alloc)?, text);
-    let MoveOperation { from, path } = moved;
-    assert_answers!(rt, CopyOperation, CopyOperation { from, path }, text);
-    Ok(())
+    assert_answers(&rt, &MoveOperation { from, path }, text)
 }
 
 #[test]
-fn patches_are_read_written_and_cloned(rt: HostRuntime) -> Result<(), Fail> {
-    let alloc = rt.alloc();
+fn a_copy_is_read_written_and_cloned(rt: HostRuntime) -> Result<(), Fail> {
+    let from = PointerBuf::parse(rt.alloc(), "/x")?;
+    let path = PointerBuf::parse(rt.alloc(), "/y")?;
+    let text = r#"{"from":"/x","path":"/y"}"#;
+    assert_answers(&rt, &CopyOperation { from, path }, text)
+}
+
+#[test]
+fn a_test_is_read_written_and_cloned(rt: HostRuntime) -> Result<(), Fail> {
+    let path = PointerBuf::parse(rt.alloc(), "/l/0")?;
+    let value = Value::from_str(rt.alloc(), r#"{"k":[7]}"#)?;
+    assert_answers(&rt, &TestOperation { path, value }, WITH_VALUE)
+}
+
+/// The `copy` of `/x` to `/y`.
+fn copy(alloc: Global) -> Result<PatchOperation, Fail> {
     let from = PointerBuf::parse(alloc, "/x")?;
     let path = PointerBuf::parse(alloc, "/y")?;
-    let operation = PatchOperation::Copy(CopyOperation { from, path });
+    Ok(PatchOperation::Copy(CopyOperation { from, path }))
+}
+
+#[test]
+fn an_operation_is_read_written_and_cloned(rt: HostRuntime) -> Result<(), Fail> {
     let text = r#"{"from":"/x","op":"copy","path":"/y"}"#;
-    assert_answers!(rt, PatchOperation, operation.clone(alloc)?, text);
-    let changes = Patch(vec![in alloc; operation]?);
+    assert_answers(&rt, &copy(rt.alloc())?, text)
+}
+
+#[test]
+fn a_patch_is_read_written_and_cloned(rt: HostRuntime) -> Result<(), Fail> {
+    let changes = Patch(vec![in rt.alloc(); copy(rt.alloc())?]?);
     let text = r#"[{"from":"/x","op":"copy","path":"/y"}]"#;
-    assert_answers!(rt, Patch, changes, text);
-    Ok(())
+    assert_answers(&rt, &changes, text)
 }

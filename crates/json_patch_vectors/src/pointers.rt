@@ -2,7 +2,8 @@
 
 use json_patch::jsonptr::index::{Index, OutOfBoundsError, ParseIndexError};
 use json_patch::jsonptr::{ParseError, Pointer, PointerBuf, PointerFault};
-use std::alloc::{AllocError, Global};
+use std::alloc::{AllocError, AllocGlobal, Global};
+use std::process::Abort;
 use std::test::Fail;
 
 /// The decoded tokens, each with a semicolon after it.
@@ -33,54 +34,67 @@ fn pointers_have_their_tokens(rt: HostRuntime) -> Result<(), Fail> {
     Ok(())
 }
 
+const TEXTS: &[&str] = &["", "/", "/a/", "/a~1b/m~0n", "/~01", "/a//~1", "/é~1/漢"];
+
 #[test]
 fn pointers_keep_their_texts(rt: HostRuntime) -> Result<(), Fail> {
-    let alloc = rt.alloc();
-    for text in ["", "/", "/a/", "/a~1b/m~0n", "/~01", "/a//~1", "/é~1/漢"] {
+    for &text in TEXTS {
         let pointer = Pointer::parse(text)?;
         assert_eq!(rt; pointer.as_str(), text);
         assert_eq!(rt; pointer.len(), text.len(), "the length of {text}");
         assert_eq!(rt; pointer.is_root(), text == "", "whether {text} is the root");
-        assert_eq!(rt; pointer.to_string(alloc)?.as_str(), text);
-
-        let owned = PointerBuf::parse(alloc, text)?;
-        assert_eq!(rt; owned.as_str(), text);
-        assert_eq!(rt; owned.to_string(alloc)?.as_str(), text);
-        assert_eq!(rt; pointer.to_buf(alloc)?.as_str(), text);
-        assert_eq!(rt; owned.clone(alloc)?.as_str(), text);
-        assert!(rt; owned.as_pointer() == pointer, "the pointer lent by {text}");
+        assert_eq!(rt; pointer.to_string(rt.alloc())?.as_str(), text);
+        assert_eq!(rt; pointer.to_buf(rt.alloc())?.as_str(), text);
     }
     Ok(())
 }
 
 #[test]
-fn other_texts_have_their_fault(rt: HostRuntime) -> Result<(), Fail> {
-    let alloc = rt.alloc();
-    let cases = [
-        ("a", "NoLeadingSlash"),
-        ("a~", "NoLeadingSlash"),
-        ("/~2", "InvalidEncoding { offset: 1 }"),
-        ("/ab~", "InvalidEncoding { offset: 3 }"),
-        ("/~0~/x", "InvalidEncoding { offset: 3 }"),
-        ("/é~", "InvalidEncoding { offset: 3 }"),
-        ("/~~0", "InvalidEncoding { offset: 1 }"),
-    ];
-    for (text, fault) in cases {
-        let Some(error) = Pointer::parse(text).err() else {
-            return Err(Fail::new("a pointer was parsed"));
-        };
-        assert_eq!(rt;
-            format!(in alloc; "{error:?}")?.as_str(),
-            fault,
-            "parsing {text}"
+fn owned_pointers_keep_their_texts(rt: HostRuntime) -> Result<(), Fail> {
+    for &text in TEXTS {
+        let owned = PointerBuf::parse(rt.alloc(), text)?;
+        assert_eq!(rt; owned.as_str(), text);
+        assert_eq!(rt; owned.to_string(rt.alloc())?.as_str(), text);
+        assert_eq!(rt; owned.clone(rt.alloc())?.as_str(), text);
+        assert!(rt;
+            owned.as_pointer() == Pointer::parse(text)?,
+            "the pointer lent by {text}"
         );
-        match PointerBuf::parse(alloc, text) {
+    }
+    Ok(())
+}
+
+const FAULTS: &[(&str, &str)] = &[
+    ("a", "NoLeadingSlash"),
+    ("a~", "NoLeadingSlash"),
+    ("/~2", "InvalidEncoding { offset: 1 }"),
+    ("/ab~", "InvalidEncoding { offset: 3 }"),
+    ("/~0~/x", "InvalidEncoding { offset: 3 }"),
+    ("/é~", "InvalidEncoding { offset: 3 }"),
+    ("/~~0", "InvalidEncoding { offset: 1 }"),
+];
+
+#[test]
+fn other_texts_have_their_fault(rt: HostRuntime) -> Result<(), Fail> {
+    for &(text, fault) in FAULTS {
+        match Pointer::parse(text) {
+            Ok(_) => return Err(Fail::new("a pointer was parsed")),
+            Err(error) => {
+                let shown = format!(in rt.alloc(); "{error:?}")?;
+                assert_eq!(rt; shown.as_str(), fault, "parsing {text}");
+            }
+        }
+    }
+    Ok(())
+}
+
+#[test]
+fn no_other_text_is_owned(rt: HostRuntime) -> Result<(), Fail> {
+    for &(text, fault) in FAULTS {
+        match PointerBuf::parse(rt.alloc(), text) {
             Err(PointerFault::Parse(error)) => {
-                assert_eq!(rt;
-                    format!(in alloc; "{error:?}")?.as_str(),
-                    fault,
-                    "parsing {text}"
-                );
+                let shown = format!(in rt.alloc(); "{error:?}")?;
+                assert_eq!(rt; shown.as_str(), fault, "parsing {text}");
             }
             _ => return Err(Fail::new("a text without a fault")),
         }
@@ -88,46 +102,52 @@ fn other_texts_have_their_fault(rt: HostRuntime) -> Result<(), Fail> {
     Ok(())
 }
 
+const INDEXES: &[(&str, &str)] = &[
+    ("0", "Ok(Num(0))"),
+    ("10", "Ok(Num(10))"),
+    ("-", "Ok(Next)"),
+    ("18446744073709551615", "Ok(Num(18446744073709551615))"),
+    ("18446744073709551616", "Err(InvalidInteger)"),
+    ("", "Err(InvalidInteger)"),
+    ("00", "Err(LeadingZeros)"),
+    ("01", "Err(LeadingZeros)"),
+    ("0a", "Err(LeadingZeros)"),
+    ("1a", "Err(InvalidCharacter { offset: 1 })"),
+    ("-1", "Err(InvalidCharacter { offset: 0 })"),
+    ("+1", "Err(InvalidCharacter { offset: 0 })"),
+    ("1é", "Err(InvalidCharacter { offset: 1 })"),
+];
+
 #[test]
 fn texts_name_indexes(rt: HostRuntime) -> Result<(), Fail> {
-    let cases = [
-        ("0", "Ok(Num(0))"),
-        ("10", "Ok(Num(10))"),
-        ("-", "Ok(Next)"),
-        ("18446744073709551615", "Ok(Num(18446744073709551615))"),
-        ("18446744073709551616", "Err(InvalidInteger)"),
-        ("", "Err(InvalidInteger)"),
-        ("00", "Err(LeadingZeros)"),
-        ("01", "Err(LeadingZeros)"),
-        ("0a", "Err(LeadingZeros)"),
-        ("1a", "Err(InvalidCharacter { offset: 1 })"),
-        ("-1", "Err(InvalidCharacter { offset: 0 })"),
-        ("+1", "Err(InvalidCharacter { offset: 0 })"),
-        ("1é", "Err(InvalidCharacter { offset: 1 })"),
-    ];
-    for (text, answer) in cases {
+    for &(text, answer) in INDEXES {
         let index = Index::parse(text);
-        assert_eq!(rt;
-            format!(in rt.alloc(); "{index:?}")?.as_str(),
-            answer,
-            "the index {text}"
-        );
-        let pointer = PointerBuf::parse(rt.alloc(), format!(in rt.alloc(); "/{text}")?.as_str())?;
-        let (_, token) = pointer.as_pointer().split_back().ok_or("the root")?;
-        let index = token.to_index();
-        assert_eq!(rt;
-            format!(in rt.alloc(); "{index:?}")?.as_str(),
-            answer,
-            "the token {text}"
-        );
+        let shown = format!(in rt.alloc(); "{index:?}")?;
+        assert_eq!(rt; shown.as_str(), answer, "the index {text}");
     }
-    let (_, escaped) = Pointer::parse("/1~1")?.split_back().ok_or("the root")?;
-    let index = escaped.to_index();
-    assert_eq!(rt;
-        format!(in rt.alloc(); "{index:?}")?.as_str(),
-        "Err(InvalidCharacter { offset: 1 })"
-    );
     Ok(())
+}
+
+// The last token of the pointer of this text names this index.
+fn assert_last_names(
+    rt: &(impl Abort + AllocGlobal),
+    text: &str,
+    answer: &str,
+) -> Result<(), Fail> {
+    let (_, token) = Pointer::parse(text)?.split_back().ok_or("the root")?;
+    let index = token.to_index();
+    let shown = format!(in rt.alloc(); "{index:?}")?;
+    assert_eq!(rt; shown.as_str(), answer, "the token {text}");
+    Ok(())
+}
+
+#[test]
+fn tokens_name_indexes(rt: HostRuntime) -> Result<(), Fail> {
+    for &(text, answer) in INDEXES {
+        let pointer = format!(in rt.alloc(); "/{text}")?;
+        assert_last_names(&rt, pointer.as_str(), answer)?;
+    }
+    assert_last_names(&rt, "/1~1", "Err(InvalidCharacter { offset: 1 })")
 }
 
 #[test]
@@ -160,23 +180,25 @@ fn indexes_lie_in_lists(rt: HostRuntime) -> Result<(), Fail> {
     Ok(())
 }
 
+// A text, a prefix, and what is left of the text after it.
+const PREFIXES: &[(&str, &str, Option<&str>)] = &[
+    ("/ab", "/a", None),
+    ("/a/b", "/a", Some("/b")),
+    ("/a", "/a", Some("")),
+    ("", "", Some("")),
+    ("/", "", Some("/")),
+    ("/a/b", "", Some("/a/b")),
+    ("", "/", None),
+    ("/a/b", "/a/", None),
+    ("/~1", "/~0", None),
+    ("/", "//", None),
+    ("/", "/a", None),
+    ("/a", "/ab", None),
+];
+
 #[test]
 fn prefixes_go_by_tokens(rt: HostRuntime) -> Result<(), Fail> {
-    let cases = [
-        ("/ab", "/a", None),
-        ("/a/b", "/a", Some("/b")),
-        ("/a", "/a", Some("")),
-        ("", "", Some("")),
-        ("/", "", Some("/")),
-        ("/a/b", "", Some("/a/b")),
-        ("", "/", None),
-        ("/a/b", "/a/", None),
-        ("/~1", "/~0", None),
-        ("/", "//", None),
-        ("/", "/a", None),
-        ("/a", "/ab", None),
-    ];
-    for (text, prefix, rest) in cases {
+    for &(text, prefix, rest) in PREFIXES {
         let pointer = Pointer::parse(text)?;
         let prefix = Pointer::parse(prefix)?;
         assert_eq!(rt;
@@ -238,21 +260,29 @@ fn tokens_compare_decoded(rt: HostRuntime) -> Result<(), Fail> {
 
 #[test]
 fn pointers_grow(rt: HostRuntime) -> Result<(), Fail> {
-    let alloc = rt.alloc();
     let mut pointer = PointerBuf::new();
-    pointer.push_back(alloc, "a/b~")?;
-    assert_eq!(rt; pointer.as_str(), "/a~1b~0");
-    pointer.push_back(alloc, "é")?;
-    assert_eq!(rt; pointer.as_str(), "/a~1b~0/é");
+    for (token, grown) in [("a/b~", "/a~1b~0"), ("é", "/a~1b~0/é"), ("", "/a~1b~0/é/")] {
+        pointer.push_back(rt.alloc(), token)?;
+        assert_eq!(rt; pointer.as_str(), grown, "with {token}");
+    }
+    Ok(())
+}
 
-    let mut list = PointerBuf::parse(alloc, "/l/-")?;
-    assert!(rt; list != PointerBuf::new());
-    assert_eq!(rt; list.with_last(alloc, "1")?.as_str(), "/l/1");
-    assert_eq!(rt; list.with_last(alloc, "~/")?.as_str(), "/l/~0~1");
-    list.push_back(alloc, "")?;
-    assert_eq!(rt; list.as_str(), "/l/-/");
+#[test]
+fn the_last_token_gives_way(rt: HostRuntime) -> Result<(), Fail> {
+    let list = PointerBuf::parse(rt.alloc(), "/l/-")?;
+    for (token, other) in [("1", "/l/1"), ("~/", "/l/~0~1")] {
+        let place = list.with_last(rt.alloc(), token)?;
+        assert_eq!(rt; place.as_str(), other, "with {token}");
+    }
+    Ok(())
+}
+
+#[test]
+fn the_root_is_the_default(rt: HostRuntime) -> Result<(), Fail> {
     assert!(rt; PointerBuf::default() == PointerBuf::new());
     assert_eq!(rt; PointerBuf::default().as_str(), "");
+    assert!(rt; PointerBuf::parse(rt.alloc(), "/l/-")? != PointerBuf::new());
     Ok(())
 }
 

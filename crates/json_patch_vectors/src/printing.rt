@@ -128,42 +128,50 @@ fn structs_are_printed(rt: HostRuntime) -> Result<(), Fail> {
 }
 
 #[test]
-fn defaults_are_printed(rt: HostRuntime) -> Result<(), Fail> {
-    let alloc = rt.alloc();
+fn the_default_operation_is_printed(rt: HostRuntime) -> Result<(), Fail> {
     let test = r#"{"op":"test","path":"","value":null}"#;
-    assert_printed(&rt, alloc, &PatchOperation::default(), test)?;
-    assert_printed(&rt, alloc, &Patch::new(alloc), "[]")
-}
-
-// The structs that hold two pointers, with pointers that differ.
-#[test]
-fn structs_with_two_pointers_are_printed(rt: HostRuntime) -> Result<(), Fail> {
-    let alloc = rt.alloc();
-    let moved = MoveOperation {
-        from: PointerBuf::parse(alloc, "/a")?,
-        path: PointerBuf::parse(alloc, "/b")?,
-    };
-    assert_printed(&rt, alloc, &moved, r#"{"from":"/a","path":"/b"}"#)?;
-    let copy = CopyOperation {
-        from: PointerBuf::parse(alloc, "/l/0")?,
-        path: PointerBuf::parse(alloc, "/l/-")?,
-    };
-    assert_printed(&rt, alloc, &copy, r#"{"from":"/l/0","path":"/l/-"}"#)
+    assert_printed(&rt, rt.alloc(), &PatchOperation::default(), test)
 }
 
 #[test]
-fn operations_are_printed(rt: HostRuntime) -> Result<(), Fail> {
-    let alloc = rt.alloc();
-    let moved = PatchOperation::Move(MoveOperation {
-        from: PointerBuf::parse(alloc, "/a")?,
-        path: PointerBuf::parse(alloc, "/b")?,
-    });
+fn the_empty_patch_is_printed(rt: HostRuntime) -> Result<(), Fail> {
+    assert_printed(&rt, rt.alloc(), &Patch::new(rt.alloc()), "[]")
+}
+
+// A struct that holds two pointers, with pointers that differ.
+#[test]
+fn a_move_is_printed(rt: HostRuntime) -> Result<(), Fail> {
+    let from = PointerBuf::parse(rt.alloc(), "/a")?;
+    let path = PointerBuf::parse(rt.alloc(), "/b")?;
+    let moved = MoveOperation { from, path };
+    let expected = r#"{"from":"/a","path":"/b"}"#;
+    assert_printed(&rt, rt.alloc(), &moved, expected)
+}
+
+#[test]
+fn a_copy_is_printed(rt: HostRuntime) -> Result<(), Fail> {
+    let from = PointerBuf::parse(rt.alloc(), "/l/0")?;
+    let path = PointerBuf::parse(rt.alloc(), "/l/-")?;
+    let copy = CopyOperation { from, path };
+    let expected = r#"{"from":"/l/0","path":"/l/-"}"#;
+    assert_printed(&rt, rt.alloc(), &copy, expected)
+}
+
+#[test]
+fn an_operation_is_printed(rt: HostRuntime) -> Result<(), Fail> {
+    let from = PointerBuf::parse(rt.alloc(), "/a")?;
+    let path = PointerBuf::parse(rt.alloc(), "/b")?;
+    let moved = PatchOperation::Move(MoveOperation { from, path });
     let expected = r#"{"op":"move","from":"/a","path":"/b"}"#;
-    assert_printed(&rt, alloc, &moved, expected)?;
-    let remove = PatchOperation::Remove(RemoveOperation {
-        path: PointerBuf::parse(alloc, "/\u{1}")?,
-    });
-    assert_printed(&rt, alloc, &remove, r#"{"op":"remove","path":"/\u0001"}"#)
+    assert_printed(&rt, rt.alloc(), &moved, expected)
+}
+
+#[test]
+fn a_control_character_is_printed(rt: HostRuntime) -> Result<(), Fail> {
+    let path = PointerBuf::parse(rt.alloc(), "/\u{1}")?;
+    let remove = PatchOperation::Remove(RemoveOperation { path });
+    let expected = r#"{"op":"remove","path":"/\u0001"}"#;
+    assert_printed(&rt, rt.alloc(), &remove, expected)
 }
 
 #[test]
@@ -179,6 +187,20 @@ fn patches_are_printed(rt: HostRuntime) -> Result<(), Fail> {
         assert_printed(&rt, alloc, &patch, text)?;
     }
     Ok(())
+}
+
+// The value of this text is printed so within an `add`.
+fn assert_printed_in_add(
+    rt: &impl Abort,
+    alloc: Global,
+    text: &str,
+    expected: &str,
+) -> Result<(), Fail> {
+    let value = Value::from_str(alloc, text)?;
+    let path = PointerBuf::parse(alloc, "/a")?;
+    let add = AddOperation { path, value };
+    let expected = format!(in alloc; r#"{{"path":"/a","value":{expected}}}"#)?;
+    assert_printed(rt, alloc, &add, expected.as_str())
 }
 
 #[test]
@@ -197,11 +219,7 @@ fn values_are_printed(rt: HostRuntime) -> Result<(), Fail> {
         ),
         (r#"{"\n":"\n"}"#, r#"{"\n":"\n"}"#),
     ] {
-        let value = Value::from_str(alloc, text)?;
-        let path = PointerBuf::parse(alloc, "/a")?;
-        let operation = PatchOperation::Add(AddOperation { path, value });
-        let expected = format!(in alloc; r#"{{"op":"add","path":"/a","value":{expected}}}"#)?;
-        assert_printed(&rt, alloc, &operation, expected.as_str())?;
+        assert_printed_in_add(&rt, alloc, text, expected)?;
     }
     Ok(())
 }

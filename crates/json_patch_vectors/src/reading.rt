@@ -1,11 +1,13 @@
 //! Patches, operations and their structs read from JSON values, and written again.
 
+use crate::runner::Readable;
 use json_patch::{
     AddOperation, CopyOperation, MoveOperation, Patch, PatchOperation, ReadFault, RemoveOperation,
     ReplaceOperation, TestOperation,
 };
 use serde_json::Value;
 use std::alloc::Global;
+use std::process::Abort;
 use std::test::Fail;
 
 /// The number and the kind of a fault.
@@ -22,18 +24,23 @@ fn described(alloc: Global, fault: ReadFault) -> Result<String, Fail> {
     }
 }
 
-// What is written again of what was read, or the fault.
-macro_rules! answer {
-    ($alloc:expr, $result:expr) => {
-        match $result {
-            Ok(read) => read.to_value($alloc)?.to_string($alloc)?,
-            Err(fault) => described($alloc, fault)?,
-        }
+// What is written again of what is read from this text, or the fault.
+fn assert_answer<T: Readable>(
+    rt: &impl Abort,
+    alloc: Global,
+    text: &str,
+    expected: &str,
+) -> Result<(), Fail> {
+    let answer = match T::read(alloc, &Value::from_str(alloc, text)?) {
+        Ok(read) => read.written(alloc)?.to_string(alloc)?,
+        Err(fault) => described(alloc, fault)?,
     };
+    assert_eq!(rt; answer.as_str(), expected, "at {text}");
+    Ok(())
 }
 
 // A patch value, and its first fault.
-const FAULTS: [(&str, &str); 15] = [
+const FAULTS: &[(&str, &str)] = &[
     ("{}", "NotAList"),
     (r#"[{"op":"test","path":"","value":1},7]"#, "1 NotAnObject"),
     (r#"[{}]"#, "0 MissingOp"),
@@ -65,18 +72,14 @@ const FAULTS: [(&str, &str); 15] = [
 
 #[test]
 fn a_faulty_patch_is_refused(rt: HostRuntime) -> Result<(), Fail> {
-    let alloc = rt.alloc();
-    for (text, expected) in FAULTS {
-        let value = Value::from_str(alloc, text)?;
-        let answer = answer!(alloc, Patch::from_value(alloc, &value));
-        assert_eq!(rt; answer.as_str(), expected, "at {text}");
+    for &(text, expected) in FAULTS {
+        assert_answer::<Patch>(&rt, rt.alloc(), text, expected)?;
     }
     Ok(())
 }
 
 #[test]
 fn what_is_read_is_written_again(rt: HostRuntime) -> Result<(), Fail> {
-    let alloc = rt.alloc();
     for text in [
         "[]",
         r#"[{"op":"add","path":"/a","value":{"b":[1,null,"c"]}}]"#,
@@ -86,25 +89,20 @@ fn what_is_read_is_written_again(rt: HostRuntime) -> Result<(), Fail> {
         r#"[{"from":"","op":"copy","path":"/-"}]"#,
         r#"[{"op":"test","path":"/","value":null},{"op":"remove","path":"/0"}]"#,
     ] {
-        let value = Value::from_str(alloc, text)?;
-        let answer = answer!(alloc, Patch::from_value(alloc, &value));
-        assert_eq!(rt; answer.as_str(), text);
+        assert_answer::<Patch>(&rt, rt.alloc(), text, text)?;
     }
     Ok(())
 }
 
 #[test]
 fn other_members_are_ignored(rt: HostRuntime) -> Result<(), Fail> {
-    let alloc = rt.alloc();
-    let value = Value::from_str(alloc, r#"[{"op":"add","path":"/a","value":1,"x":1.5}]"#)?;
-    let answer = answer!(alloc, Patch::from_value(alloc, &value));
-    assert_eq!(rt; answer.as_str(), r#"[{"op":"add","path":"/a","value":1}]"#);
-    Ok(())
+    let text = r#"[{"op":"add","path":"/a","value":1,"x":1.5}]"#;
+    let expected = r#"[{"op":"add","path":"/a","value":1}]"#;
+    assert_answer::<Patch>(&rt, rt.alloc(), text, expected)
 }
 
 #[test]
 fn one_operation_is_read(rt: HostRuntime) -> Result<(), Fail> {
-    let alloc = rt.alloc();
     for (text, expected) in [
         (
             r#"{"op":"move","from":"/a","path":"/b"}"#,
@@ -113,9 +111,7 @@ fn one_operation_is_read(rt: HostRuntime) -> Result<(), Fail> {
         (r#"{"op":"add","path":"/a"}"#, "MissingValue"),
         ("7", "NotAnObject"),
     ] {
-        let value = Value::from_str(alloc, text)?;
-        let answer = answer!(alloc, PatchOperation::from_value(alloc, &value));
-        assert_eq!(rt; answer.as_str(), expected, "at {text}");
+        assert_answer::<PatchOperation>(&rt, rt.alloc(), text, expected)?;
     }
     Ok(())
 }
@@ -123,67 +119,26 @@ fn one_operation_is_read(rt: HostRuntime) -> Result<(), Fail> {
 #[test]
 fn structs_are_read_with_no_look_at_op(rt: HostRuntime) -> Result<(), Fail> {
     let alloc = rt.alloc();
-    let null = Value::from_str(alloc, r#"{"op":"move","path":"/a","value":null}"#)?;
+    let null = r#"{"op":"move","path":"/a","value":null}"#;
     let with_null = r#"{"path":"/a","value":null}"#;
-    let both = Value::from_str(alloc, r#"{"op":"add","from":"/a","path":"/b"}"#)?;
+    assert_answer::<AddOperation>(&rt, alloc, null, with_null)?;
+    assert_answer::<RemoveOperation>(&rt, alloc, null, r#"{"path":"/a"}"#)?;
+    assert_answer::<ReplaceOperation>(&rt, alloc, null, with_null)?;
+    assert_answer::<TestOperation>(&rt, alloc, null, with_null)?;
+    let both = r#"{"op":"add","from":"/a","path":"/b"}"#;
     let with_both = r#"{"from":"/a","path":"/b"}"#;
-    for (answer, expected) in [
-        (
-            answer!(alloc, AddOperation::from_value(alloc, &null)),
-            with_null,
-        ),
-        (
-            answer!(alloc, RemoveOperation::from_value(alloc, &null)),
-            r#"{"path":"/a"}"#,
-        ),
-        (
-            answer!(alloc, ReplaceOperation::from_value(alloc, &null)),
-            with_null,
-        ),
-        (
-            answer!(alloc, TestOperation::from_value(alloc, &null)),
-            with_null,
-        ),
-        (
-            answer!(alloc, MoveOperation::from_value(alloc, &both)),
-            with_both,
-        ),
-        (
-            answer!(alloc, CopyOperation::from_value(alloc, &both)),
-            with_both,
-        ),
-    ] {
-        assert_eq!(rt; answer.as_str(), expected);
-    }
-    Ok(())
+    assert_answer::<MoveOperation>(&rt, alloc, both, with_both)?;
+    assert_answer::<CopyOperation>(&rt, alloc, both, with_both)
 }
 
 #[test]
 fn faulty_structs_are_refused(rt: HostRuntime) -> Result<(), Fail> {
     let alloc = rt.alloc();
-    let list = Value::from_str(alloc, "[]")?;
-    let no_from = Value::from_str(alloc, r#"{"op":7,"path":"a"}"#)?;
-    let float = Value::from_str(alloc, r#"{"path":"/a","value":1.5}"#)?;
-    for (answer, expected) in [
-        (
-            answer!(alloc, AddOperation::from_value(alloc, &list)),
-            "NotAnObject",
-        ),
-        (
-            answer!(alloc, MoveOperation::from_value(alloc, &no_from)),
-            "MissingFrom",
-        ),
-        (
-            answer!(alloc, ReplaceOperation::from_value(alloc, &float)),
-            "ValueNotWhole",
-        ),
-        // a float in a member that the operation doesn't have
-        (
-            answer!(alloc, RemoveOperation::from_value(alloc, &float)),
-            r#"{"path":"/a"}"#,
-        ),
-    ] {
-        assert_eq!(rt; answer.as_str(), expected);
-    }
-    Ok(())
+    assert_answer::<AddOperation>(&rt, alloc, "[]", "NotAnObject")?;
+    let no_from = r#"{"op":7,"path":"a"}"#;
+    assert_answer::<MoveOperation>(&rt, alloc, no_from, "MissingFrom")?;
+    let float = r#"{"path":"/a","value":1.5}"#;
+    assert_answer::<ReplaceOperation>(&rt, alloc, float, "ValueNotWhole")?;
+    // a float in a member that the operation doesn't have
+    assert_answer::<RemoveOperation>(&rt, alloc, float, r#"{"path":"/a"}"#)
 }
