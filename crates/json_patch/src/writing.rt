@@ -49,6 +49,7 @@ pub(crate) fn to_object(
     Ok(Value::Object(members))
 }
 
+/// Puts in a member whose value is a text.
 fn put_text(
     alloc: Global,
     members: &mut Map<String, Value>,

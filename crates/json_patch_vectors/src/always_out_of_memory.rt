@@ -6,7 +6,7 @@ ghost use Rattle.serde_json.specs.View.{view};
 ghost use Rattle.json_patch.specs.Document.{IsDocument};
 ghost use Rattle.json_patch.specs.Operation.{AreWhole, operations};
 
-use crate::runner::{Readable, assert_text};
+use crate::runner::{assert_kept, assert_text};
 use json_patch::jsonptr::PointerBuf;
 use json_patch::{
     AddOperation, CopyOperation, MoveOperation, Patch, PatchOperation, RemoveOperation,
@@ -88,33 +88,30 @@ fn a_document_is_printed(rt: HostRuntime) -> Result<(), Fail> {
     Ok(())
 }
 
-// The value is read from the text, written as it, and cloned.
-fn assert_answers<T: Readable>(
-    rt: &(impl Abort + AllocGlobal),
-    made: &T,
-    text: &str,
-) -> Result<(), Fail> {
-    let read = T::read(rt.alloc(), &Value::from_str(rt.alloc(), text)?)?;
-    assert!(rt; read == *made, "read from {text}");
-    assert_text(rt, text, "written", &made.written(rt.alloc())?, text)?;
-    assert!(rt; made.cloned(rt.alloc())? == *made, "a clone of {text}");
-    Ok(())
-}
-
 const WITH_VALUE: &str = r#"{"path":"/l/0","value":{"k":[7]}}"#;
+
+// The value is read from the text, written as it, and cloned.
+macro_rules! assert_answers {
+    ($rt:expr, $kind:ident, $made:expr, $text:expr) => {{
+        let made = $made;
+        let read = $kind::from_value($rt.alloc(), &Value::from_str($rt.alloc(), $text)?);
+        assert_kept(&$rt, $text, &made, read, made.clone($rt.alloc()));
+        assert_text(&$rt, $text, "written", &made.to_value($rt.alloc())?, $text)
+    }};
+}
 
 #[test]
 fn an_add_is_read_written_and_cloned(rt: HostRuntime) -> Result<(), Fail> {
     let path = PointerBuf::parse(rt.alloc(), "/l/0")?;
     let value = Value::from_str(rt.alloc(), r#"{"k":[7]}"#)?;
-    assert_answers(&rt, &AddOperation { path, value }, WITH_VALUE)
+    assert_answers!(rt, AddOperation, AddOperation { path, value }, WITH_VALUE)
 }
 
 #[test]
 fn a_remove_is_read_written_and_cloned(rt: HostRuntime) -> Result<(), Fail> {
     let path = PointerBuf::parse(rt.alloc(), "/a~1b")?;
     let text = r#"{"path":"/a~1b"}"#;
-    assert_answers(&rt, &RemoveOperation { path }, text)
+    assert_answers!(rt, RemoveOperation, RemoveOperation { path }, text)
 }
 
 #[test]
@@ -122,7 +119,7 @@ fn a_replace_is_read_written_and_cloned(rt: HostRuntime) -> Result<(), Fail> {
     let path = PointerBuf::parse(rt.alloc(), "/l/0")?;
     let value = Value::from_str(rt.alloc(), r#"{"k":[7]}"#)?;
     let made = ReplaceOperation { path, value };
-    assert_answers(&rt, &made, WITH_VALUE)
+    assert_answers!(rt, ReplaceOperation, made, WITH_VALUE)
 }
 
 #[test]
@@ -130,7 +127,7 @@ fn a_move_is_read_written_and_cloned(rt: HostRuntime) -> Result<(), Fail> {
     let from = PointerBuf::parse(rt.alloc(), "/x")?;
     let path = PointerBuf::parse(rt.alloc(), "/y")?;
     let text = r#"{"from":"/x","path":"/y"}"#;
-    assert_answers(&rt, &MoveOperation { from, path }, text)
+    assert_answers!(rt, MoveOperation, MoveOperation { from, path }, text)
 }
 
 #[test]
@@ -138,14 +135,14 @@ fn a_copy_is_read_written_and_cloned(rt: HostRuntime) -> Result<(), Fail> {
     let from = PointerBuf::parse(rt.alloc(), "/x")?;
     let path = PointerBuf::parse(rt.alloc(), "/y")?;
     let text = r#"{"from":"/x","path":"/y"}"#;
-    assert_answers(&rt, &CopyOperation { from, path }, text)
+    assert_answers!(rt, CopyOperation, CopyOperation { from, path }, text)
 }
 
 #[test]
 fn a_test_is_read_written_and_cloned(rt: HostRuntime) -> Result<(), Fail> {
     let path = PointerBuf::parse(rt.alloc(), "/l/0")?;
     let value = Value::from_str(rt.alloc(), r#"{"k":[7]}"#)?;
-    assert_answers(&rt, &TestOperation { path, value }, WITH_VALUE)
+    assert_answers!(rt, TestOperation, TestOperation { path, value }, WITH_VALUE)
 }
 
 /// The `copy` of `/x` to `/y`.
@@ -158,12 +155,12 @@ fn copy(alloc: Global) -> Result<PatchOperation, Fail> {
 #[test]
 fn an_operation_is_read_written_and_cloned(rt: HostRuntime) -> Result<(), Fail> {
     let text = r#"{"from":"/x","op":"copy","path":"/y"}"#;
-    assert_answers(&rt, &copy(rt.alloc())?, text)
+    assert_answers!(rt, PatchOperation, copy(rt.alloc())?, text)
 }
 
 #[test]
 fn a_patch_is_read_written_and_cloned(rt: HostRuntime) -> Result<(), Fail> {
     let changes = Patch(vec![in rt.alloc(); copy(rt.alloc())?]?);
     let text = r#"[{"from":"/x","op":"copy","path":"/y"}]"#;
-    assert_answers(&rt, &changes, text)
+    assert_answers!(rt, Patch, changes, text)
 }

@@ -9,7 +9,7 @@ use json_patch::{
     RemoveOperation, ReplaceOperation, TestOperation, apply_patches, is_whole, patch, patch_unsafe,
 };
 use serde_json::Value;
-use std::alloc::{AllocError, AllocGlobal, Global};
+use std::alloc::{AllocError, AllocGlobal};
 use std::process::Abort;
 use std::test::Fail;
 
@@ -200,44 +200,6 @@ pub(crate) fn assert_text(
     Ok(())
 }
 
-/// What is read from a JSON value, written to one and cloned: a patch, an operation or its struct.
-pub(crate) trait Readable: Eq + Drop {
-    fn read(alloc: Global, value: &Value) -> Result<Self, ReadFault>;
-
-    fn written(&self, alloc: Global) -> Result<Value, AllocError>;
-
-    fn cloned(&self, alloc: Global) -> Result<Self, AllocError>;
-}
-
-macro_rules! impl_readable {
-    ($($kind:ident),*) => {
-        $(impl Readable for $kind {
-            fn read(alloc: Global, value: &Value) -> Result<$kind, ReadFault> {
-                $kind::from_value(alloc, value)
-            }
-
-            fn written(&self, alloc: Global) -> Result<Value, AllocError> {
-                self.to_value(alloc)
-            }
-
-            fn cloned(&self, alloc: Global) -> Result<$kind, AllocError> {
-                self.clone(alloc)
-            }
-        })*
-    };
-}
-
-impl_readable!(
-    Patch,
-    PatchOperation,
-    AddOperation,
-    RemoveOperation,
-    ReplaceOperation,
-    MoveOperation,
-    CopyOperation,
-    TestOperation
-);
-
 /// Asserts that the patch, each operation and its struct are what is read where they were written,
 /// and that a clone of each is the same.
 fn assert_patch_kept(
@@ -245,29 +207,62 @@ fn assert_patch_kept(
     name: &str,
     changes: &Patch,
 ) -> Result<(), Fail> {
-    assert_kept(rt, name, changes)?;
+    let alloc = rt.alloc();
+    let read = Patch::from_value(alloc, &changes.to_value(alloc)?);
+    assert_kept(rt, name, changes, read, changes.clone(alloc));
     for operation in changes.as_slice() {
-        assert_kept(rt, name, operation)?;
-        match operation {
-            PatchOperation::Add(add) => assert_kept(rt, name, add)?,
-            PatchOperation::Remove(remove) => assert_kept(rt, name, remove)?,
-            PatchOperation::Replace(replace) => assert_kept(rt, name, replace)?,
-            PatchOperation::Move(moved) => assert_kept(rt, name, moved)?,
-            PatchOperation::Copy(copy) => assert_kept(rt, name, copy)?,
-            PatchOperation::Test(test) => assert_kept(rt, name, test)?,
+        let read = PatchOperation::from_value(alloc, &operation.to_value(alloc)?);
+        assert_kept(rt, name, operation, read, operation.clone(alloc));
+        assert_struct_kept(rt, name, operation)?;
+    }
+    Ok(())
+}
+
+fn assert_struct_kept(
+    rt: &(impl Abort + AllocGlobal),
+    name: &str,
+    operation: &PatchOperation,
+) -> Result<(), Fail> {
+    let alloc = rt.alloc();
+    match operation {
+        PatchOperation::Add(add) => {
+            let read = AddOperation::from_value(alloc, &add.to_value(alloc)?);
+            assert_kept(rt, name, add, read, add.clone(alloc));
+        }
+        PatchOperation::Remove(remove) => {
+            let read = RemoveOperation::from_value(alloc, &remove.to_value(alloc)?);
+            assert_kept(rt, name, remove, read, remove.clone(alloc));
+        }
+        PatchOperation::Replace(replace) => {
+            let read = ReplaceOperation::from_value(alloc, &replace.to_value(alloc)?);
+            assert_kept(rt, name, replace, read, replace.clone(alloc));
+        }
+        PatchOperation::Move(moved) => {
+            let read = MoveOperation::from_value(alloc, &moved.to_value(alloc)?);
+            assert_kept(rt, name, moved, read, moved.clone(alloc));
+        }
+        PatchOperation::Copy(copy) => {
+            let read = CopyOperation::from_value(alloc, &copy.to_value(alloc)?);
+            assert_kept(rt, name, copy, read, copy.clone(alloc));
+        }
+        PatchOperation::Test(test) => {
+            let read = TestOperation::from_value(alloc, &test.to_value(alloc)?);
+            assert_kept(rt, name, test, read, test.clone(alloc));
         }
     }
     Ok(())
 }
 
-/// Asserts that what is read where the value was written, and a clone of it, equal it.
-fn assert_kept<T: Readable>(
-    rt: &(impl Abort + AllocGlobal),
+/// Asserts that what was read and what was cloned equal the value.
+pub(crate) fn assert_kept<T: Eq + Drop>(
+    rt: &impl Abort,
     name: &str,
     value: &T,
-) -> Result<(), Fail> {
-    let read = T::read(rt.alloc(), &value.written(rt.alloc())?).expect(rt, name);
+    read: Result<T, ReadFault>,
+    cloned: Result<T, AllocError>,
+) {
+    let read = read.expect(rt, name);
     assert!(rt; read == *value, "{name}: written and read again");
-    assert!(rt; value.cloned(rt.alloc())? == *value, "{name}: cloned");
-    Ok(())
+    let cloned = cloned.expect(rt, name);
+    assert!(rt; cloned == *value, "{name}: cloned");
 }
