@@ -129,7 +129,7 @@ fn texts_name_indexes(rt: HostRuntime) -> Result<(), Fail> {
 }
 
 // The last token of the pointer of this text names this index.
-fn assert_last_names(
+fn assert_names_index(
     rt: &(impl Abort + AllocGlobal),
     text: &str,
     answer: &str,
@@ -145,9 +145,9 @@ fn assert_last_names(
 fn tokens_name_indexes(rt: HostRuntime) -> Result<(), Fail> {
     for &(text, answer) in INDEXES {
         let pointer = format!(in rt.alloc(); "/{text}")?;
-        assert_last_names(&rt, pointer.as_str(), answer)?;
+        assert_names_index(&rt, pointer.as_str(), answer)?;
     }
-    assert_last_names(&rt, "/1~1", "Err(InvalidCharacter { offset: 1 })")
+    assert_names_index(&rt, "/1~1", "Err(InvalidCharacter { offset: 1 })")
 }
 
 #[test]

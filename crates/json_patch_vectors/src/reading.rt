@@ -33,39 +33,39 @@ macro_rules! answer {
     };
 }
 
-fn patch(alloc: Global, text: &str) -> Result<String, Fail> {
+fn read_patch(alloc: Global, text: &str) -> Result<String, Fail> {
     answer!(alloc, Patch, text)
 }
 
-fn operation(alloc: Global, text: &str) -> Result<String, Fail> {
+fn read_operation(alloc: Global, text: &str) -> Result<String, Fail> {
     answer!(alloc, PatchOperation, text)
 }
 
-fn add(alloc: Global, text: &str) -> Result<String, Fail> {
+fn read_add(alloc: Global, text: &str) -> Result<String, Fail> {
     answer!(alloc, AddOperation, text)
 }
 
-fn remove(alloc: Global, text: &str) -> Result<String, Fail> {
+fn read_remove(alloc: Global, text: &str) -> Result<String, Fail> {
     answer!(alloc, RemoveOperation, text)
 }
 
-fn replace(alloc: Global, text: &str) -> Result<String, Fail> {
+fn read_replace(alloc: Global, text: &str) -> Result<String, Fail> {
     answer!(alloc, ReplaceOperation, text)
 }
 
-fn moved(alloc: Global, text: &str) -> Result<String, Fail> {
+fn read_move(alloc: Global, text: &str) -> Result<String, Fail> {
     answer!(alloc, MoveOperation, text)
 }
 
-fn copy(alloc: Global, text: &str) -> Result<String, Fail> {
+fn read_copy(alloc: Global, text: &str) -> Result<String, Fail> {
     answer!(alloc, CopyOperation, text)
 }
 
-fn test(alloc: Global, text: &str) -> Result<String, Fail> {
+fn read_test(alloc: Global, text: &str) -> Result<String, Fail> {
     answer!(alloc, TestOperation, text)
 }
 
-fn assert_answer(
+fn assert_read(
     rt: &impl Abort,
     answer: Result<String, Fail>,
     text: &str,
@@ -109,7 +109,7 @@ const FAULTS: &[(&str, &str)] = &[
 #[test]
 fn a_faulty_patch_is_refused(rt: HostRuntime) -> Result<(), Fail> {
     for &(text, expected) in FAULTS {
-        assert_answer(&rt, patch(rt.alloc(), text), text, expected)?;
+        assert_read(&rt, read_patch(rt.alloc(), text), text, expected)?;
     }
     Ok(())
 }
@@ -125,7 +125,7 @@ fn what_is_read_is_written_again(rt: HostRuntime) -> Result<(), Fail> {
         r#"[{"from":"","op":"copy","path":"/-"}]"#,
         r#"[{"op":"test","path":"/","value":null},{"op":"remove","path":"/0"}]"#,
     ] {
-        assert_answer(&rt, patch(rt.alloc(), text), text, text)?;
+        assert_read(&rt, read_patch(rt.alloc(), text), text, text)?;
     }
     Ok(())
 }
@@ -134,7 +134,7 @@ fn what_is_read_is_written_again(rt: HostRuntime) -> Result<(), Fail> {
 fn other_members_are_ignored(rt: HostRuntime) -> Result<(), Fail> {
     let text = r#"[{"op":"add","path":"/a","value":1,"x":1.5}]"#;
     let expected = r#"[{"op":"add","path":"/a","value":1}]"#;
-    assert_answer(&rt, patch(rt.alloc(), text), text, expected)
+    assert_read(&rt, read_patch(rt.alloc(), text), text, expected)
 }
 
 #[test]
@@ -147,7 +147,7 @@ fn one_operation_is_read(rt: HostRuntime) -> Result<(), Fail> {
         (r#"{"op":"add","path":"/a"}"#, "MissingValue"),
         ("7", "NotAnObject"),
     ] {
-        assert_answer(&rt, operation(rt.alloc(), text), text, expected)?;
+        assert_read(&rt, read_operation(rt.alloc(), text), text, expected)?;
     }
     Ok(())
 }
@@ -157,24 +157,24 @@ fn structs_are_read_with_no_look_at_op(rt: HostRuntime) -> Result<(), Fail> {
     let alloc = rt.alloc();
     let null = r#"{"op":"move","path":"/a","value":null}"#;
     let with_null = r#"{"path":"/a","value":null}"#;
-    assert_answer(&rt, add(alloc, null), null, with_null)?;
-    assert_answer(&rt, remove(alloc, null), null, r#"{"path":"/a"}"#)?;
-    assert_answer(&rt, replace(alloc, null), null, with_null)?;
-    assert_answer(&rt, test(alloc, null), null, with_null)?;
+    assert_read(&rt, read_add(alloc, null), null, with_null)?;
+    assert_read(&rt, read_remove(alloc, null), null, r#"{"path":"/a"}"#)?;
+    assert_read(&rt, read_replace(alloc, null), null, with_null)?;
+    assert_read(&rt, read_test(alloc, null), null, with_null)?;
     let both = r#"{"op":"add","from":"/a","path":"/b"}"#;
     let with_both = r#"{"from":"/a","path":"/b"}"#;
-    assert_answer(&rt, moved(alloc, both), both, with_both)?;
-    assert_answer(&rt, copy(alloc, both), both, with_both)
+    assert_read(&rt, read_move(alloc, both), both, with_both)?;
+    assert_read(&rt, read_copy(alloc, both), both, with_both)
 }
 
 #[test]
 fn faulty_structs_are_refused(rt: HostRuntime) -> Result<(), Fail> {
     let alloc = rt.alloc();
-    assert_answer(&rt, add(alloc, "[]"), "[]", "NotAnObject")?;
+    assert_read(&rt, read_add(alloc, "[]"), "[]", "NotAnObject")?;
     let no_from = r#"{"op":7,"path":"a"}"#;
-    assert_answer(&rt, moved(alloc, no_from), no_from, "MissingFrom")?;
+    assert_read(&rt, read_move(alloc, no_from), no_from, "MissingFrom")?;
     let float = r#"{"path":"/a","value":1.5}"#;
-    assert_answer(&rt, replace(alloc, float), float, "ValueNotWhole")?;
+    assert_read(&rt, read_replace(alloc, float), float, "ValueNotWhole")?;
     // a float in a member that the operation doesn't have
-    assert_answer(&rt, remove(alloc, float), float, r#"{"path":"/a"}"#)
+    assert_read(&rt, read_remove(alloc, float), float, r#"{"path":"/a"}"#)
 }
