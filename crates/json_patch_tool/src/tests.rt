@@ -218,10 +218,14 @@ const LIMIT: usize = 16_777_216;
 
 #[test]
 fn names_modes_and_usage(rt: HostRuntime) {
-    assert_eq!(rt; mode_of("patch"), Some(Mode::Patch));
-    assert_eq!(rt; mode_of("record"), Some(Mode::Record));
-    assert_eq!(rt; mode_of("merge"), Some(Mode::Merge));
-    assert_eq!(rt; mode_of("edit"), Some(Mode::Edit));
+    for (word, mode) in [
+        ("patch", Mode::Patch),
+        ("record", Mode::Record),
+        ("merge", Mode::Merge),
+        ("edit", Mode::Edit),
+    ] {
+        assert_eq!(rt; mode_of(word), Some(mode), "at {word}");
+    }
     for word in [
         "", "Patch", "PATCH", "patch ", "patc", "patches", "Record", "recorded", "Merge", "Edit",
     ] {
@@ -236,6 +240,18 @@ fn refused(rt: &HostRuntime) -> Result<ToolFault, Fail> {
         path: PointerBuf::parse(rt.alloc(), "/-")?,
         kind: PatchErrorKind::InvalidPointer,
     }))
+}
+
+/// Asserts the status and the text of a fault.
+fn assert_fault(
+    rt: &(impl Abort + AllocGlobal),
+    fault: &ToolFault,
+    number: u8,
+    text: &str,
+) -> Result<(), Fail> {
+    assert_eq!(rt; status(fault), number, "at {text}");
+    assert_eq!(rt; format!(in rt.alloc(); "{fault}")?.as_str(), text);
+    Ok(())
 }
 
 #[test]
@@ -263,8 +279,7 @@ fn tells_faults_and_statuses(rt: HostRuntime) -> Result<(), Fail> {
         (ToolFault::WriteFailed, 4, "write failed"),
     ];
     for (fault, number, text) in cases {
-        assert_eq!(rt; status(&fault), number, "at {text}");
-        assert_eq!(rt; format!(in rt.alloc(); "{fault}")?.as_str(), text);
+        assert_fault(&rt, &fault, number, text)?;
     }
     Ok(())
 }
@@ -412,11 +427,7 @@ fn refuse(
         let mut reader = Drip::new(input, 1, interrupts);
         match run(rt.alloc(), mode, &mut reader, &mut writer) {
             Ok(()) => assert!(rt; false, "{text} is wanted at {input:?}"),
-            Err(fault) => {
-                let told = format!(in rt.alloc(); "{fault}")?;
-                assert_eq!(rt; told.as_str(), text, "at {input:?}");
-                assert_eq!(rt; status(&fault), number, "at {input:?}");
-            }
+            Err(fault) => assert_fault(rt, &fault, number, text)?,
         }
         assert_eq!(rt; writer.calls, 0);
     }

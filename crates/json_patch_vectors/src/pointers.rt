@@ -1,8 +1,10 @@
 //! Pointers: their texts and tokens, what they share, and the indexes that tokens name.
 
+use crate::runner::{assert_is, assert_shown};
 use json_patch::jsonptr::index::{Index, OutOfBoundsError, ParseIndexError};
 use json_patch::jsonptr::{ParseError, Pointer, PointerBuf, PointerFault};
 use std::alloc::{AllocError, AllocGlobal, Global};
+use std::fmt::Debug;
 use std::process::Abort;
 use std::test::Fail;
 
@@ -40,11 +42,11 @@ const TEXTS: &[&str] = &["", "/", "/a/", "/a~1b/m~0n", "/~01", "/a//~1", "/é~1/
 fn pointers_keep_their_texts(rt: HostRuntime) -> Result<(), Fail> {
     for &text in TEXTS {
         let pointer = Pointer::parse(text)?;
-        assert_eq!(rt; pointer.as_str(), text);
-        assert_eq!(rt; pointer.len(), text.len(), "the length of {text}");
-        assert_eq!(rt; pointer.is_root(), text == "", "whether {text} is the root");
-        assert_eq!(rt; pointer.to_string(rt.alloc())?.as_str(), text);
-        assert_eq!(rt; pointer.to_buf(rt.alloc())?.as_str(), text);
+        assert_is(&rt, text, &pointer.as_str(), &text);
+        assert_is(&rt, text, &pointer.len(), &text.len());
+        assert_is(&rt, text, &pointer.is_root(), &(text == ""));
+        assert_shown(&rt, &pointer, text)?;
+        assert_is(&rt, text, &pointer.to_buf(rt.alloc())?.as_str(), &text);
     }
     Ok(())
 }
@@ -53,13 +55,10 @@ fn pointers_keep_their_texts(rt: HostRuntime) -> Result<(), Fail> {
 fn owned_pointers_keep_their_texts(rt: HostRuntime) -> Result<(), Fail> {
     for &text in TEXTS {
         let owned = PointerBuf::parse(rt.alloc(), text)?;
-        assert_eq!(rt; owned.as_str(), text);
-        assert_eq!(rt; owned.to_string(rt.alloc())?.as_str(), text);
-        assert_eq!(rt; owned.clone(rt.alloc())?.as_str(), text);
-        assert!(rt;
-            owned.as_pointer() == Pointer::parse(text)?,
-            "the pointer lent by {text}"
-        );
+        assert_is(&rt, text, &owned.as_str(), &text);
+        assert_shown(&rt, &owned, text)?;
+        assert_is(&rt, text, &owned.clone(rt.alloc())?.as_str(), &text);
+        assert_is(&rt, text, &owned.as_pointer(), &Pointer::parse(text)?);
     }
     Ok(())
 }
@@ -79,10 +78,7 @@ fn other_texts_have_their_fault(rt: HostRuntime) -> Result<(), Fail> {
     for &(text, fault) in FAULTS {
         match Pointer::parse(text) {
             Ok(_) => return Err(Fail::new("a pointer was parsed")),
-            Err(error) => {
-                let shown = format!(in rt.alloc(); "{error:?}")?;
-                assert_eq!(rt; shown.as_str(), fault, "parsing {text}");
-            }
+            Err(error) => assert_debug(&rt, &error, fault)?,
         }
     }
     Ok(())
@@ -92,13 +88,20 @@ fn other_texts_have_their_fault(rt: HostRuntime) -> Result<(), Fail> {
 fn no_other_text_is_owned(rt: HostRuntime) -> Result<(), Fail> {
     for &(text, fault) in FAULTS {
         match PointerBuf::parse(rt.alloc(), text) {
-            Err(PointerFault::Parse(error)) => {
-                let shown = format!(in rt.alloc(); "{error:?}")?;
-                assert_eq!(rt; shown.as_str(), fault, "parsing {text}");
-            }
+            Err(PointerFault::Parse(error)) => assert_debug(&rt, &error, fault)?,
             _ => return Err(Fail::new("a text without a fault")),
         }
     }
+    Ok(())
+}
+
+/// Asserts the text of a value as a developer sees it.
+fn assert_debug<T: Debug>(
+    rt: &(impl Abort + AllocGlobal),
+    value: &T,
+    expected: &str,
+) -> Result<(), Fail> {
+    assert_eq!(rt; format!(in rt.alloc(); "{value:?}")?.as_str(), expected);
     Ok(())
 }
 
@@ -121,9 +124,7 @@ const INDEXES: &[(&str, &str)] = &[
 #[test]
 fn texts_name_indexes(rt: HostRuntime) -> Result<(), Fail> {
     for &(text, answer) in INDEXES {
-        let index = Index::parse(text);
-        let shown = format!(in rt.alloc(); "{index:?}")?;
-        assert_eq!(rt; shown.as_str(), answer, "the index {text}");
+        assert_debug(&rt, &Index::parse(text), answer)?;
     }
     Ok(())
 }
@@ -135,10 +136,7 @@ fn assert_names_index(
     answer: &str,
 ) -> Result<(), Fail> {
     let (_, token) = Pointer::parse(text)?.split_back().ok_or("the root")?;
-    let index = token.to_index();
-    let shown = format!(in rt.alloc(); "{index:?}")?;
-    assert_eq!(rt; shown.as_str(), answer, "the token {text}");
-    Ok(())
+    assert_debug(rt, &token.to_index(), answer)
 }
 
 #[test]
@@ -164,18 +162,8 @@ fn indexes_lie_in_lists(rt: HostRuntime) -> Result<(), Fail> {
         (Index::Next, outside, "Ok(2)"),
     ];
     for (index, within, incl) in cases {
-        let place = index.for_len(2);
-        assert_eq!(rt;
-            format!(in rt.alloc(); "{place:?}")?.as_str(),
-            within,
-            "{index:?} in 2"
-        );
-        let place = index.for_len_incl(2);
-        assert_eq!(rt;
-            format!(in rt.alloc(); "{place:?}")?.as_str(),
-            incl,
-            "{index:?} to 2"
-        );
+        assert_debug(&rt, &index.for_len(2), within)?;
+        assert_debug(&rt, &index.for_len_incl(2), incl)?;
     }
     Ok(())
 }
@@ -201,13 +189,9 @@ fn prefixes_go_by_tokens(rt: HostRuntime) -> Result<(), Fail> {
     for &(text, prefix, rest) in PREFIXES {
         let pointer = Pointer::parse(text)?;
         let prefix = Pointer::parse(prefix)?;
-        assert_eq!(rt;
-            pointer.starts_with(prefix),
-            rest.is_some(),
-            "{text} after {prefix}"
-        );
+        assert_is(&rt, text, &pointer.starts_with(prefix), &rest.is_some());
         let left = pointer.strip_prefix(prefix).map(|left| left.as_str());
-        assert_eq!(rt; left, rest, "{text} after {prefix}");
+        assert_is(&rt, text, &left, &rest);
     }
     Ok(())
 }
@@ -233,8 +217,8 @@ fn the_longest_shared_pointer(rt: HostRuntime) -> Result<(), Fail> {
 fn the_last_token_splits_off(rt: HostRuntime) -> Result<(), Fail> {
     for (text, front, last) in [("/a/b", "/a", "b"), ("/", "", ""), ("/a~1b", "", "a~1b")] {
         let (pointer, token) = Pointer::parse(text)?.split_back().ok_or("the root")?;
-        assert_eq!(rt; pointer.as_str(), front, "the front of {text}");
-        assert_eq!(rt; token.encoded(), last, "the last token of {text}");
+        assert_is(&rt, text, &pointer.as_str(), &front);
+        assert_is(&rt, text, &token.encoded(), &last);
     }
     assert!(rt; Pointer::root().split_back().is_none());
     Ok(())
@@ -288,56 +272,35 @@ fn the_root_is_the_default(rt: HostRuntime) -> Result<(), Fail> {
 
 #[test]
 fn faults_of_pointers_have_their_texts(rt: HostRuntime) -> Result<(), Fail> {
-    let alloc = rt.alloc();
     let unslashed = "pointer does not begin with a slash";
-    assert_eq!(rt;
-        ParseError::NoLeadingSlash.to_string(alloc)?.as_str(),
-        unslashed
-    );
-    assert_eq!(rt;
-        ParseError::InvalidEncoding { offset: 12 }
-            .to_string(alloc)?
-            .as_str(),
-        "invalid escape at byte 12"
-    );
-    assert_eq!(rt;
-        PointerFault::Parse(ParseError::NoLeadingSlash)
-            .to_string(alloc)?
-            .as_str(),
-        unslashed
-    );
-    assert_eq!(rt;
-        PointerFault::Memory(AllocError).to_string(alloc)?.as_str(),
-        "out of memory"
-    );
-    Ok(())
+    let escape = ParseError::InvalidEncoding { offset: 12 };
+    assert_shown(&rt, &ParseError::NoLeadingSlash, unslashed)?;
+    assert_shown(&rt, &escape, "invalid escape at byte 12")?;
+    assert_shown(
+        &rt,
+        &PointerFault::Parse(ParseError::NoLeadingSlash),
+        unslashed,
+    )?;
+    assert_shown(&rt, &PointerFault::Memory(AllocError), "out of memory")
 }
 
 #[test]
 fn faults_of_indexes_have_their_texts(rt: HostRuntime) -> Result<(), Fail> {
-    let alloc = rt.alloc();
-    assert_eq!(rt;
-        ParseIndexError::LeadingZeros.to_string(alloc)?.as_str(),
-        "index has a leading zero"
-    );
-    assert_eq!(rt;
-        ParseIndexError::InvalidCharacter { offset: 3 }
-            .to_string(alloc)?
-            .as_str(),
-        "invalid character at byte 3"
-    );
-    assert_eq!(rt;
-        ParseIndexError::InvalidInteger.to_string(alloc)?.as_str(),
-        "index is not a number in range"
-    );
-    assert_eq!(rt;
-        OutOfBoundsError {
-            length: 2,
-            index: 3
-        }
-        .to_string(alloc)?
-        .as_str(),
-        "index 3 is out of bounds for length 2"
-    );
-    Ok(())
+    let character = ParseIndexError::InvalidCharacter { offset: 3 };
+    let outside = OutOfBoundsError {
+        length: 2,
+        index: 3,
+    };
+    assert_shown(
+        &rt,
+        &ParseIndexError::LeadingZeros,
+        "index has a leading zero",
+    )?;
+    assert_shown(&rt, &character, "invalid character at byte 3")?;
+    assert_shown(
+        &rt,
+        &ParseIndexError::InvalidInteger,
+        "index is not a number in range",
+    )?;
+    assert_shown(&rt, &outside, "index 3 is out of bounds for length 2")
 }

@@ -1,5 +1,6 @@
 //! The texts of errors, and operations and patches as text.
 
+use crate::runner::assert_shown;
 use json_patch::jsonptr::{ParseError, PointerBuf};
 use json_patch::{
     AddOperation, CopyOperation, MoveOperation, Patch, PatchError, PatchErrorKind, PatchFault,
@@ -14,7 +15,6 @@ use std::test::Fail;
 
 #[test]
 fn kinds_of_refusal_are_shown(rt: HostRuntime) -> Result<(), Fail> {
-    let alloc = rt.alloc();
     for (kind, expected) in [
         (PatchErrorKind::TestFailed, "value did not match"),
         (
@@ -27,14 +27,13 @@ fn kinds_of_refusal_are_shown(rt: HostRuntime) -> Result<(), Fail> {
             "cannot move the value inside itself",
         ),
     ] {
-        assert_eq!(rt; kind.to_string(alloc)?.as_str(), expected);
+        assert_shown(&rt, &kind, expected)?;
     }
     Ok(())
 }
 
 #[test]
 fn kinds_of_unreadable_values_are_shown(rt: HostRuntime) -> Result<(), Fail> {
-    let alloc = rt.alloc();
     for (kind, expected) in [
         (ReadKind::NotAList, "patch is not a list"),
         (ReadKind::NotAnObject, "operation is not an object"),
@@ -59,31 +58,26 @@ fn kinds_of_unreadable_values_are_shown(rt: HostRuntime) -> Result<(), Fail> {
             "member \"value\" holds a number that is not whole",
         ),
     ] {
-        assert_eq!(rt; kind.to_string(alloc)?.as_str(), expected);
+        assert_shown(&rt, &kind, expected)?;
     }
     Ok(())
 }
 
 #[test]
 fn refusals_are_shown(rt: HostRuntime) -> Result<(), Fail> {
-    let alloc = rt.alloc();
     let refused = PatchError {
         operation: 3,
-        path: PointerBuf::parse(alloc, "/a~1b")?,
+        path: PointerBuf::parse(rt.alloc(), "/a~1b")?,
         kind: PatchErrorKind::InvalidFromPointer,
     };
     let expected = "operation '/3' failed at path '/a~1b': \"from\" path is invalid";
-    assert_eq!(rt; refused.to_string(alloc)?.as_str(), expected);
-    let fault = PatchFault::Refused(refused);
-    assert_eq!(rt; fault.to_string(alloc)?.as_str(), expected);
-    let fault = PatchFault::Memory(AllocError);
-    assert_eq!(rt; fault.to_string(alloc)?.as_str(), "out of memory");
-    Ok(())
+    assert_shown(&rt, &refused, expected)?;
+    assert_shown(&rt, &PatchFault::Refused(refused), expected)?;
+    assert_shown(&rt, &PatchFault::Memory(AllocError), "out of memory")
 }
 
 #[test]
 fn faults_of_reading_are_shown(rt: HostRuntime) -> Result<(), Fail> {
-    let alloc = rt.alloc();
     for (operation, kind, expected) in [
         (
             Some(2),
@@ -93,13 +87,10 @@ fn faults_of_reading_are_shown(rt: HostRuntime) -> Result<(), Fail> {
         (None, ReadKind::NotAList, "patch is not a list"),
     ] {
         let error = ReadError { operation, kind };
-        assert_eq!(rt; error.to_string(alloc)?.as_str(), expected);
-        let fault = ReadFault::Refused(error);
-        assert_eq!(rt; fault.to_string(alloc)?.as_str(), expected);
+        assert_shown(&rt, &error, expected)?;
+        assert_shown(&rt, &ReadFault::Refused(error), expected)?;
     }
-    let fault = ReadFault::Memory(AllocError);
-    assert_eq!(rt; fault.to_string(alloc)?.as_str(), "out of memory");
-    Ok(())
+    assert_shown(&rt, &ReadFault::Memory(AllocError), "out of memory")
 }
 
 // Both printed forms of the value are this text.
@@ -114,17 +105,25 @@ fn assert_printed<T: fmt::Display + fmt::Debug>(
     Ok(())
 }
 
+fn assert_default_printed<T: Default + fmt::Display + fmt::Debug + Drop>(
+    rt: &impl Abort,
+    alloc: Global,
+    expected: &str,
+) -> Result<(), Fail> {
+    assert_printed(rt, alloc, &T::default(), expected)
+}
+
 #[test]
 fn structs_are_printed(rt: HostRuntime) -> Result<(), Fail> {
     let alloc = rt.alloc();
     let with_value = r#"{"path":"","value":null}"#;
     let with_from = r#"{"from":"","path":""}"#;
-    assert_printed(&rt, alloc, &AddOperation::default(), with_value)?;
-    assert_printed(&rt, alloc, &RemoveOperation::default(), r#"{"path":""}"#)?;
-    assert_printed(&rt, alloc, &ReplaceOperation::default(), with_value)?;
-    assert_printed(&rt, alloc, &MoveOperation::default(), with_from)?;
-    assert_printed(&rt, alloc, &CopyOperation::default(), with_from)?;
-    assert_printed(&rt, alloc, &TestOperation::default(), with_value)
+    assert_default_printed::<AddOperation>(&rt, alloc, with_value)?;
+    assert_default_printed::<RemoveOperation>(&rt, alloc, r#"{"path":""}"#)?;
+    assert_default_printed::<ReplaceOperation>(&rt, alloc, with_value)?;
+    assert_default_printed::<MoveOperation>(&rt, alloc, with_from)?;
+    assert_default_printed::<CopyOperation>(&rt, alloc, with_from)?;
+    assert_default_printed::<TestOperation>(&rt, alloc, with_value)
 }
 
 #[test]

@@ -5,7 +5,7 @@ use json_patch::{
     ReplaceOperation, TestOperation,
 };
 use serde_json::Value;
-use std::alloc::Global;
+use std::alloc::{AllocError, Global};
 use std::process::Abort;
 use std::test::Fail;
 
@@ -23,46 +23,86 @@ fn described(alloc: Global, fault: ReadFault) -> Result<String, Fail> {
     }
 }
 
-// What is written again of what is read from the text, or the fault.
-macro_rules! answer {
-    ($alloc:expr, $kind:ident, $text:expr) => {
-        match $kind::from_value($alloc, &Value::from_str($alloc, $text)?) {
-            Ok(read) => Ok(read.to_value($alloc)?.to_string($alloc)?),
-            Err(fault) => described($alloc, fault),
-        }
-    };
+/// What is written again of what is read from the text, or the fault.
+fn answer<T, R, W>(alloc: Global, text: &str, from_value: R, to_value: W) -> Result<String, Fail>
+where
+    T: Drop,
+    R: FnOnce(Global, &Value) -> Result<T, ReadFault>,
+    W: FnOnce(&T, Global) -> Result<Value, AllocError>,
+    requires read { R.IsAlwaysCallable from_value }
+    requires written { W.IsAlwaysCallable to_value }
+{
+    match from_value(alloc, &Value::from_str(alloc, text)?) {
+        Ok(read) => Ok(to_value(&read, alloc)?.to_string(alloc)?),
+        Err(fault) => described(alloc, fault),
+    }
 }
 
 fn read_patch(alloc: Global, text: &str) -> Result<String, Fail> {
-    answer!(alloc, Patch, text)
+    answer(alloc, text, Patch::from_value, Patch::to_value)
 }
 
 fn read_operation(alloc: Global, text: &str) -> Result<String, Fail> {
-    answer!(alloc, PatchOperation, text)
+    answer(
+        alloc,
+        text,
+        PatchOperation::from_value,
+        PatchOperation::to_value,
+    )
 }
 
 fn read_add(alloc: Global, text: &str) -> Result<String, Fail> {
-    answer!(alloc, AddOperation, text)
+    answer(
+        alloc,
+        text,
+        AddOperation::from_value,
+        AddOperation::to_value,
+    )
 }
 
 fn read_remove(alloc: Global, text: &str) -> Result<String, Fail> {
-    answer!(alloc, RemoveOperation, text)
+    answer(
+        alloc,
+        text,
+        RemoveOperation::from_value,
+        RemoveOperation::to_value,
+    )
 }
 
 fn read_replace(alloc: Global, text: &str) -> Result<String, Fail> {
-    answer!(alloc, ReplaceOperation, text)
+    answer(
+        alloc,
+        text,
+        ReplaceOperation::from_value,
+        ReplaceOperation::to_value,
+    )
 }
 
 fn read_move(alloc: Global, text: &str) -> Result<String, Fail> {
-    answer!(alloc, MoveOperation, text)
+    answer(
+        alloc,
+        text,
+        MoveOperation::from_value,
+        MoveOperation::to_value,
+    )
 }
 
 fn read_copy(alloc: Global, text: &str) -> Result<String, Fail> {
-    answer!(alloc, CopyOperation, text)
+    answer(
+        alloc,
+        text,
+        CopyOperation::from_value,
+        CopyOperation::to_value,
+    )
 }
 
 fn read_test(alloc: Global, text: &str) -> Result<String, Fail> {
-    answer!(alloc, TestOperation, text)
+    answer(
+        alloc,
+        text,
+        TestOperation::from_value,
+        TestOperation::to_value,
+    )
 }
 
 fn assert_read(

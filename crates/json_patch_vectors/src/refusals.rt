@@ -1,8 +1,10 @@
 //! Patches that are refused, worked by hand from RFC 6902, sections 4 and 5.
 
-use crate::runner::{Case, Expected, run_all};
-use json_patch::{Patch, is_whole, patch};
+use crate::runner::{Case, Expected, assert_shown, run_all};
+use json_patch::{Patch, PatchFault, is_whole, patch};
 use serde_json::Value;
+use std::alloc::AllocGlobal;
+use std::process::Abort;
 use std::test::Fail;
 
 const CASES: &[Case] = &[
@@ -282,9 +284,25 @@ fn refused_patches(rt: HostRuntime) -> Result<(), Fail> {
     run_all(&rt, CASES)
 }
 
+/// Why `patch` refuses the operations.
+fn refusal_of(
+    rt: &(impl Abort + AllocGlobal),
+    document: &str,
+    operations: &str,
+) -> Result<PatchFault, Fail> {
+    let alloc = rt.alloc();
+    let mut document = Value::from_str(alloc, document)?;
+    let operations = Patch::from_value(alloc, &Value::from_str(alloc, operations)?)?;
+    assert!(rt; is_whole(&document));
+    assert!(rt; operations.is_whole());
+    match patch(alloc, &mut document, operations.as_slice()) {
+        Ok(()) => Err(Fail::new("accepted, not refused")),
+        Err(fault) => Ok(fault),
+    }
+}
+
 #[test]
 fn a_refusal_tells_where_and_why(rt: HostRuntime) -> Result<(), Fail> {
-    let alloc = rt.alloc();
     for (document, operations, expected) in [
         (
             "[1]",
@@ -297,14 +315,8 @@ fn a_refusal_tells_where_and_why(rt: HostRuntime) -> Result<(), Fail> {
             "operation '/0' failed at path '/c/x': path is invalid",
         ),
     ] {
-        let mut document = Value::from_str(alloc, document)?;
-        let operations = Patch::from_value(alloc, &Value::from_str(alloc, operations)?)?;
-        assert!(rt; is_whole(&document));
-        assert!(rt; operations.is_whole());
-        match patch(alloc, &mut document, operations.as_slice()) {
-            Ok(()) => panic!(rt; "accepted, not refused: {expected}"),
-            Err(fault) => assert_eq!(rt; format!(in alloc; "{fault}")?.as_str(), expected),
-        }
+        let fault = refusal_of(&rt, document, operations)?;
+        assert_shown(&rt, &fault, expected)?;
     }
     Ok(())
 }

@@ -1,6 +1,6 @@
 //! The pointers of RFC 6901, section 5, each of which finds its value.
 
-use crate::runner::{Case, Expected, run_all};
+use crate::runner::{Case, Expected, assert_shown, run_all};
 use json_patch::jsonptr::Pointer;
 use json_patch::lookup;
 use serde_json::Value;
@@ -88,7 +88,7 @@ fn lookup_finds_each_value(rt: HostRuntime) -> Result<(), Fail> {
     for (path, expected) in FOUND {
         let pointer = Pointer::parse(path).expect(&rt, "a pointer");
         let value = lookup(&document, pointer).expect(&rt, "a value");
-        assert_eq!(rt; value.to_string(alloc)?.as_str(), *expected);
+        assert_shown(&rt, value, expected)?;
     }
     for path in NOTHING {
         let pointer = Pointer::parse(path).expect(&rt, "a pointer");

@@ -9,7 +9,8 @@ use json_patch::{
     RemoveOperation, ReplaceOperation, TestOperation, apply_patches, is_whole, patch, patch_unsafe,
 };
 use serde_json::Value;
-use std::alloc::{AllocError, AllocGlobal};
+use std::alloc::{AllocError, AllocGlobal, Global};
+use std::fmt::{Debug, Display};
 use std::process::Abort;
 use std::test::Fail;
 
@@ -200,6 +201,34 @@ pub(crate) fn assert_text(
     Ok(())
 }
 
+/// Asserts that a value is shown as this text.
+pub(crate) fn assert_shown<T: Display>(
+    rt: &(impl Abort + AllocGlobal),
+    value: &T,
+    expected: &str,
+) -> Result<(), Fail> {
+    assert_eq!(rt; value.to_string(rt.alloc())?.as_str(), expected);
+    Ok(())
+}
+
+/// Asserts that the two are equal; `what` says of which case.
+pub(crate) fn assert_is<T: Eq + Debug>(rt: &impl Abort, what: &str, found: &T, expected: &T) {
+    assert_eq!(rt; *found, *expected, "{what}");
+}
+
+macro_rules! assert_read_again {
+    ($rt:expr, $name:expr, $value:expr, $kind:ident) => {
+        assert_read_again(
+            $rt,
+            $name,
+            $value,
+            $kind::from_value,
+            $kind::to_value,
+            $kind::clone,
+        )
+    };
+}
+
 /// Asserts that the patch, each operation and its struct are what is read where they were written,
 /// and that a clone of each is the same.
 fn assert_patch_kept(
@@ -207,12 +236,9 @@ fn assert_patch_kept(
     name: &str,
     changes: &Patch,
 ) -> Result<(), Fail> {
-    let alloc = rt.alloc();
-    let read = Patch::from_value(alloc, &changes.to_value(alloc)?);
-    assert_kept(rt, name, changes, read, changes.clone(alloc));
+    assert_read_again!(rt, name, changes, Patch)?;
     for operation in changes.as_slice() {
-        let read = PatchOperation::from_value(alloc, &operation.to_value(alloc)?);
-        assert_kept(rt, name, operation, read, operation.clone(alloc));
+        assert_read_again!(rt, name, operation, PatchOperation)?;
         assert_struct_kept(rt, name, operation)?;
     }
     Ok(())
@@ -223,33 +249,36 @@ fn assert_struct_kept(
     name: &str,
     operation: &PatchOperation,
 ) -> Result<(), Fail> {
-    let alloc = rt.alloc();
     match operation {
-        PatchOperation::Add(add) => {
-            let read = AddOperation::from_value(alloc, &add.to_value(alloc)?);
-            assert_kept(rt, name, add, read, add.clone(alloc));
-        }
-        PatchOperation::Remove(remove) => {
-            let read = RemoveOperation::from_value(alloc, &remove.to_value(alloc)?);
-            assert_kept(rt, name, remove, read, remove.clone(alloc));
-        }
-        PatchOperation::Replace(replace) => {
-            let read = ReplaceOperation::from_value(alloc, &replace.to_value(alloc)?);
-            assert_kept(rt, name, replace, read, replace.clone(alloc));
-        }
-        PatchOperation::Move(moved) => {
-            let read = MoveOperation::from_value(alloc, &moved.to_value(alloc)?);
-            assert_kept(rt, name, moved, read, moved.clone(alloc));
-        }
-        PatchOperation::Copy(copy) => {
-            let read = CopyOperation::from_value(alloc, &copy.to_value(alloc)?);
-            assert_kept(rt, name, copy, read, copy.clone(alloc));
-        }
-        PatchOperation::Test(test) => {
-            let read = TestOperation::from_value(alloc, &test.to_value(alloc)?);
-            assert_kept(rt, name, test, read, test.clone(alloc));
-        }
+        PatchOperation::Add(made) => assert_read_again!(rt, name, made, AddOperation),
+        PatchOperation::Remove(made) => assert_read_again!(rt, name, made, RemoveOperation),
+        PatchOperation::Replace(made) => assert_read_again!(rt, name, made, ReplaceOperation),
+        PatchOperation::Move(made) => assert_read_again!(rt, name, made, MoveOperation),
+        PatchOperation::Copy(made) => assert_read_again!(rt, name, made, CopyOperation),
+        PatchOperation::Test(made) => assert_read_again!(rt, name, made, TestOperation),
     }
+}
+
+/// Asserts that the value is what is read where it was written, and that a clone is the same.
+fn assert_read_again<T, R, W, C>(
+    rt: &(impl Abort + AllocGlobal),
+    name: &str,
+    value: &T,
+    from_value: R,
+    to_value: W,
+    clone: C,
+) -> Result<(), Fail>
+where
+    T: Eq + Drop,
+    R: FnOnce(Global, &Value) -> Result<T, ReadFault>,
+    W: FnOnce(&T, Global) -> Result<Value, AllocError>,
+    C: FnOnce(&T, Global) -> Result<T, AllocError>,
+    requires read { R.IsAlwaysCallable from_value }
+    requires written { W.IsAlwaysCallable to_value }
+    requires cloned { C.IsAlwaysCallable clone }
+{
+    let read = from_value(rt.alloc(), &to_value(value, rt.alloc())?);
+    assert_kept(rt, name, value, read, clone(value, rt.alloc()));
     Ok(())
 }
 

@@ -7,7 +7,7 @@ use json_patch::{
     ReplaceOperation, TestOperation,
 };
 use serde_json::Value;
-use std::alloc::{AllocError, AllocGlobal};
+use std::alloc::{AllocError, AllocGlobal, Global};
 use std::process::Abort;
 use std::test::Fail;
 
@@ -29,20 +29,26 @@ fn an_add_is_written(rt: HostRuntime) -> Result<(), Fail> {
     assert_written(&rt, add.to_value(rt.alloc()), text)
 }
 
+// The default of the type is written so.
+fn assert_default_written<T: Default + Drop, W: FnOnce(&T, Global) -> Result<Value, AllocError>>(
+    rt: &(impl Abort + AllocGlobal),
+    to_value: W,
+    text: &str,
+) -> Result<(), Fail>
+    requires { W.IsAlwaysCallable to_value }
+{
+    assert_written(rt, to_value(&T::default(), rt.alloc()), text)
+}
+
 #[test]
 fn defaults_are_written(rt: HostRuntime) -> Result<(), Fail> {
-    let alloc = rt.alloc();
     let with_value = r#"{"path":"","value":null}"#;
     let with_from = r#"{"from":"","path":""}"#;
-    assert_written(
-        &rt,
-        RemoveOperation::default().to_value(alloc),
-        r#"{"path":""}"#,
-    )?;
-    assert_written(&rt, ReplaceOperation::default().to_value(alloc), with_value)?;
-    assert_written(&rt, MoveOperation::default().to_value(alloc), with_from)?;
-    assert_written(&rt, CopyOperation::default().to_value(alloc), with_from)?;
-    assert_written(&rt, TestOperation::default().to_value(alloc), with_value)
+    assert_default_written(&rt, RemoveOperation::to_value, r#"{"path":""}"#)?;
+    assert_default_written(&rt, ReplaceOperation::to_value, with_value)?;
+    assert_default_written(&rt, MoveOperation::to_value, with_from)?;
+    assert_default_written(&rt, CopyOperation::to_value, with_from)?;
+    assert_default_written(&rt, TestOperation::to_value, with_value)
 }
 
 #[test]
