@@ -6,14 +6,14 @@ ghost use Rattle.serde_json.specs.View.{view};
 ghost use Rattle.json_patch.specs.Document.{IsDocument};
 ghost use Rattle.json_patch.specs.Operation.{AreWhole, operations};
 
-use crate::runner::{assert_kept, assert_shown, assert_text};
+use crate::runner::{assert_read_again, assert_shown, assert_text};
 use json_patch::jsonptr::PointerBuf;
 use json_patch::{
-    AddOperation, CopyOperation, MoveOperation, Patch, PatchOperation, ReadFault, RemoveOperation,
+    AddOperation, CopyOperation, MoveOperation, Patch, PatchOperation, RemoveOperation,
     ReplaceOperation, TestOperation, apply_patches, is_whole, merge, patch, patch_unsafe, pretty,
 };
 use serde_json::Value;
-use std::alloc::{AllocError, AllocGlobal, Global};
+use std::alloc::{AllocGlobal, Global};
 use std::process::Abort;
 use std::test::Fail;
 
@@ -89,40 +89,19 @@ fn a_document_is_printed(rt: HostRuntime) -> Result<(), Fail> {
 
 const WITH_VALUE: &str = r#"{"path":"/l/0","value":{"k":[7]}}"#;
 
+// The value is written as this text, read again and cloned.
 macro_rules! assert_answers {
     ($rt:expr, $kind:ident, $made:expr, $text:expr) => {
-        assert_answers(
+        assert_read_again(
             &$rt,
+            stringify!($kind),
             &$made,
-            $text,
+            Some($text),
             $kind::from_value,
             $kind::to_value,
             $kind::clone,
         )
     };
-}
-
-/// Asserts that the value is read from the text, written as it, and cloned.
-fn assert_answers<T, R, W, C>(
-    rt: &(impl Abort + AllocGlobal),
-    made: &T,
-    text: &str,
-    from_value: R,
-    to_value: W,
-    clone: C,
-) -> Result<(), Fail>
-where
-    T: Eq + Drop,
-    R: FnOnce(Global, &Value) -> Result<T, ReadFault>,
-    W: FnOnce(&T, Global) -> Result<Value, AllocError>,
-    C: FnOnce(&T, Global) -> Result<T, AllocError>,
-    requires read { R.IsAlwaysCallable from_value }
-    requires written { W.IsAlwaysCallable to_value }
-    requires cloned { C.IsAlwaysCallable clone }
-{
-    let read = from_value(rt.alloc(), &Value::from_str(rt.alloc(), text)?);
-    assert_kept(rt, text, made, read, clone(made, rt.alloc()));
-    assert_text(rt, text, "written", &to_value(made, rt.alloc())?, text)
 }
 
 #[test]

@@ -5,7 +5,7 @@ use json_patch::{
     ReplaceOperation, TestOperation,
 };
 use serde_json::Value;
-use std::alloc::{AllocError, Global};
+use std::alloc::{AllocError, AllocGlobal, Global};
 use std::process::Abort;
 use std::test::Fail;
 
@@ -23,8 +23,14 @@ fn described(alloc: Global, fault: ReadFault) -> Result<String, Fail> {
     }
 }
 
-/// What is written again of what is read from the text, or the fault.
-fn answer<T, R, W>(alloc: Global, text: &str, from_value: R, to_value: W) -> Result<String, Fail>
+/// Asserts what is written again of what is read from the text, or the number and kind of the fault.
+fn assert_answer<T, R, W>(
+    rt: &(impl Abort + AllocGlobal),
+    text: &str,
+    expected: &str,
+    from_value: R,
+    to_value: W,
+) -> Result<(), Fail>
 where
     T: Drop,
     R: FnOnce(Global, &Value) -> Result<T, ReadFault>,
@@ -32,87 +38,19 @@ where
     requires read { R.IsAlwaysCallable from_value }
     requires written { W.IsAlwaysCallable to_value }
 {
-    match from_value(alloc, &Value::from_str(alloc, text)?) {
-        Ok(read) => Ok(to_value(&read, alloc)?.to_string(alloc)?),
-        Err(fault) => described(alloc, fault),
-    }
-}
-
-fn read_patch(alloc: Global, text: &str) -> Result<String, Fail> {
-    answer(alloc, text, Patch::from_value, Patch::to_value)
-}
-
-fn read_operation(alloc: Global, text: &str) -> Result<String, Fail> {
-    answer(
-        alloc,
-        text,
-        PatchOperation::from_value,
-        PatchOperation::to_value,
-    )
-}
-
-fn read_add(alloc: Global, text: &str) -> Result<String, Fail> {
-    answer(
-        alloc,
-        text,
-        AddOperation::from_value,
-        AddOperation::to_value,
-    )
-}
-
-fn read_remove(alloc: Global, text: &str) -> Result<String, Fail> {
-    answer(
-        alloc,
-        text,
-        RemoveOperation::from_value,
-        RemoveOperation::to_value,
-    )
-}
-
-fn read_replace(alloc: Global, text: &str) -> Result<String, Fail> {
-    answer(
-        alloc,
-        text,
-        ReplaceOperation::from_value,
-        ReplaceOperation::to_value,
-    )
-}
-
-fn read_move(alloc: Global, text: &str) -> Result<String, Fail> {
-    answer(
-        alloc,
-        text,
-        MoveOperation::from_value,
-        MoveOperation::to_value,
-    )
-}
-
-fn read_copy(alloc: Global, text: &str) -> Result<String, Fail> {
-    answer(
-        alloc,
-        text,
-        CopyOperation::from_value,
-        CopyOperation::to_value,
-    )
-}
-
-fn read_test(alloc: Global, text: &str) -> Result<String, Fail> {
-    answer(
-        alloc,
-        text,
-        TestOperation::from_value,
-        TestOperation::to_value,
-    )
-}
-
-fn assert_read(
-    rt: &impl Abort,
-    answer: Result<String, Fail>,
-    text: &str,
-    expected: &str,
-) -> Result<(), Fail> {
-    assert_eq!(rt; answer?.as_str(), expected, "at {text}");
+    let alloc = rt.alloc();
+    let answer = match from_value(alloc, &Value::from_str(alloc, text)?) {
+        Ok(read) => to_value(&read, alloc)?.to_string(alloc)?,
+        Err(fault) => described(alloc, fault)?,
+    };
+    assert_eq!(rt; answer.as_str(), expected, "at {text}");
     Ok(())
+}
+
+macro_rules! assert_read {
+    ($rt:expr, $kind:ident, $text:expr, $expected:expr) => {
+        assert_answer(&$rt, $text, $expected, $kind::from_value, $kind::to_value)
+    };
 }
 
 // A patch value, and its first fault.
@@ -149,7 +87,7 @@ const FAULTS: &[(&str, &str)] = &[
 #[test]
 fn a_faulty_patch_is_refused(rt: HostRuntime) -> Result<(), Fail> {
     for &(text, expected) in FAULTS {
-        assert_read(&rt, read_patch(rt.alloc(), text), text, expected)?;
+        assert_read!(rt, Patch, text, expected)?;
     }
     Ok(())
 }
@@ -165,7 +103,7 @@ fn what_is_read_is_written_again(rt: HostRuntime) -> Result<(), Fail> {
         r#"[{"from":"","op":"copy","path":"/-"}]"#,
         r#"[{"op":"test","path":"/","value":null},{"op":"remove","path":"/0"}]"#,
     ] {
-        assert_read(&rt, read_patch(rt.alloc(), text), text, text)?;
+        assert_read!(rt, Patch, text, text)?;
     }
     Ok(())
 }
@@ -174,7 +112,7 @@ fn what_is_read_is_written_again(rt: HostRuntime) -> Result<(), Fail> {
 fn other_members_are_ignored(rt: HostRuntime) -> Result<(), Fail> {
     let text = r#"[{"op":"add","path":"/a","value":1,"x":1.5}]"#;
     let expected = r#"[{"op":"add","path":"/a","value":1}]"#;
-    assert_read(&rt, read_patch(rt.alloc(), text), text, expected)
+    assert_read!(rt, Patch, text, expected)
 }
 
 #[test]
@@ -187,34 +125,32 @@ fn one_operation_is_read(rt: HostRuntime) -> Result<(), Fail> {
         (r#"{"op":"add","path":"/a"}"#, "MissingValue"),
         ("7", "NotAnObject"),
     ] {
-        assert_read(&rt, read_operation(rt.alloc(), text), text, expected)?;
+        assert_read!(rt, PatchOperation, text, expected)?;
     }
     Ok(())
 }
 
 #[test]
 fn structs_are_read_with_no_look_at_op(rt: HostRuntime) -> Result<(), Fail> {
-    let alloc = rt.alloc();
     let null = r#"{"op":"move","path":"/a","value":null}"#;
     let with_null = r#"{"path":"/a","value":null}"#;
-    assert_read(&rt, read_add(alloc, null), null, with_null)?;
-    assert_read(&rt, read_remove(alloc, null), null, r#"{"path":"/a"}"#)?;
-    assert_read(&rt, read_replace(alloc, null), null, with_null)?;
-    assert_read(&rt, read_test(alloc, null), null, with_null)?;
+    assert_read!(rt, AddOperation, null, with_null)?;
+    assert_read!(rt, RemoveOperation, null, r#"{"path":"/a"}"#)?;
+    assert_read!(rt, ReplaceOperation, null, with_null)?;
+    assert_read!(rt, TestOperation, null, with_null)?;
     let both = r#"{"op":"add","from":"/a","path":"/b"}"#;
     let with_both = r#"{"from":"/a","path":"/b"}"#;
-    assert_read(&rt, read_move(alloc, both), both, with_both)?;
-    assert_read(&rt, read_copy(alloc, both), both, with_both)
+    assert_read!(rt, MoveOperation, both, with_both)?;
+    assert_read!(rt, CopyOperation, both, with_both)
 }
 
 #[test]
 fn faulty_structs_are_refused(rt: HostRuntime) -> Result<(), Fail> {
-    let alloc = rt.alloc();
-    assert_read(&rt, read_add(alloc, "[]"), "[]", "NotAnObject")?;
+    assert_read!(rt, AddOperation, "[]", "NotAnObject")?;
     let no_from = r#"{"op":7,"path":"a"}"#;
-    assert_read(&rt, read_move(alloc, no_from), no_from, "MissingFrom")?;
+    assert_read!(rt, MoveOperation, no_from, "MissingFrom")?;
     let float = r#"{"path":"/a","value":1.5}"#;
-    assert_read(&rt, read_replace(alloc, float), float, "ValueNotWhole")?;
+    assert_read!(rt, ReplaceOperation, float, "ValueNotWhole")?;
     // a float in a member that the operation doesn't have
-    assert_read(&rt, read_remove(alloc, float), float, r#"{"path":"/a"}"#)
+    assert_read!(rt, RemoveOperation, float, r#"{"path":"/a"}"#)
 }

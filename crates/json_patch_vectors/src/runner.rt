@@ -216,12 +216,13 @@ pub(crate) fn assert_is<T: Eq + Debug>(rt: &impl Abort, what: &str, found: &T, e
     assert_eq!(rt; *found, *expected, "{what}");
 }
 
-macro_rules! assert_read_again {
+macro_rules! assert_again {
     ($rt:expr, $name:expr, $value:expr, $kind:ident) => {
         assert_read_again(
             $rt,
             $name,
             $value,
+            None,
             $kind::from_value,
             $kind::to_value,
             $kind::clone,
@@ -236,9 +237,9 @@ fn assert_patch_kept(
     name: &str,
     changes: &Patch,
 ) -> Result<(), Fail> {
-    assert_read_again!(rt, name, changes, Patch)?;
+    assert_again!(rt, name, changes, Patch)?;
     for operation in changes.as_slice() {
-        assert_read_again!(rt, name, operation, PatchOperation)?;
+        assert_again!(rt, name, operation, PatchOperation)?;
         assert_struct_kept(rt, name, operation)?;
     }
     Ok(())
@@ -250,20 +251,22 @@ fn assert_struct_kept(
     operation: &PatchOperation,
 ) -> Result<(), Fail> {
     match operation {
-        PatchOperation::Add(made) => assert_read_again!(rt, name, made, AddOperation),
-        PatchOperation::Remove(made) => assert_read_again!(rt, name, made, RemoveOperation),
-        PatchOperation::Replace(made) => assert_read_again!(rt, name, made, ReplaceOperation),
-        PatchOperation::Move(made) => assert_read_again!(rt, name, made, MoveOperation),
-        PatchOperation::Copy(made) => assert_read_again!(rt, name, made, CopyOperation),
-        PatchOperation::Test(made) => assert_read_again!(rt, name, made, TestOperation),
+        PatchOperation::Add(made) => assert_again!(rt, name, made, AddOperation),
+        PatchOperation::Remove(made) => assert_again!(rt, name, made, RemoveOperation),
+        PatchOperation::Replace(made) => assert_again!(rt, name, made, ReplaceOperation),
+        PatchOperation::Move(made) => assert_again!(rt, name, made, MoveOperation),
+        PatchOperation::Copy(made) => assert_again!(rt, name, made, CopyOperation),
+        PatchOperation::Test(made) => assert_again!(rt, name, made, TestOperation),
     }
 }
 
-/// Asserts that the value is what is read where it was written, and that a clone is the same.
-fn assert_read_again<T, R, W, C>(
+/// Asserts that the value is written as this text, where one is given, that it is what is read
+/// where it was written, and that a clone is the same.
+pub(crate) fn assert_read_again<T, R, W, C>(
     rt: &(impl Abort + AllocGlobal),
     name: &str,
     value: &T,
+    text: Option<&str>,
     from_value: R,
     to_value: W,
     clone: C,
@@ -277,13 +280,17 @@ where
     requires written { W.IsAlwaysCallable to_value }
     requires cloned { C.IsAlwaysCallable clone }
 {
-    let read = from_value(rt.alloc(), &to_value(value, rt.alloc())?);
+    let written = to_value(value, rt.alloc())?;
+    if let Some(text) = text {
+        assert_text(rt, name, "written", &written, text)?;
+    }
+    let read = from_value(rt.alloc(), &written);
     assert_kept(rt, name, value, read, clone(value, rt.alloc()));
     Ok(())
 }
 
 /// Asserts that what was read and what was cloned equal the value.
-pub(crate) fn assert_kept<T: Eq + Drop>(
+fn assert_kept<T: Eq + Drop>(
     rt: &impl Abort,
     name: &str,
     value: &T,
