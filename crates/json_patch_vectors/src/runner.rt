@@ -284,21 +284,9 @@ where
     if let Some(text) = text {
         assert_text(rt, name, "written", &written, text)?;
     }
-    let read = from_value(rt.alloc(), &written);
-    assert_kept(rt, name, value, read, clone(value, rt.alloc()));
-    Ok(())
-}
-
-/// Asserts that what was read and what was cloned equal the value.
-fn assert_kept<T: Eq + Drop>(
-    rt: &impl Abort,
-    name: &str,
-    value: &T,
-    read: Result<T, ReadFault>,
-    cloned: Result<T, AllocError>,
-) {
-    let read = read.expect(rt, name);
+    let read = from_value(rt.alloc(), &written).expect(rt, name);
     assert!(rt; read == *value, "{name}: written and read again");
-    let cloned = cloned.expect(rt, name);
+    let cloned = clone(value, rt.alloc()).expect(rt, name);
     assert!(rt; cloned == *value, "{name}: cloned");
+    Ok(())
 }
