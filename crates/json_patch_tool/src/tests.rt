@@ -13,6 +13,7 @@ use crate::run;
 use json_patch::jsonptr::PointerBuf;
 use json_patch::{PatchError, PatchErrorKind, ReadError, ReadKind};
 use std::alloc::Global;
+use std::fmt::Debug;
 use std::io;
 use std::io::{ErrorKind, Read, Write};
 use std::process::Abort;
@@ -242,15 +243,20 @@ fn refused(rt: &HostRuntime) -> Result<ToolFault, Fail> {
     }))
 }
 
-/// Asserts the status and the text of a fault.
-fn assert_fault(
+/// Asserts the status and the text of a fault; `at` says of which case.
+fn assert_fault<C: Debug>(
     rt: &(impl Abort + AllocGlobal),
     fault: &ToolFault,
     number: u8,
     text: &str,
+    at: &C,
 ) -> Result<(), Fail> {
-    assert_eq!(rt; status(fault), number, "at {text}");
-    assert_eq!(rt; format!(in rt.alloc(); "{fault}")?.as_str(), text);
+    assert_eq!(rt; status(fault), number, "at {at:?}");
+    assert_eq!(rt;
+        format!(in rt.alloc(); "{fault}")?.as_str(),
+        text,
+        "at {at:?}"
+    );
     Ok(())
 }
 
@@ -279,7 +285,7 @@ fn tells_faults_and_statuses(rt: HostRuntime) -> Result<(), Fail> {
         (ToolFault::WriteFailed, 4, "write failed"),
     ];
     for (fault, number, text) in cases {
-        assert_fault(&rt, &fault, number, text)?;
+        assert_fault(&rt, &fault, number, text, &text)?;
     }
     Ok(())
 }
@@ -427,7 +433,7 @@ fn refuse(
         let mut reader = Drip::new(input, 1, interrupts);
         match run(rt.alloc(), mode, &mut reader, &mut writer) {
             Ok(()) => assert!(rt; false, "{text} is wanted at {input:?}"),
-            Err(fault) => assert_fault(rt, &fault, number, text)?,
+            Err(fault) => assert_fault(rt, &fault, number, text, &input)?,
         }
         assert_eq!(rt; writer.calls, 0);
     }
