@@ -97,7 +97,7 @@ class Cases:
 
     def after(self, state, operation):
         try:
-            return False, self.model.step(copied(state), operation)
+            return False, self.model.step(state, operation)
         except Refused:
             return True, state
 

@@ -1,6 +1,7 @@
 """The classes of disagreements: for each the other that it is of, what happens there, and the test of a
 disagreement. A test is given the operation at which the two part, the document before it, and both
-answers."""
+answers. A disagreement is in no class unless the answer here, and what is left of the document, is
+that of model.py: a class tells what the other does, and lets nothing pass here."""
 from model import Model, Refused, copied, same, tokens_of
 
 
@@ -48,7 +49,7 @@ class Parting:
                 path = tokens_of(operation["path"])
                 without = Model().removed(copied(document), tokens_of(operation["from"]))
                 parent = found(without, path[:-1])
-                if isinstance(parent, dict) and path[-1] in parent:
+                if path and isinstance(parent, dict) and path[-1] in parent:
                     return True
             document = Model().step(document, operation)
         return False
@@ -133,9 +134,19 @@ CLASSES = [
 ]
 
 
+def is_right(mode, case, ours):
+    """Whether an answer is the model's. A list is recorded as it is run by `patch`; the answer on an
+    inverse, which is a list for `patch`, is the document to which it is to lead."""
+    mode = "patch" if mode in ("record", "inverse") else mode
+    try:
+        return alike(ours, Model().answer(mode, *case))
+    except (AttributeError, KeyError, TypeError):
+        return False  # an inverse that is no patch
+
+
 def of(peer, mode, case, ours, theirs):
     """The name of the first class that a disagreement falls into, or None."""
-    if mode == "merge":
+    if mode == "merge" or not is_right(mode, case, ours):
         return None
     at = Parting(case, ours, theirs)
     return next((name for other, name, holds in CLASSES if other == peer and holds(at)), None)

@@ -1,5 +1,6 @@
-"""JSON Patch (RFC 6902) on Python values, operation by operation: what makes the cases, and what
-names a disagreement. It is written for that alone, and is no peer."""
+"""JSON Patch (RFC 6902) and JSON Merge Patch (RFC 7396) on Python values, by the letter of the rules:
+what makes the cases, what judges each answer, and what names a disagreement. It is written for that
+alone, and is no peer: diff/tables.py holds it against answers that were worked by hand."""
 
 LISTS = list
 MAPS = dict
@@ -101,6 +102,7 @@ class Model:
     def moved(self, document, source, target):
         if source == target[: len(source)] and len(source) < len(target):
             raise Refused("CannotMoveInsideItself")
+        document = copied(document)
         value = self.source(document, source)
         if not source:
             raise Refused("InvalidFromPointer")
@@ -112,7 +114,7 @@ class Model:
         return document
 
     def step(self, document, operation):
-        """The document after the operation, which may be changed where it is refused, too."""
+        """The document after the operation. A document is changed for it only where it is accepted."""
         name, tokens = operation["op"], tokens_of(operation["path"])
         if name == "add":
             return self.added(document, tokens, copied(operation["value"]))
@@ -125,6 +127,31 @@ class Model:
         if name == "copy":
             return self.added(document, tokens, copied(self.source(document, tokens_of(operation["from"]))))
         return self.tested(document, tokens, operation["value"])
+
+    def merged(self, document, changes):
+        if not isinstance(changes, MAPS):
+            return copied(changes)
+        members = copied(document) if isinstance(document, MAPS) else {}
+        for name, change in changes.items():
+            if change is None:
+                members.pop(name, None)
+            else:
+                members[name] = self.merged(members.get(name), change)
+        return members
+
+    def answer(self, mode, document, changes):
+        """The answer that is right: the document, or a refusal with its number, path and kind and with
+        what is left of the document. The inverse of a recorded run is no part of it."""
+        if mode == "merge":
+            return ("ok", self.merged(document, changes))
+        state = copied(document)
+        for number, operation in enumerate(changes):
+            try:
+                state = self.step(state, operation)
+            except Refused as kind:
+                left = state if mode == "unsafe" else document
+                return ("refused", number, operation["path"], str(kind), left)
+        return ("ok", state)
 
     def before(self, document, operations, number):
         """The document before the operation of that number, the ones before it accepted."""

@@ -6,8 +6,13 @@
 `--ours` is the program of diff/driver.rt.txt, built by diff/build; `--rust` a program round the Rust crate
 json-patch 5.0.0 that answers lines as that driver does (diff/rust/main.rs). nlohmann/json
 (Debian's nlohmann-json3-dev, with g++) and Python's jsonpatch (Debian's python3-jsonpatch) are
-taken where they are installed. Each disagreement is put into a class of diff/classes.py; the run fails
-where one has no class. What an inverse leads back to is asked of the others, not of the crates here.
+taken where they are installed.
+
+Each answer here, and what it leaves of the document, has to be that of diff/model.py, which is held
+against the tables of cases first. A recorded list is held against `patch` here and against `patch` of
+the others. What its inverse leads back to is asked of the others, not of the crates here. Each
+disagreement is put into a class of diff/classes.py. The run fails where one has no class, and where
+nothing was compared: each line of the report counts one comparison.
 """
 import argparse
 import json
@@ -19,10 +24,13 @@ import tempfile
 from collections import Counter
 
 import classes
+import tables
 from cases import Cases
+from model import Model
 
 HERE = os.path.dirname(os.path.abspath(__file__))
 BATCH = 20_000
+MODEL, PATCH_HERE = "diff/model.py", "patch here"
 
 
 def text(value):
@@ -34,8 +42,9 @@ def answers(command, lines):
     sent = "".join(line + "\n" for line in lines)
     done = subprocess.run(command, input=sent.encode(), capture_output=True)
     said = done.stdout.decode().split("\n")[:-1]
-    if len(said) != len(lines):
-        sys.exit(f"{command[0]}: {len(said)} answers to {len(lines)} cases\n{done.stderr.decode()[-500:]}")
+    if done.returncode or len(said) != len(lines):
+        told = f"status {done.returncode}, {len(said)} answers to {len(lines)} cases"
+        sys.exit(f"{' '.join(command)}: {told}\n{done.stderr.decode()[-500:]}")
     return said
 
 
@@ -67,18 +76,27 @@ class Peer:
         return classes.alike(ours, theirs)
 
 
+# The model, and `patch` here, to which a recorded list is held: each tells a whole answer.
+JUDGE = Peer(MODEL, [], (), 4)
+TWIN = Peer(PATCH_HERE, [], (), 4)
+
+
+def rust_peer(command):
+    return Peer(classes.RUST, command, ("patch", "unsafe", "merge"), 4)
+
+
 def peers(rust, folder):
     found = []
     if rust:
-        found.append(Peer("json-patch 5.0.0", [rust], ("patch", "unsafe", "merge"), 4))
+        found.append(rust_peer([rust]))
     if shutil.which("g++") and os.path.isdir("/usr/include/nlohmann"):
         program = os.path.join(folder, "nlohmann")
         source = os.path.join(HERE, "nlohmann.cpp")
         subprocess.run(["g++", "-O2", "-w", "-std=c++17", "-o", program, source], check=True)
-        found.append(Peer("nlohmann/json", [program], ("patch", "merge"), 1))
+        found.append(Peer(classes.NLOHMANN, [program], ("patch", "merge"), 1))
     python = ["/usr/bin/python3", os.path.join(HERE, "python_peer.py")]
     if subprocess.run([python[0], "-c", "import jsonpatch"], capture_output=True).returncode == 0:
-        found.append(Peer("jsonpatch (Python)", python, ("patch",), 1))
+        found.append(Peer(classes.PYTHON, python, ("patch",), 1))
     return found
 
 
@@ -90,6 +108,12 @@ class Tally:
         self.classes = Counter()
         self.smallest = {}
 
+    def compare(self, peer, mode, cases, ours, theirs):
+        self.compared[peer.name, mode] += len(cases)
+        for case, mine, other in zip(cases, ours, theirs):
+            if not peer.agrees(mine, other):
+                self.disagree(peer.name, mode, case, mine, other)
+
     def disagree(self, peer, mode, case, ours, theirs):
         name = classes.of(peer, mode, case, ours, theirs)
         key = (peer, mode, name)
@@ -98,6 +122,14 @@ class Tally:
         if key not in self.smallest or told[0] < self.smallest[key][0]:
             self.smallest[key] = told
 
+    def faults(self):
+        """The comparisons that failed, each with why."""
+        found = {key[:2]: f"{count} disagree: NO CLASS" for key, count in self.classes.items() if not key[2]}
+        found.update({key: "nothing was compared" for key, count in self.compared.items() if not count})
+        if all(peer in (MODEL, PATCH_HERE) for peer, _ in self.compared):
+            found["others", "all"] = "nothing was compared"
+        return found
+
     def report(self):
         for (peer, mode), count in sorted(self.compared.items()):
             print(f"{peer}, {mode}: {count} cases")
@@ -105,29 +137,66 @@ class Tally:
             _, case, ours, theirs = self.smallest[key]
             print(f"  {key[0]}, {key[1]}: {count} disagree: {key[2] or 'NO CLASS'}")
             print(f"    smallest: {case}\n    here: {ours}\n    there: {theirs}")
-        return all(name for _, _, name in self.classes)
+        for (peer, mode), why in sorted(self.faults().items()):
+            print(f"WRONG: {peer}, {mode}: {why}")
 
 
-def compare(tally, ours, peer, mode, cases, lines):
-    told = answers([ours, mode], lines)
-    theirs = answers(peer.command + [mode], lines)
-    for case, mine, other in zip(cases, told, theirs):
-        mine, other = meaning(mine), meaning(other)
-        tally.compared[peer.name, mode] += 1
-        if not peer.agrees(mine, other):
-            tally.disagree(peer.name, mode, case, mine, other)
+class Batch:
+    """Cases, and what the crates here answer to them in each mode. A recorded list has two answers:
+    that of `record` is the document or the refusal, and `inverses` has, for each list that was
+    accepted, the first document with the pair that is to lead back to it."""
+
+    def __init__(self, ours, patches, merges):
+        self.cases = {"patch": patches, "unsafe": patches, "record": patches, "merge": merges}
+        self.lines = {mode: list(map(text, cases)) for mode, cases in self.cases.items()}
+        self.told = {mode: list(map(meaning, answers([*ours, mode], lines))) for mode, lines in self.lines.items()}
+        self.inverses = []
+        for place, (first, _) in enumerate(patches):
+            match self.told["record"][place]:
+                case ("ok", [after, [*inverse]]):
+                    self.told["record"][place] = ("ok", after)
+                    self.inverses.append((first, [after, inverse]))
 
 
-def compare_inverses(tally, ours, peer, cases, lines):
+def judge(tally, batch):
+    """Every answer here has to be the model's, and that of `record` that of `patch`."""
+    model = Model()
+    for mode, cases in batch.cases.items():
+        by_mode = "patch" if mode == "record" else mode
+        right = [model.answer(by_mode, *case) for case in cases]
+        tally.compare(JUDGE, mode, cases, batch.told[mode], right)
+    tally.compare(TWIN, "record", batch.cases["record"], batch.told["record"], batch.told["patch"])
+
+
+def compare(tally, batch, peer):
+    for mode in peer.modes:
+        theirs = list(map(meaning, answers([*peer.command, mode], batch.lines[mode])))
+        for ours in ("patch", "record") if mode == "patch" else (mode,):
+            tally.compare(peer, ours, batch.cases[ours], batch.told[ours], theirs)
+
+
+def compare_inverses(tally, batch, peer):
     """What `record` answers is run by the other: its document is to be the first one."""
-    recorded = [(case, meaning(line)) for case, line in zip(cases, answers([ours, "record"], lines))]
-    back = [(case, answer[1]) for case, answer in recorded if answer[0] == "ok"]
-    theirs = answers(peer.command + ["patch"], [text(pair) for _, pair in back])
-    for (case, pair), other in zip(back, theirs):
-        other = meaning(other)
-        tally.compared[peer.name, "inverse"] += 1
-        if not classes.alike(("ok", case[0]), other):
-            tally.disagree(peer.name, "inverse", pair, ("ok", case[0]), other)
+    pairs = [pair for _, pair in batch.inverses]
+    first = [("ok", document) for document, _ in batch.inverses]
+    theirs = list(map(meaning, answers([*peer.command, "patch"], list(map(text, pairs)))))
+    tally.compare(peer, "inverse", pairs, first, theirs)
+
+
+def compared(seed, count, others, ours, all_peers):
+    """The tally of that many cases; `others` is how many the peers get that don't tell a whole answer."""
+    cases, tally, done = Cases(seed), Tally(), 0
+    while done < count:
+        size = min(BATCH, count - done)
+        patches = [cases.patch_case() for _ in range(size)]
+        batch = Batch(ours, patches, [cases.merge_case() for _ in range(size)])
+        judge(tally, batch)
+        for peer in all_peers:
+            if peer.tells == 4 or others is None or done < others:
+                compare(tally, batch, peer)
+                compare_inverses(tally, batch, peer)
+        done += size
+    return tally
 
 
 def main():
@@ -138,23 +207,13 @@ def main():
     words.add_argument("--ours", required=True)
     words.add_argument("--rust")
     asked = words.parse_args()
-    cases, tally = Cases(asked.seed), Tally()
+    wrong = tables.faults()
+    if wrong:
+        sys.exit("\n".join(wrong))
     with tempfile.TemporaryDirectory() as folder:
-        all_peers = peers(asked.rust, folder)
-        done = 0
-        while done < asked.cases:
-            count = min(BATCH, asked.cases - done)
-            patches = [cases.patch_case() for _ in range(count)]
-            merges = [cases.merge_case() for _ in range(count)]
-            for peer in all_peers:
-                if peer.tells < 4 and asked.others is not None and done >= asked.others:
-                    continue
-                for mode in peer.modes:
-                    batch = merges if mode == "merge" else patches
-                    compare(tally, asked.ours, peer, mode, batch, list(map(text, batch)))
-                compare_inverses(tally, asked.ours, peer, patches, list(map(text, patches)))
-            done += count
-    sys.exit(0 if tally.report() else 1)
+        tally = compared(asked.seed, asked.cases, asked.others, [asked.ours], peers(asked.rust, folder))
+    tally.report()
+    sys.exit(1 if tally.faults() else 0)
 
 
 if __name__ == "__main__":
