@@ -17,8 +17,7 @@ Call = namedtuple("Call", "line arguments answer short requests at_least", defau
 # A run of json_patch_tool: its mode, its input, and its status, line and fault with ample memory.
 ToolRun = namedtuple("ToolRun", "line mode input status output fault")
 
-# A bound on the requests that fall into a call on a large document, and whether it is kept yet:
-# those that aren't are left out.
+# A bound on the requests that fall into a call on a large document.
 Bound = namedtuple("Bound", "line arguments answer fewer_than")
 
 
@@ -144,6 +143,13 @@ EDITS = {
         ("undo", "true", 2, 1, 1),
         ("undo", "true", 1, 0, 2),
         ("undo", "false", 1, 0, 2),
+    ]),
+    "a refused change at a full history drops nothing": (2, 0, [
+        ([replace("", 1)], "true", 1, 1, 0),
+        ([replace("", 2)], "true", 2, 2, 0),
+        ([replace("", 3), remove("/b")], refusal(1, "/b", NOT_FOUND), 2, 2, 0),
+        ("undo", "true", 1, 1, 1),
+        ("undo", "true", 0, 0, 2),
     ]),
     "without depth nothing is kept": (0, 0, [
         ([replace("", 1)], "true", 1, 0, 0),
@@ -271,6 +277,14 @@ def editor_calls():
             line = f"editor {call}: {name}"
             yield editor_call(line, depth, document, commands, answer, before, after)
             before = after
+    # As many changes as the deepest history keeps, given by their number.
+    full = (0, 65536, 0)
+    for line, changes, answer in (
+        ("one change more than are kept", [], "true"),
+        ("a refused change where no more are kept", [remove("/b")], refusal(0, "/b", NOT_FOUND)),
+    ):
+        commands = [65536, changes]
+        yield editor_call(f"editor apply: {line}", 65536, 0, commands, answer, full, full)
     # An editor that stored documents in place of patches would take no memory here.
     line = "editor_stores_versions"
     yield editor_call(line, 65536, 7, [[], "undo"], "true", (7, 1, 0), (7, 0, 1))
@@ -311,20 +325,29 @@ def tool_runs():
     moved = [[move("/a/b", "/a")], "undo", "redo"]
     changes = [[replace("/a", 2)], "undo", "undo", "redo", [remove("/b")]]
     replies = '[{"a":2},[true,true,false,true,{"kind":"InvalidPointer","operation":0}]]'
+    inside = [[move("/a", "/a/b")], "undo"]
+    refused = '[{"a":1},[{"kind":"CannotMoveInsideItself","operation":0},false]]'
     for name, mode, pair, line in (
         ("a test and an add", "patch", [NAMES, NAMES_PATCH], patched),
         ("a member moved over its parent", "record", [over, [move("/a/b", "/a")]], recorded),
         ("an article", "merge", [ARTICLE, ARTICLE_MERGE], compact(ARTICLE_MERGED)),
         ("a member moved, back and again", "edit", [over, moved], '[{"a":1},[true,true,true]]'),
         ("nothing to take, and a refusal", "edit", [{"a": 1}, changes], replies),
+        ("no command", "edit", [7, []], "[7,[]]"),
+        ("nothing to take either way", "edit", [7, ["undo", "redo"]], "[7,[false,false]]"),
+        ("a move inside itself is refused", "edit", [{"a": 1}, inside], refused),
     ):
         yield ToolRun(f"json_patch_tool {mode}: {name}", mode, compact(pair), 0, line + "\n", "")
     absent = refusal(0, "/-", NOT_FOUND)
+    no_value = [[replace("", 8)], [{"op": "add", "path": "/a"}]]
     for name, mode, pair, status, fault in (
         ("an item that isn't there", "patch", [[1], [remove("/-")]], 1, absent),
         ("no patch", "record", [1, {}], 2, "patch is not a list"),
         ("a fraction", "merge", [1.5, {}], 2, "a number is not whole"),
         ("no commands", "edit", [7, {}], 2, "patch is not a list"),
+        ("another word", "edit", [7, [[], "Undo"]], 2, "patch is not a list"),
+        ("no value", "edit", [7, no_value], 2, """operation '/0': member "value" is missing"""),
+        ("a fraction", "edit", [1.5, []], 2, "a number is not whole"),
     ):
         yield ToolRun(f"json_patch_tool {mode}: {name}", mode, compact(pair), status, "", fault)
 

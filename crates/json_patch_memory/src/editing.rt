@@ -19,7 +19,8 @@ enum Command {
     Redo,
 }
 
-/// The last of a list of commands, after those before it, on an editor of this document.
+/// The last of a list of commands, after those before it, on an editor of this document. A number
+/// before the last stands for that many changes by the empty patch.
 pub(crate) fn edit(
     rt: &HostRuntime,
     depth: &str,
@@ -32,14 +33,32 @@ pub(crate) fn edit(
     };
     let mut editor = opened(rt, depth, document)?;
     for command in before {
-        let command = command_of(rt, command)?;
-        if done(rt, &mut editor, &command).is_err() {
-            return Err(io::Error::from(ErrorKind::InvalidInput));
-        }
+        prepare(rt, &mut editor, command)?;
     }
     let command = command_of(rt, last)?;
     let answer = counted!(rt; done(rt, &mut editor, &command));
     line(rt, &answer, &left(rt, &editor)?)
+}
+
+/// Runs a command that comes before the last, or as many empty patches as a number says.
+fn prepare(rt: &HostRuntime, editor: &mut Editor, command: &Value) -> io::Result<()> {
+    let Some(times) = command.as_u64() else {
+        return run(rt, editor, &command_of(rt, command)?);
+    };
+    for _ in 0..times {
+        run(rt, editor, &Command::Apply(Patch::new(rt.alloc())))?;
+    }
+    Ok(())
+}
+
+/// A refusal is an answer like others here, and leaves the editor as it was.
+fn run(rt: &HostRuntime, editor: &mut Editor, command: &Command) -> io::Result<()>
+    requires { IsWholeCommand command.now }
+{
+    match done(rt, editor, command) {
+        Err(PatchFault::Memory(error)) => Err(error.into()),
+        _ => Ok(()),
+    }
 }
 
 fn opened(rt: &HostRuntime, depth: &str, document: &str) -> io::Result<Editor> {
