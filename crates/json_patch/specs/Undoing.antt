@@ -13,7 +13,7 @@ use Rattle.json_patch.specs.PartRun.{block_at}
 use Rattle.json_patch.specs.Refusal.{IfRefused, NamesFirst}
 use Rattle.json_patch.specs.Run.{Accepts}
 use Rattle.json_patch.specs.RunComputed.{after_step}
-use Rattle.json_patch.specs.SharedComputed.{strip}
+use Rattle.json_patch.specs.Shared.{strip}
 use Rattle.json_patch.specs.declared.error.PatchFault.{PatchFault}
 use Rattle.json_patch.specs.declared.error.StepFault.{StepFault}
 use Rattle.json_patch.specs.declared.record.Keep.{Keep}
