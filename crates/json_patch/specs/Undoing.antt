@@ -1,4 +1,4 @@
--- For private clauses: what a run has log_of, and which operations can be taken back with no memory.
+-- For private clauses: what a run has recorded, and which operations can be taken back with no memory.
 use Rattle.std.specs.Prelude.{◌≡◌, ◌≤◌, ◌<◌, ℕ, List, [], ◌∷◌, ◌++◌, Option, Some, None, Result, Ok, Err, take}
 use mathlib.Core.List.{reverse}
 use Rattle.serde_json.specs.Data.{Data, array}
