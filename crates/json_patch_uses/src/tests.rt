@@ -114,6 +114,8 @@ fn a_layer_overrides(rt: HostRuntime) -> Result<(), Fail> {
     assert_eq!(rt; number_or(&settings, port, 1), 8080);
     let level = Pointer::parse("/log/level").expect(&rt, "a pointer");
     assert_eq!(rt; number_or(&settings, level, 1), 1);
+    let hosts = Pointer::parse("/hosts").expect(&rt, "a pointer");
+    assert_eq!(rt; number_or(&settings, hosts, 1), 1);
     Ok(())
 }
 
