@@ -86,7 +86,7 @@ altered_append f d [] Q = refl
 altered_append f d (t ∷ P) Q =
     λ i. option_and_then (λ s. option_and_then (λ c. option_map (λ e. set_child s e d) (altered_append f c P Q i)) (child s d)) (segment_of d t)
 
--- what is pointee further on
+-- what stands further on
 found_on : (o : Option Segment) (d : Data) (P Q : Pointer) → ((c : Data) → pointee c (P ++ Q) ≡ option_and_then (λ p. pointee p Q) (pointee c P))
     → option_and_then (λ s. option_and_then (λ c. pointee c (P ++ Q)) (child s d)) o ≡ option_and_then (λ p. pointee p Q) (option_and_then (λ s. option_and_then (λ c. pointee c P) (child s d)) o)
 found_on o d P Q more = search rules

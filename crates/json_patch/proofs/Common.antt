@@ -53,8 +53,8 @@ pub use Rattle.json_patch.specs.Resolve.{Names, Resolves, StandsAt, Aims, HasTar
 pub use Rattle.json_patch.specs.Run.{Accepts, RefusesAt, IsAccepted, IsRefused, Ends, AreTests}
 pub use Rattle.json_patch.specs.RunComputed.{Outcome, fault, one_later, then_run, after_step, after_run, or_refused, begins, after_move, after_copy, after_test}
 pub use Rattle.json_patch.specs.SameComputed.{same, same_items, same_members, same_operation, same_parts}
-pub use Rattle.json_patch.specs.Shared.{AreWithin, IsNotEmpty, IsShared, IsWithin}
-pub use Rattle.json_patch.specs.SharedComputed.{strip, strip_all, extend, extend_all, common_prefix, all_pointers, parents_of, shared_of, shared_tokens}
+pub use Rattle.json_patch.specs.Shared.{AreWithin, IsNotEmpty, IsShared, IsWithin, strip, strip_all, extend, extend_all}
+pub use Rattle.json_patch.specs.SharedComputed.{common_prefix, all_pointers, parents_of, shared_of, shared_tokens}
 pub use Rattle.json_patch.specs.Sight.{Sight}
 pub use Rattle.json_patch.specs.Step.{Leaves, Never, Refuses}
 pub use Rattle.json_patch.specs.Undoing.{AreRecorded, log_of, AreUndos, IsUndo, IsUndoable, Records, count_in, From}

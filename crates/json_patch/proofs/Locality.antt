@@ -12,7 +12,7 @@ use Rattle.json_patch.proofs.Parents.{undo_add_in}
 
 -- ---- a run that is about one part of the document changes that part alone, as the run without the shared beginning changes it
 
--- ---- one part after_replace, and again
+-- ---- one part replaced, and again
 
 set_set : (s : Segment) (d c b a : Data) → IsDocument d → IsDocument b → IsDocument a → child s d ≡ Some c → set_child s a (set_child s b d) ≡ set_child s a d
 set_set s d c b a hd hb ha is =

@@ -56,7 +56,7 @@ ended d t P L s c p h names stands = search rules
 pub last_same : (L M : List Segment) (s r : Segment) → L ++ s ∷ [] ≡ M ++ r ∷ [] → (L ≡ M) × (s ≡ r)
 last_same L M s r h = grind (arith, common_steps)
 
--- ---- what is pointee at a pointer stands at the location to which it resolves
+-- ---- what is found at a pointer stands at the location to which it resolves
 
 pub found_resolves : (d : Data) (P : List (List ℕ)) (c : Data) → pointee d P ≡ Some c → (L : List Segment) × Resolves d P L c
 found_resolves d [] c is = ([], cc)

@@ -32,7 +32,7 @@ mutual
   merged_are_members no_members ms h hp = h
   merged_are_members (member k q ps) ms h hp = search (rules, next_removed, without_members, next_merged, put_members, was_document, null_cases, merged_are_members ps, merged_document q)
 
--- ---- it is Merged
+-- ---- it is what IsMerged says
 
 pub name_cases : (q k : List ℕ) → (q ≡ k) ⊎ (q ≢ k)
 name_cases q k = ⊎_elim (λ (e : key q ≡ key k). inl cc) (λ (out : key q ≡ key k → ⊥). inr (λ h. out (ap key h))) (step_cases (key q) (key k))
@@ -73,7 +73,7 @@ mutual
       (along refl refl (get_member-put l (after_merge w q) ms) (merges other (merged_is q w hw hp.1)))
       (member_is ps (put l (after_merge w q) ms) k (put_members l (after_merge w q) ms h (merged_document q w hw hp.1)) hp.2)) (null_cases q)
 
--- ---- after_merge again, and one document alone
+-- ---- merged again, and one document alone
 
 mutual
   pub again : {d p e : Data} → IsMerged d p e → IsMerged e p e

@@ -72,7 +72,7 @@ move_nowhere d F P out none = rw (not_begins F P out, none) (search rules)
 pub not_inside : (F P : Pointer) → (IsTrue false ↔ IsProperPrefix F P) → IsProperPrefix F P → ⊥
 not_inside F P h p = let yes : false ≡ true = h.1 p in cc
 
--- the value is out, and is after_add or not
+-- the value is out, and is put in or not
 pub move_goes : {T : Type 0} (r : Result T StepFault) (d m e : Data) (v : Value) (S F P G Q : Pointer) → F ≡ drop (length S) G → P ≡ drop (length S) Q → TakesOut d m F P v → Attempts r (after_add m P (view v)) m e
     → ComesTo r (after_step d (strip S (move G Q))) e
 move_goes r d m e v S F P G Q from path out h = search (rules, not_begins)

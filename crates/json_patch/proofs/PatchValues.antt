@@ -1,4 +1,4 @@
--- A value reads as one patch, or is refused with one number and kind; what is written_value reads back.
+-- A value reads as one patch, or is refused with one number and kind; what is written reads back.
 use Rattle.json_patch.proofs.Common.{◌≡◌, ℕ, zero, suc, List, [], ◌∷◌, map, ◌⊎◌, Option, Some, None, refl, sym, ◌∙◌, inl, inr, ⊎_elim, codes, Bool, false, true≢false, rules, subst, bytes_eq-Decides, Data, null, string, array, Items, no_items, item, get, items_of, Pointer, text_of, IsDocument, AreDocuments, Operation, add, remove, replace, move, copy, test, IsWholeOp, AreWhole, name_of, field_names, ReadsFields, ReadsOperation, ReadsItems, ReadsPatch, IsObject, IsOneOf, IsFieldFault, IsOperationFault, RefusesFields, RefusesOperation, RefusesItem, written_value, written_fields, written_patch, HasAnyFrom, ReadKind, NotAList, NotAnObject, MissingOp, OpNotText, UnknownOp, MissingFrom, FromNotText, BadFrom, MissingPath, PathNotText, BadPath, MissingValue, ValueNotWhole, one_pointer}
 use Rattle.std.specs.Str.{bytes_eq}
 use Rattle.json_patch.specs.ReadLaws.{IsRead, HasReadFault, IsReadAlone, HasReadFaultAlone, IsReadLike, HasReadFaultLike}
@@ -204,7 +204,7 @@ pub read_or_refused : (v : Data) → ((ops : List Operation) × IsRead v ops) �
 read_or_refused (array ds) = list_read_or_refused ds
 read_or_refused v = inr (None, NotAList, search rules)
 
--- ---- what is written_value reads back
+-- ---- what is written reads back
 
 written_items_read : (ops : List Operation) → AreWhole ops → ReadsItems (items_of (map written_value ops)) ops
 written_items_read [] w = tt

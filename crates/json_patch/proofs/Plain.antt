@@ -9,9 +9,9 @@ use Rattle.json_patch.proofs.Locations.{option_map_some, split_whole}
 use Rattle.json_patch.proofs.Runs.{accepted, accepts_document, accepts_ran}
 use Rattle.json_patch.proofs.StepOutcomes.{leaves_document, leaves_stepped, removed_document, stands_document, stands_found}
 
--- ---- what is pointee after a change
+-- ---- what stands at a pointer after a change
 
--- what the change makes is pointee where it was made
+-- what the change makes stands where it was made
 found_changed : (f : Data → Option Data) (d : Data) (P : Pointer) (e : Data) → after_change f d P ≡ Some e → (p q : Data) × (f p ≡ Some q) × (pointee e P ≡ Some q)
 found_changed f d [] e is = (d, e, is, refl)
 found_changed f d (t ∷ P) e is =
@@ -37,7 +37,7 @@ next_untaken p ds is = search (rules, next_is_no_place, option_map_some)
 plain_found : (d : Data) (P : Pointer) (c : Data) → pointee d P ≡ Some c → NamesNoNext d P
 plain_found d P c is F R ds whole stands = search (rules, next_nowhere d F R ds (stands_found d F (array ds) stands), stands_found d F (array ds) stands, next_nowhere, stands_found)
 
--- nor does one from which a value was after_remove
+-- nor does one from which a value was removed
 plain_removed : (d : Data) (P : Pointer) (m : Data) → after_remove d P ≡ Some m → NamesNoNext m P
 plain_removed d P m is F [] ds whole stands =
     let i = found_changed (take_from next_token) d F m (sym (removed_in d P F next_token whole) ∙ is) in

@@ -3,7 +3,7 @@ use Rattle.json_patch.proofs.Common.{common_steps, ◌≡◌, ◌↔◌, ◌+◌
 use Rattle.json_patch.proofs.ProgramRuns.{IsAt}
 use Rattle.json_patch.proofs.Locations.{split_whole, split_is}
 
--- ---- the longest shared_tokens beginning
+-- ---- the longest beginning that is shared
 
 prefix_trans : (P Q R : Pointer) → IsPrefix P Q → IsPrefix Q R → IsPrefix P R
 prefix_trans P Q R h g = (h.0 ++ g.0, g.1 ∙ ap (λ X. X ++ g.0) h.1 ∙ append_assoc P h.0 g.0)
@@ -192,10 +192,10 @@ shares_all os rest first k S is le h = record {
 
 pub shares_none : (os rest : List PatchOperation) (k : ℕ) (o : PatchOperation) (S : Pointer) → k < length rest → IsAt rest k o → Shares os rest k S
     → ((T : Pointer) → IsWithin T (operation_of o) → ⊥) → (T : Pointer) → IsShared (operations os) T → ⊥
-shares_none os rest k o S less is h none T shared_tokens = none T ((within_at T rest k o less is).0 ((h T).0 shared_tokens.within).1).0
+shares_none os rest k o S less is h none T shared = none T ((within_at T rest k o less is).0 ((h T).0 shared.within).1).0
 
 pub first_shares_none : (os rest : List PatchOperation) (first : PatchOperation) → os ≡ first ∷ rest → ((T : Pointer) → IsWithin T (operation_of first) → ⊥) → (T : Pointer) → IsShared (operations os) T → ⊥
-first_shares_none os rest first is none T shared_tokens = none T (subst (λ xs. AreWithin T (operations xs)) is shared_tokens.within).0
+first_shares_none os rest first is none T shared = none T (subst (λ xs. AreWithin T (operations xs)) is shared.within).0
 
 pub even_if_none : {T : Type 0} (o : Option T) (P : Type 0) → P → IfNone o P
 even_if_none o P h = search rules

@@ -101,7 +101,7 @@ never_replaced d P v hd hv h = none_of (after_replace d P v) (λ e is. h e (repl
 pub removed_document : (d : Data) (P : Pointer) (m : Data) → IsRemoved d P m → IsDocument m
 removed_document d P m h = h.4
 
--- nothing stands there, so nothing is after_remove
+-- nothing stands there, so nothing is removed
 nothing_removed : (d : Data) (P : Pointer) → pointee d P ≡ None → Never (IsRemoved d P)
 nothing_removed d P is e h = found_never d P is h.2 (h.0 ++ h.1 ∷ [], h.3)
 

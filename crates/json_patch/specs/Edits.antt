@@ -30,7 +30,7 @@ Displaces edit t d was = ⊥
 abbrev pub DisplacesAt : Edit → Data → Pointer → List ℕ → Displaced → Type 0
 DisplacesAt edit d P t was = (c : Data) × (pointee d P ≡ Some c) × Displaces edit t c was
 
--- what takes back, at this place, a change that pointee this
+-- what takes back, at this place, an edit that displaced this
 abbrev pub undo_at_place : Pointer → Displaced → Operation
 undo_at_place P Nothing = remove P
 undo_at_place P (Former w) = replace P (view w)

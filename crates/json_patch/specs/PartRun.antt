@@ -4,8 +4,7 @@ use Rattle.serde_json.specs.Data.{Data}
 use Rattle.jsonptr.specs.Text.{Pointer, IsPrefix}
 use Rattle.json_patch.specs.InverseComputed.{block}
 use Rattle.json_patch.specs.Operation.{Operation, add, remove, replace, move, copy, test}
-use Rattle.json_patch.specs.Shared.{AreWithin}
-use Rattle.json_patch.specs.SharedComputed.{strip, extend_all}
+use Rattle.json_patch.specs.Shared.{AreWithin, extend_all, strip}
 
 -- the tokens of S begin each pointer of op
 abbrev pub IsBegun : Pointer → Operation → Type 0

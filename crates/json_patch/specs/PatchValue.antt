@@ -1,5 +1,5 @@
 -- A patch as a JSON value (RFC 6902, sections 3 and 4): the members of an operation, when a value
--- reads as a patch, why it doesn't, and what is written_value for a patch.
+-- reads as a patch, why it doesn't, and what is written for one.
 use Rattle.std.specs.Prelude.{◌≡◌, ◌<◌, ℕ, zero, suc, List, [], ◌∷◌, ◌++◌, map, Option, Some, None, option_map, Result, IfErr, IsTrue, codes}
 use Rattle.std.specs.List.{list_any}
 use Rattle.std.specs.Str.{bytes_eq}
@@ -193,7 +193,7 @@ OfKind P = OfRefusal (λ e. (e.operation ≡ None) × P e.kind)
 abbrev pub IfUnreadAlone : {T : Type 0} → Result T ReadFault → (ReadKind → Type 0) → Type 0
 IfUnreadAlone r P = IfErr r (OfKind P)
 
--- ---- what is written_value
+-- ---- what is written
 
 -- these members, in the order of their names
 abbrev pub sorted_members : List (List ℕ × Data) → Members

@@ -1,6 +1,6 @@
 -- The part of a document that a list of operations is about: the tokens that begin the parent of each of their
 -- pointers (RFC 6901, section 3; RFC 6902, section 4).
-use Rattle.std.specs.Prelude.{List, [], ◌∷◌}
+use Rattle.std.specs.Prelude.{List, [], ◌∷◌, ◌++◌, length, drop, map}
 use Rattle.jsonptr.specs.Text.{Pointer, IsPrefix, IsProperPrefix}
 use Rattle.json_patch.specs.Operation.{Operation, add, remove, replace, move, copy, test}
 
@@ -27,3 +27,28 @@ pub record IsShared (ops : List Operation) (S : Pointer) : Type 0 where
   pub some : IsNotEmpty ops
   pub within : AreWithin S ops
   pub longest : (T : Pointer) → AreWithin T ops → IsPrefix T S
+
+-- op with each pointer taken from where S ends: without as many tokens at its front as S has
+abbrev pub strip : Pointer → Operation → Operation
+strip S (add P v) = add (drop (length S) P) v
+strip S (remove P) = remove (drop (length S) P)
+strip S (replace P v) = replace (drop (length S) P) v
+strip S (move F P) = move (drop (length S) F) (drop (length S) P)
+strip S (copy F P) = copy (drop (length S) F) (drop (length S) P)
+strip S (test P v) = test (drop (length S) P) v
+
+abbrev pub strip_all : Pointer → List Operation → List Operation
+strip_all S [] = []
+strip_all S (op ∷ ops) = strip S op ∷ strip_all S ops
+
+-- op with the tokens of S in front of each pointer
+abbrev pub extend : Pointer → Operation → Operation
+extend S (add P v) = add (S ++ P) v
+extend S (remove P) = remove (S ++ P)
+extend S (replace P v) = replace (S ++ P) v
+extend S (move F P) = move (S ++ F) (S ++ P)
+extend S (copy F P) = copy (S ++ F) (S ++ P)
+extend S (test P v) = test (S ++ P) v
+
+abbrev pub extend_all : Pointer → List Operation → List Operation
+extend_all S ops = map (extend S) ops

@@ -1,33 +1,8 @@
--- Operations without the tokens that all their pointers begin with, operations with more of them, and those tokens, computed.
-use Rattle.std.specs.Prelude.{List, [], ◌∷◌, ◌++◌, length, drop, map, bytes_eq, Option, Some, None, if◌then◌else◌}
+-- The tokens that all pointers of a list begin with, computed.
+use Rattle.std.specs.Prelude.{List, [], ◌∷◌, ◌++◌, bytes_eq, Option, Some, None, if◌then◌else◌}
 use Rattle.jsonptr.specs.Text.{Pointer}
 use Rattle.json_patch.specs.Operation.{Operation, add, remove, replace, move, copy, test}
 use Rattle.json_patch.specs.ChangeComputed.{front_of}
-
--- op without as many tokens at the front of each pointer as S has
-abbrev pub strip : Pointer → Operation → Operation
-strip S (add P v) = add (drop (length S) P) v
-strip S (remove P) = remove (drop (length S) P)
-strip S (replace P v) = replace (drop (length S) P) v
-strip S (move F P) = move (drop (length S) F) (drop (length S) P)
-strip S (copy F P) = copy (drop (length S) F) (drop (length S) P)
-strip S (test P v) = test (drop (length S) P) v
-
-abbrev pub strip_all : Pointer → List Operation → List Operation
-strip_all S [] = []
-strip_all S (op ∷ ops) = strip S op ∷ strip_all S ops
-
--- op with the tokens of S in front of each pointer
-abbrev pub extend : Pointer → Operation → Operation
-extend S (add P v) = add (S ++ P) v
-extend S (remove P) = remove (S ++ P)
-extend S (replace P v) = replace (S ++ P) v
-extend S (move F P) = move (S ++ F) (S ++ P)
-extend S (copy F P) = copy (S ++ F) (S ++ P)
-extend S (test P v) = test (S ++ P) v
-
-abbrev pub extend_all : Pointer → List Operation → List Operation
-extend_all S ops = map (extend S) ops
 
 -- the longest list of tokens that begins both
 abbrev pub common_prefix : Pointer → Pointer → Pointer

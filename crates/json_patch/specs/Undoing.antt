@@ -1,4 +1,4 @@
--- For private clauses: what a run has log_of, and which operations can be taken back with no memory.
+-- For private clauses: what a run has recorded, and which operations can be taken back with no memory.
 use Rattle.std.specs.Prelude.{◌≡◌, ◌≤◌, ◌<◌, ℕ, List, [], ◌∷◌, ◌++◌, Option, Some, None, Result, Ok, Err, take}
 use mathlib.Core.List.{reverse}
 use Rattle.serde_json.specs.Data.{Data, array}
@@ -13,7 +13,7 @@ use Rattle.json_patch.specs.PartRun.{block_at}
 use Rattle.json_patch.specs.Refusal.{IfRefused, NamesFirst}
 use Rattle.json_patch.specs.Run.{Accepts}
 use Rattle.json_patch.specs.RunComputed.{after_step}
-use Rattle.json_patch.specs.SharedComputed.{strip}
+use Rattle.json_patch.specs.Shared.{strip}
 use Rattle.json_patch.specs.declared.error.PatchFault.{PatchFault}
 use Rattle.json_patch.specs.declared.error.StepFault.{StepFault}
 use Rattle.json_patch.specs.declared.record.Keep.{Keep}

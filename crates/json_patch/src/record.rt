@@ -12,7 +12,7 @@ ghost use Rattle.json_patch.specs.InverseComputed.{undo_add};
 ghost use Rattle.json_patch.specs.Operation.{move_of, operation_of, operations, path_of};
 ghost use Rattle.json_patch.specs.PartRun.{IsBegun};
 ghost use Rattle.json_patch.specs.RunComputed.{after_run, after_step};
-ghost use Rattle.json_patch.specs.SharedComputed.{strip};
+ghost use Rattle.json_patch.specs.Shared.{strip};
 ghost use Rattle.json_patch.specs.Undoing.{AreUndos, IsUndo, IsUndoable, Records, count_in};
 ghost use Rattle.json_patch.specs.declared.record.Keep.TheVariants.{Inverse, Nothing};
 

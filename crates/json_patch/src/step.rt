@@ -11,7 +11,7 @@ ghost use Rattle.json_patch.specs.InPlace.{AreUnescaped, IsInPlace, NeverShort};
 ghost use Rattle.json_patch.specs.Operation.{IsMove, operation_of, add as add_at, copy as copy_at, move as move_at, replace as replace_at, test as test_at};
 ghost use Rattle.json_patch.specs.PartRun.{IsBegun};
 ghost use Rattle.json_patch.specs.RunComputed.{after_step};
-ghost use Rattle.json_patch.specs.SharedComputed.{strip};
+ghost use Rattle.json_patch.specs.Shared.{strip};
 
 use crate::equality::same_values;
 use crate::error::{PatchErrorKind, StepFault};

@@ -4,6 +4,7 @@
 mod example;
 mod fault;
 mod layers;
+mod pointers;
 #[cfg(test)]
 mod readme;
 mod session;
@@ -16,6 +17,7 @@ mod versioned;
 pub use example::first_example;
 pub use fault::UpdateFault;
 pub use layers::{merge_all, number_or};
+pub use pointers::{depth, item, member};
 pub use session::tried;
 pub use store::Store;
 pub use texts::patched;

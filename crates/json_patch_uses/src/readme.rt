@@ -20,9 +20,10 @@ fn from_texts(alloc: Global) -> Result<Value, UpdateFault> {
     let mut document = Value::from_str(alloc, r#"{"a":1,"l":[1,2]}"#)?;
     let value = Value::from_str(alloc, r#"[{"op":"add","path":"/l/-","value":3}]"#)?;
     let changes = Patch::from_value(alloc, &value)?;
-    if is_whole(&document) {
-        patch(alloc, &mut document, changes.as_slice())?;
+    if !is_whole(&document) {
+        return Err(UpdateFault::NotWhole);
     }
+    patch(alloc, &mut document, changes.as_slice())?;
     Ok(document)
 }
 

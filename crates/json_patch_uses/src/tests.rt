@@ -1,8 +1,8 @@
 //! Each program on an example.
 
 use crate::{
-    Store, UpdateFault, VersionFault, first_example, merge_all, number_or, patched, tried,
-    update_version,
+    Store, UpdateFault, VersionFault, depth, first_example, item, member, merge_all, number_or,
+    patched, tried, update_version,
 };
 use json_patch::jsonptr::Pointer;
 use json_patch::{Patch, is_whole};
@@ -114,6 +114,8 @@ fn a_layer_overrides(rt: HostRuntime) -> Result<(), Fail> {
     assert_eq!(rt; number_or(&settings, port, 1), 8080);
     let level = Pointer::parse("/log/level").expect(&rt, "a pointer");
     assert_eq!(rt; number_or(&settings, level, 1), 1);
+    let hosts = Pointer::parse("/hosts").expect(&rt, "a pointer");
+    assert_eq!(rt; number_or(&settings, hosts, 1), 1);
     Ok(())
 }
 
@@ -139,5 +141,19 @@ fn the_example_is_made(rt: HostRuntime) -> Result<(), Fail> {
         made.to_string(alloc)?.as_str(),
         r#"{"baz":"qux","foo":"bar"}"#
     );
+    Ok(())
+}
+
+#[test]
+fn a_pointer_goes_further_and_back(rt: HostRuntime) -> Result<(), Fail> {
+    let path = member(rt.alloc(), "/a~1b/0", "m~n").expect(&rt, "a pointer");
+    assert_eq!(rt; path.as_str(), "/a~1b/0/m~0n");
+    assert_eq!(rt; depth(path.as_pointer()), 3);
+    assert!(rt; item(path.as_pointer()).is_none());
+    let (item_path, _) = path.as_pointer().split_back().expect(&rt, "a member");
+    let (list, place) = item(item_path).expect(&rt, "an item");
+    assert_eq!(rt; list.as_str(), "/a~1b");
+    assert_eq!(rt; place, 0);
+    assert!(rt; member(rt.alloc(), "a", "b").is_err());
     Ok(())
 }

@@ -8,14 +8,13 @@ use Rattle.std.proofs.lemmas.Bool.{cases_lt}
 use Rattle.std.proofs.lemmas.Str.Parse.{IsNumeralModel, numerals_by_value, tells_by_index, tells_all_ascii_digits, parse_digits}
 use Rattle.jsonptr.specs.Indexes.{HasLeadingZero, IsIndexText, IsNoIndexText, IsNoInteger, IsIndexFault}
 use Rattle.jsonptr.specs.Places.{place_of, next_token}
-use Rattle.jsonptr.specs.Scanning.{decoded}
-use Rattle.jsonptr.specs.Text.{encoded}
+use Rattle.jsonptr.specs.Text.{decoded, encoded}
 use Rattle.jsonptr.specs.declared.index.Index.TheVariants.{Num, Next}
 use Rattle.jsonptr.specs.declared.index.Index.{Index}
 use Rattle.jsonptr.specs.declared.index.ParseIndexError.TheVariants.{InvalidInteger, LeadingZeros, InvalidCharacter}
 use Rattle.jsonptr.specs.declared.index.ParseIndexError.{ParseIndexError}
 use Rattle.jsonptr.specs.PlaceLaws.{Tells, tells, tells_back, encoded_digit, next_is_no_place}
-use Rattle.jsonptr.specs.TextLaws.{decoded-encoded}
+use Rattle.jsonptr.specs.TextLaws.{decoded_again}
 use Rattle.jsonptr.proofs.Texts.{NoTilde-from, decoded-NoTilde}
 
 abbrev IsDigits : List ℕ → Type 0
@@ -92,10 +91,10 @@ encoded-digits (x ∷ t) d =
 
 token_index : (d : List ℕ) (i : Index) → IsIndexText (encoded d) i → IsIndexText d i
 token_index d (Num n) h =
-    let same : encoded d ≡ d = sym (decoded-digits (encoded d) (place_digits (encoded d) n h.0)) ∙ decoded-encoded d in
+    let same : encoded d ≡ d = sym (decoded-digits (encoded d) (place_digits (encoded d) n h.0)) ∙ decoded_again d in
     subst (λ t. IsIndexText t (Num n)) same h
 token_index d Next h =
-    sym (decoded-encoded d) ∙ ap decoded h
+    sym (decoded_again d) ∙ ap decoded h
 
 token_none : (d : List ℕ) → IsNoIndexText (encoded d) → IsNoIndexText d
 token_none d h = record {

@@ -14,9 +14,9 @@ use Rattle.std.specs.Str.Pattern.{FindsChar, RFindsChar, SplitsAroundMatch, Stri
 use Rattle.std.proofs.lemmas.Str.Pattern.{find_char, NoCharPasses-char, drop_at_char}
 use Rattle.jsonptr.specs.Faults.{IsFault}
 use Rattle.jsonptr.specs.declared.error.ParseError.{ParseError}
-use Rattle.jsonptr.specs.Text.{encoded_byte, encoded, text_of, IsPrefix, IsNoPointerText}
-use Rattle.jsonptr.specs.TextLaws.{by_byte, tokens_of_text-append, scanned-NoSlash, tokens_of_text-one, Starts-text_of, NoSlash-encoded, decoded-encoded, unscanned-scanned, text_of-tokens_of_text, Escaped-append, Escaped-encoded, Escaped-text_of, one_pointer, pointer_has_no_fault}
-use Rattle.jsonptr.specs.Scanning.{after_tilde, put, decoded, tokens_of_text, IsOfItsTokens, IsEncoded, Starts, NoSlash, StartsEscape, Escaped}
+use Rattle.jsonptr.specs.Text.{after_tilde, decoded, decoded_byte, encoded_byte, encoded, text_of, IsPrefix, IsNoPointerText}
+use Rattle.jsonptr.specs.TextLaws.{by_byte, tokens_of_text-append, scanned-NoSlash, tokens_of_text-one, Starts-text_of, NoSlash-encoded, decoded_again, unscanned-scanned, text_of-tokens_of_text, Escaped-append, Escaped-encoded, Escaped-text_of, one_pointer, pointer_has_no_fault}
+use Rattle.jsonptr.specs.Scanning.{tokens_of_text, IsOfItsTokens, IsEncoded, Starts, NoSlash, StartsEscape, Escaped}
 
 pub if_none : {A : Type 0} {P : Type 0} (o : Option A) → P → IfNone o P
 if_none None p = p
@@ -216,8 +216,8 @@ by_escape P zero_ one other x =
     (λ n. ⊎_elim (λ e. subst P (sym e) one) (λ m. other x (ne_eqb x 49 m) (ne_eqb x 48 n)) (cases_eq x 49))
     (cases_eq x 48)
 
-put-other : (x : ℕ) (t : List ℕ) → eqb x 126 ≡ false → put x t ≡ x ∷ t
-put-other x t m = rw (m, put) refl
+decoded_byte-other : (x : ℕ) (t : List ℕ) → eqb x 126 ≡ false → decoded_byte x t ≡ x ∷ t
+decoded_byte-other x t m = rw (m, decoded_byte) refl
 
 after_tilde-other : (y : ℕ) (t : List ℕ) → eqb y 49 ≡ false → eqb y 48 ≡ false → after_tilde (y ∷ t) ≡ 126 ∷ y ∷ t
 after_tilde-other y t n m = rw (n, m, after_tilde) refl
@@ -227,9 +227,9 @@ after_tilde_nonempty [] = λ h. omega arith
 after_tilde_nonempty (y ∷ t) = by_escape (λ y. length (after_tilde (y ∷ t)) ≡ 0 → ⊥) (λ h. omega arith) (λ h. omega arith)
     (λ x n m. subst (λ l. length l ≡ 0 → ⊥) (sym (after_tilde-other x t n m)) (λ h. omega arith)) y
 
-put_nonempty : (x : ℕ) (t : List ℕ) → length (put x t) ≡ 0 → ⊥
-put_nonempty x t = by_byte (λ x. length (put x t) ≡ 0 → ⊥) (λ h. omega arith) (after_tilde_nonempty t)
-    (λ x n m. subst (λ l. length l ≡ 0 → ⊥) (sym (put-other x t m)) (λ h. omega arith)) x
+decoded_byte_nonempty : (x : ℕ) (t : List ℕ) → length (decoded_byte x t) ≡ 0 → ⊥
+decoded_byte_nonempty x t = by_byte (λ x. length (decoded_byte x t) ≡ 0 → ⊥) (λ h. omega arith) (after_tilde_nonempty t)
+    (λ x n m. subst (λ l. length l ≡ 0 → ⊥) (sym (decoded_byte-other x t m)) (λ h. omega arith)) x
 
 empty_text : (t : List ℕ) → length t ≡ 0 → t ≡ []
 empty_text [] h = refl
@@ -237,7 +237,7 @@ empty_text (x ∷ t) h = absurd (omega arith)
 
 pub decoded_nonempty : (t : List ℕ) → length (decoded t) ≡ 0 → length t ≡ 0
 decoded_nonempty [] h = refl
-decoded_nonempty (x ∷ t) h = absurd (put_nonempty x (decoded t) h)
+decoded_nonempty (x ∷ t) h = absurd (decoded_byte_nonempty x (decoded t) h)
 
 -- the key was read to its end
 pub is_key_all : (key rest d : List ℕ) (i : ℕ) → length key ≤ i → d ≡ take i key ++ decoded rest → (length rest ≡ 0 → d ≡ key) × (d ≡ key → length rest ≡ 0)
@@ -312,7 +312,7 @@ push_valid t raw v = text_of-tokens_of_text (t ++ 47 ∷ encoded raw)
 
 pub push_tokens : (t raw : List ℕ) → tokens_of_text (t ++ 47 ∷ encoded raw) ≡ tokens_of_text t ++ raw ∷ []
 push_tokens t raw = tokens_of_text-append t (47 ∷ encoded raw) refl
-    ∙ ap (λ a. tokens_of_text t ++ a) (tokens_of_text-one (encoded raw) (NoSlash-encoded raw) ∙ ap (λ d. d ∷ []) (decoded-encoded raw))
+    ∙ ap (λ a. tokens_of_text t ++ a) (tokens_of_text-one (encoded raw) (NoSlash-encoded raw) ∙ ap (λ d. d ∷ []) (decoded_again raw))
 
 pub same_tokens : (P Q : List (List ℕ)) (r : Bool) → r ≡ bytes_eq (text_of P) (text_of Q) → (r ≡ true → P ≡ Q) × (P ≡ Q → r ≡ true)
 same_tokens P Q r e =

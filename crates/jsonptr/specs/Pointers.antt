@@ -5,7 +5,8 @@ use Rattle.std.specs.Prelude.{ℕ, List}
 use Rattle.jsonptr.specs.declared.pointer.Pointer.{Pointer}
 use Rattle.jsonptr.specs.declared.token.Token.{Token}
 use Rattle.jsonptr.specs.declared.token.Tokens.{Tokens}
-use Rattle.jsonptr.specs.Scanning.{tokens_of_text, decoded}
+use Rattle.jsonptr.specs.Scanning.{tokens_of_text}
+use Rattle.jsonptr.specs.Text.{decoded}
 
 -- the tokens of a pointer
 unfoldable pub tokens_of : Pointer → List (List ℕ)

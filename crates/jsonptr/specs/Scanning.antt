@@ -1,29 +1,12 @@
--- The way back from a text to its tokens, byte by byte (RFC 6901, section 4: `~1` is read as /,
--- and then `~0` as ~). Only the types' own invariants and private contracts rest on these words;
--- a public contract speaks of a text by `text_of` and `encoded`.
+-- The way back from a text to its tokens, byte by byte. Only the types' own invariants and private
+-- contracts rest on these words; a public contract speaks of a text by `text_of` and `encoded`.
 use Rattle.std.specs.Prelude.{◌≡◌, ℕ, List, [], ◌∷◌, ◌==◌, if◌then◌else◌, ◌⊎◌}
-use Rattle.jsonptr.specs.Text.{encoded, text_of}
-
--- ---- tokens
-
--- what follows a ~ in an encoded token, decoded: its first byte stands for another
-abbrev pub after_tilde : List ℕ → List ℕ
-after_tilde [] = 126 ∷ []
-after_tilde (y ∷ t) = if y == 49 then 47 ∷ t else (if y == 48 then 126 ∷ t else 126 ∷ y ∷ t)
-
--- a byte of an encoded token, before what the rest of it decodes to
-abbrev pub put : ℕ → List ℕ → List ℕ
-put x t = if x == 126 then after_tilde t else x ∷ t
-
--- the token that an encoded token stands for
-abbrev pub decoded : List ℕ → List ℕ
-decoded [] = []
-decoded (x ∷ t) = put x (decoded t)
+use Rattle.jsonptr.specs.Text.{decoded, decoded_byte, encoded, text_of}
 
 -- one byte before a text of which the front, up to its first /, decodes to s.0, and of which the
 -- rest has the tokens s.1
 abbrev pub scan : ℕ → List ℕ × List (List ℕ) → List ℕ × List (List ℕ)
-scan x s = if x == 47 then ([], s.0 ∷ s.1) else (put x s.0, s.1)
+scan x s = if x == 47 then ([], s.0 ∷ s.1) else (decoded_byte x s.0, s.1)
 
 -- what a text up to its first / decodes to, and the tokens from there on
 abbrev pub scanned : List ℕ → List ℕ × List (List ℕ)

@@ -15,6 +15,20 @@ abbrev pub encoded : List ℕ → List ℕ
 encoded [] = []
 encoded (x ∷ t) = encoded_byte x ++ encoded t
 
+-- the way back (section 4): what is left of a token after a ~, with its first byte read as an escape
+abbrev pub after_tilde : List ℕ → List ℕ
+after_tilde [] = 126 ∷ []
+after_tilde (y ∷ t) = if y == 49 then 47 ∷ t else (if y == 48 then 126 ∷ t else 126 ∷ y ∷ t)
+
+-- a byte of an encoded token, before what the rest of it decodes to
+abbrev pub decoded_byte : ℕ → List ℕ → List ℕ
+decoded_byte x t = if x == 126 then after_tilde t else x ∷ t
+
+-- the token that an encoded token stands for: ~1 is read as /, and ~0 as ~
+abbrev pub decoded : List ℕ → List ℕ
+decoded [] = []
+decoded (x ∷ t) = decoded_byte x (decoded t)
+
 -- the text of a pointer: for each token / and the encoded token
 abbrev pub text_of : List (List ℕ) → List ℕ
 text_of [] = []

@@ -1,11 +1,12 @@
--- Laws of pointers and their texts, for the proofs above this crate to cite: the last section, which
--- the module `laws` has as contracts. Before it stands what its proofs and this crate's others need.
+-- Laws of pointers and their texts, for the proofs above this crate to cite: the last section and
+-- `decoded_again`, which the module `laws` has as contracts. Before the last section stands what its
+-- proofs and this crate's others need.
 use Rattle.std.proofs.Common.{◌≡◌, ◌<◌, ◌+◌, ℕ, zero, suc, List, [], ◌∷◌, ◌++◌, length, get_or, slice_index, eqb, false, refl, sym, ap, ◌∙◌, inl, inr, subst, add-one, ⊎_elim, arith}
 use Rattle.std.specs.Prelude.{◌⊎◌}
 use Rattle.std.proofs.lemmas.Bool.{cases_eq, cases_lt, ne_eqb, eqb-false}
 use Rattle.jsonptr.specs.Faults.{IsFault, IsBareTilde, BeginsWell}
-use Rattle.jsonptr.specs.Scanning.{decoded, scan, scanned, tokens_of_text, Starts, NoSlash, StartsEscape, Escaped}
-use Rattle.jsonptr.specs.Text.{Pointer, IsPointerText, encoded_byte, encoded, text_of}
+use Rattle.jsonptr.specs.Scanning.{scan, scanned, tokens_of_text, Starts, NoSlash, StartsEscape, Escaped}
+use Rattle.jsonptr.specs.Text.{Pointer, IsPointerText, decoded, encoded_byte, encoded, text_of}
 use Rattle.jsonptr.specs.declared.error.ParseError.{ParseError}
 use Rattle.jsonptr.specs.declared.error.ParseError.TheVariants.{NoLeadingSlash, InvalidEncoding}
 
@@ -62,9 +63,10 @@ decoded-byte : (r : List ℕ) (x : ℕ) → decoded (encoded_byte x ++ r) ≡ x 
 decoded-byte r = by_byte (λ x. decoded (encoded_byte x ++ r) ≡ x ∷ decoded r)
     refl refl (λ x n m. rw (n, m, m) refl)
 
-pub decoded-encoded : (t : List ℕ) → decoded (encoded t) ≡ t
-decoded-encoded [] = refl
-decoded-encoded (x ∷ t) = decoded-byte (encoded t) x ∙ ap (λ r. x ∷ r) (decoded-encoded t)
+-- a law: a token, encoded and decoded again, is the same
+pub decoded_again : (t : List ℕ) → decoded (encoded t) ≡ t
+decoded_again [] = refl
+decoded_again (x ∷ t) = decoded-byte (encoded t) x ∙ ap (λ r. x ∷ r) (decoded_again t)
 
 -- the tokens of a text give the text, and the text gives the tokens
 pub tokens_of_text-text_of : (P : List (List ℕ)) → tokens_of_text (text_of P) ≡ P
@@ -72,7 +74,7 @@ tokens_of_text-text_of [] = refl
 tokens_of_text-text_of (t ∷ P) =
     tokens_of_text-append (47 ∷ encoded t) (text_of P) (Starts-text_of P)
     ∙ ap (λ a. a ++ tokens_of_text (text_of P)) (tokens_of_text-one (encoded t) (NoSlash-encoded t))
-    ∙ rw (decoded-encoded t, tokens_of_text-text_of P) refl
+    ∙ rw (decoded_again t, tokens_of_text-text_of P) refl
 
 -- ---- a text with its escapes
 
@@ -188,9 +190,9 @@ first_bare_one t i j f g =
 
 -- ---- the laws
 
--- an encoded text is one token's
+-- an encoded token is that of one token alone
 pub encoded_once : (t u : List ℕ) → encoded t ≡ encoded u → t ≡ u
-encoded_once t u e = sym (decoded-encoded t) ∙ ap decoded e ∙ decoded-encoded u
+encoded_once t u e = sym (decoded_again t) ∙ ap decoded e ∙ decoded_again u
 
 -- a text is one pointer's
 pub one_pointer : (P Q : Pointer) → text_of P ≡ text_of Q → P ≡ Q

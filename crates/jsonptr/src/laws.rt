@@ -5,7 +5,7 @@
 ghost use Rattle.std.specs.Prelude.{◌≡◌, ◌↔◌, ◌⊎◌, ◌<◌, ◌^◌, ℕ, List, Some, None, decimal};
 ghost use Rattle.jsonptr.specs.Faults.{IsFault};
 ghost use Rattle.jsonptr.specs.Places.{place_of, decimal_token, next_token};
-ghost use Rattle.jsonptr.specs.Text.{Pointer, IsPointerText, encoded, text_of};
+ghost use Rattle.jsonptr.specs.Text.{Pointer, IsPointerText, decoded, encoded, text_of};
 
 use crate::ParseError;
 
@@ -26,9 +26,12 @@ pub fn places()
 {}
 
 /// Texts, and the pointers that they are.
-#[tactic(auto, using(crate::specs::TextLaws::encoded_once, crate::specs::TextLaws::one_pointer, crate::specs::TextLaws::pointer_has_no_fault, crate::specs::TextLaws::one_fault))]
+#[tactic(auto, using(crate::specs::TextLaws::decoded_again, crate::specs::TextLaws::encoded_once, crate::specs::TextLaws::one_pointer, crate::specs::TextLaws::pointer_has_no_fault, crate::specs::TextLaws::one_fault))]
 pub fn texts()
-    // An encoded text is that of one token: what is encoded and decoded again is the same.
+    // A token that is encoded and decoded again is the same.
+    ensures decoded_again { (t : List ℕ) → decoded (encoded t) ≡ t }
+
+    // So an encoded text is that of one token.
     ensures encoded_once { (t u : List ℕ) → encoded t ≡ encoded u → t ≡ u }
 
     // A text is that of one pointer.

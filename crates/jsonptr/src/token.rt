@@ -2,8 +2,8 @@
 
 ghost use Rattle.std.specs.Prelude.{◌≡◌, ℕ, ◌<◌, [], ◌∷◌, IfOk, IfSome, IfNone, OnErr, MatchResult, IsTrue, ◌↔◌};
 ghost use Rattle.std.specs.String.{string_bytes};
-ghost use Rattle.jsonptr.specs.Text.{encoded};
-ghost use Rattle.jsonptr.specs.Scanning.{IsEncoded, decoded, Escaped, StartsEscape, after_tilde};
+ghost use Rattle.jsonptr.specs.Text.{after_tilde, decoded, encoded};
+ghost use Rattle.jsonptr.specs.Scanning.{IsEncoded, Escaped, StartsEscape};
 
 use crate::Pointer;
 use crate::index::{Index, ParseIndexError};

@@ -1,6 +1,6 @@
-use Rattle.std.proofs.Common.{◌≡◌, ℕ, List, Option, Some, sym, ap, ◌∙◌, option_and_then}
+use Rattle.std.proofs.Common.{◌≡◌, ℕ, List, Option, Some, refl, subst, sym, ap, ◌∙◌, option_and_then}
 use Rattle.std.specs.Prelude.{unwrap_or}
-use Rattle.serde_json.specs.Data.{Data, number, unsigned}
+use Rattle.serde_json.specs.Data.{Data, null, boolean, number, unsigned, negative, float, string, array, object}
 use Rattle.serde_json.specs.Find.{as_number, as_u64}
 use Rattle.json_patch.specs.Resolve.{StandsAt}
 use Rattle.json_patch_uses.proofs.TestedFirst.{Law}
@@ -12,12 +12,23 @@ one_stands law d P v w h g = let e : Some v ≡ Some w = sym ((law d P v).0 h) �
 as_read : (d : Data) (n r default : ℕ) (o : Option ℕ) → d ≡ number (unsigned n) → o ≡ option_and_then as_u64 (as_number d) → r ≡ unwrap_or o default → r ≡ n
 as_read d n r default o e is u = u ∙ ap (λ x. unwrap_or x default) (is ∙ ap (λ c. option_and_then as_u64 (as_number c)) e)
 
+not_read : (d : Data) (r default : ℕ) (o : Option ℕ) → ((n : ℕ) → d ≡ number (unsigned n) → ⊥) → o ≡ option_and_then as_u64 (as_number d) → r ≡ unwrap_or o default → r ≡ default
+not_read null r default o none is u = u ∙ ap (λ x. unwrap_or x default) is
+not_read (boolean b) r default o none is u = u ∙ ap (λ x. unwrap_or x default) is
+not_read (number (unsigned n)) r default o none is u = absurd (none n refl)
+not_read (number (negative z)) r default o none is u = u ∙ ap (λ x. unwrap_or x default) is
+not_read (number (float x)) r default o none is u = u ∙ ap (λ y. unwrap_or y default) is
+not_read (string s) r default o none is u = u ∙ ap (λ x. unwrap_or x default) is
+not_read (array ds) r default o none is u = u ∙ ap (λ x. unwrap_or x default) is
+not_read (object ms) r default o none is u = u ∙ ap (λ x. unwrap_or x default) is
+
 pub returns-in-Some-clause-set : goal.returns-in-Some-clause-set
 returns-in-Some-clause-set c = λ n h.
     as_read _ n _ _ _ (one_stands c.documents.ensures.found_is_computed _ _ _ _ c.in-Some.ensures.found h) c.as_u64.ensures c.unwrap_or.ensures
 
 pub returns-in-Some-clause-unset : goal.returns-in-Some-clause-unset
-returns-in-Some-clause-unset c = λ never. absurd (never _ c.in-Some.ensures.found)
+returns-in-Some-clause-unset c = λ none.
+    not_read _ _ _ _ (λ n is. none n (subst (StandsAt _ _) is c.in-Some.ensures.found)) c.as_u64.ensures c.unwrap_or.ensures
 
 pub returns-in-None-clause-set : goal.returns-in-None-clause-set
 returns-in-None-clause-set c = λ n h. absurd (c.in-None.ensures.missing _ h)

@@ -1,8 +1,8 @@
 use Rattle.std.proofs.Common.{◌++◌, sym, ap, ◌∙◌, refl, rules}
 use Rattle.std.specs.String.{string_bytes}
 use Rattle.jsonptr.specs.Pointers.{token_of}
-use Rattle.jsonptr.specs.Scanning.{decoded}
-use Rattle.jsonptr.specs.TextLaws.{Escaped-encoded, decoded-encoded}
+use Rattle.jsonptr.specs.Text.{decoded}
+use Rattle.jsonptr.specs.TextLaws.{Escaped-encoded, decoded_again}
 use Rattle.jsonptr.proofs.Texts.{tilde_cuts, tilde_none, escaped_after, Escaped-others, decoded_step, decoded-NoTilde, pushed}
 use Rattle.jsonptr.proofs.token.Token.decoded.Goals as goal
 
@@ -11,7 +11,7 @@ unfolding token_of
 loop-plain-init c = (
   search rules,
   rw c.encoded-rest.ensures (Escaped-encoded (decoded c.args.self.now.text.now)),
-  rw (c.encoded-rest.ensures, decoded-encoded, c.in_ok-out.ensures.bytes) refl,
+  rw (c.encoded-rest.ensures, decoded_again, c.in_ok-out.ensures.bytes) refl,
 )
 
 pub unescape-escaped-requires : goal.unescape-escaped-requires

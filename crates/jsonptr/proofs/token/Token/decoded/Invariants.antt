@@ -2,7 +2,8 @@ use Rattle.std.proofs.Common.{◌≡◌, ◌++◌, length}
 use denote.Text.{Utf8}
 use denote.Shadow.{shadow}
 use Rattle.std.specs.String.{string_bytes}
-use Rattle.jsonptr.specs.Scanning.{decoded, Escaped}
+use Rattle.jsonptr.specs.Scanning.{Escaped}
+use Rattle.jsonptr.specs.Text.{decoded}
 use Rattle.jsonptr.proofs.token.Token.decoded.Given as goal
 
 abbrev pub invariant-loop-plain : goal.invariant-loop-plain

@@ -1,5 +1,6 @@
 use Rattle.std.proofs.Common.{◌≡◌, ◌++◌, take}
-use Rattle.jsonptr.specs.Scanning.{decoded, Escaped}
+use Rattle.jsonptr.specs.Scanning.{Escaped}
+use Rattle.jsonptr.specs.Text.{decoded}
 use Rattle.jsonptr.proofs.token.Token.is_key.Given as goal
 
 abbrev pub invariant-loop-byte : goal.invariant-loop-byte
