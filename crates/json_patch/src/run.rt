@@ -81,7 +81,8 @@ pub fn patch_unsafe(
 /// Applies the operations as [`patch`] does, and answers the patch that undoes them: applied to the
 /// document that is left, it passes back through every state of the run to the first document. It
 /// holds `add`, `remove` and `replace` alone, at most two for each operation, and no `-` that
-/// stands for a place in a list. What the run took out of the document is moved into it.
+/// stands for a place in a list. What the run took out of the document is moved into it, but for
+/// the value of a `move`, which stays in the document and is copied.
 pub fn apply_patches(
     alloc: Global,
     doc: &mut Value,
