@@ -95,7 +95,7 @@ inverse_length (op ∷ ops) d = search (rules, length-append, inverse_length ops
 
 -- ---- a last token as a number
 
-settled : (t : List ℕ) (ds : Items) (i : ℕ) → Aims (array ds) t (place i) → place_of (settled_token (Some (array ds)) t) ≡ Some i
+pub settled : (t : List ℕ) (ds : Items) (i : ℕ) → Aims (array ds) t (place i) → place_of (settled_token (Some (array ds)) t) ≡ Some i
 settled t ds i h = settled_place (bytes_eq t next_token) t ds i refl h
 
 pub settled_only : (t : List ℕ) (ds : Items) (i : ℕ) (u : List ℕ) → Aims (array ds) t (place i) → place_of u ≡ Some i → u ≡ settled_token (Some (array ds)) t

@@ -25,3 +25,8 @@ pub mod PatchValues
 pub mod Merges
 pub mod SharedTokens
 pub mod MergeFills
+pub mod ApartChanges
+pub mod ApartOutcomes
+pub mod ApartRuns
+pub mod ApartUndos
+pub mod ApartExamples

@@ -1,5 +1,5 @@
 -- A recorded run, undone.
-use Rattle.json_patch.proofs.Common.{common_steps, ◌≡◌, ◌<◌, ◌-◌, ℕ, suc, List, ◌∷◌, length, get_or, IsTrue, true, false, sym, ◌∙◌, subst, arith, rules, Operation, test, IsMove, operation_of, operations, IsUndoable, PatchOperation, ◌+◌, [], ◌++◌, drop, take, Bool, bytes_eq, if◌then◌else◌, Vec, vec_len, Global, Option, Some, None, Result, Ok, Err, IfOk, refl, ap, append_assoc, IsErrAnd, map-append, reverse-append, Data, view, Value, Array, items_len-items_view, view-Array, Pointer, IsPrefix, ReplacesLast, next_token, decimal_token, place_is_plain, ComesTo, pointee, front_of, last_of, block, settled_token, undo_add, undo_at, undo_in, with_found, move, replace, path_of, after_run, then_run, after_step, strip, AreUndos, IsUndo, Records, count_in, PatchErrorKind, StepFault, AreInPlace, IsInPlace, AreTestsThenRemove, AreUnescaped, IsUnescaped, AllocError, reverse, Inverse}
+use Rattle.json_patch.proofs.Common.{common_steps, ◌≡◌, ◌<◌, ◌-◌, ℕ, suc, List, ◌∷◌, length, get_or, IsTrue, true, false, sym, ◌∙◌, subst, arith, rules, Operation, test, IsMove, operation_of, operations, IsUndoable, PatchOperation, [], ◌++◌, drop, take, Bool, bytes_eq, if◌then◌else◌, Vec, vec_len, Global, Option, Some, None, Result, Ok, Err, IfOk, refl, ap, append_assoc, IsErrAnd, map-append, reverse-append, Data, view, Value, Array, items_len-items_view, view-Array, Pointer, IsPrefix, ReplacesLast, next_token, decimal_token, place_is_plain, ComesTo, pointee, front_of, last_of, block, settled_token, undo_add, undo_at, undo_in, with_found, move, replace, path_of, after_run, then_run, after_step, strip, AreUndos, IsUndo, Records, count_in, PatchErrorKind, StepFault, AreInPlace, IsInPlace, AreTestsThenRemove, AreUnescaped, IsUnescaped, AllocError, reverse, Inverse}
 use Rattle.std.specs.Prelude.{◌↔◌}
 use Rattle.json_patch.proofs.Locations.{split_is, split_whole}
 use Rattle.json_patch.proofs.Parents.{no_last}

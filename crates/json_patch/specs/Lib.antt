@@ -30,3 +30,4 @@ pub mod InverseComputed
 pub mod MergedComputed
 pub mod SharedComputed
 pub mod Filled
+pub mod Apart

@@ -6,6 +6,7 @@ ghost use Rattle.serde_json.specs.Data.{Data, Members, object};
 ghost use Rattle.serde_json.specs.Find.{get_member, get};
 ghost use Rattle.serde_json.specs.Written.{has_float};
 ghost use Rattle.jsonptr.specs.Text.{Pointer};
+ghost use Rattle.json_patch.specs.Apart.{AreApart, Diverge};
 ghost use Rattle.json_patch.specs.Change.{IsReplaced, IsAdded, IsRemoved};
 ghost use Rattle.json_patch.specs.ChangeComputed.{after_add, after_remove, after_replace, pointee};
 ghost use Rattle.json_patch.specs.Document.{IsDocument, Segment, look, sight_of, value_at};
@@ -13,7 +14,7 @@ ghost use Rattle.json_patch.specs.Inverse.{IsInverse, ArePlain, IsBlock};
 ghost use Rattle.json_patch.specs.InverseComputed.{block, inverse};
 ghost use Rattle.json_patch.specs.Merged.{IsMerged};
 ghost use Rattle.json_patch.specs.MergedComputed.{after_merge};
-ghost use Rattle.json_patch.specs.Operation.{AreWhole, IsWholeOp, Operation};
+ghost use Rattle.json_patch.specs.Operation.{AreWhole, IsWholeOp, Operation, path_of};
 ghost use Rattle.json_patch.specs.PatchValue.{ReadsPatch, written_value, written_fields, written_patch};
 ghost use Rattle.json_patch.specs.ReadLaws.{IsRead, IsReadAlone, IsReadLike, HasReadFault, HasReadFaultAlone, HasReadFaultLike};
 ghost use Rattle.json_patch.specs.Resolve.{Resolves, StandsAt, HasTarget};
@@ -118,6 +119,49 @@ pub fn locality()
     // What a list shares is what is computed, and where nothing is, it shares nothing.
     ensures shared_is_computed { (ops : List Operation) (S : Pointer)
         → IsShared ops S ↔ (shared_tokens ops ≡ Some S) }
+{}
+
+/// Two lists of operations that are apart.
+pub fn apart()
+    // Apart is so both ways.
+    ensures apart_both_ways { (xs ys : List Operation) → AreApart xs ys → AreApart ys xs }
+
+    // In either order they are accepted alike, and lead to one end.
+    ensures accepted_alike { (d : Data) (xs ys : List Operation) → IsDocument d → AreWhole xs
+        → AreWhole ys → AreApart xs ys → (e : Data)
+        → Accepts d (xs ++ ys) e ↔ Accepts d (ys ++ xs) e }
+
+    // Joined, they are accepted exactly where each is.
+    ensures each_alone { (d : Data) (xs ys : List Operation) → IsDocument d → AreWhole xs
+        → AreWhole ys → AreApart xs ys → (e : Data) → Accepts d (xs ++ ys) e
+        ↔ ((m n : Data) × Accepts d xs m × Accepts d ys n × Accepts m ys e) }
+
+    // Both accepted on a document, each is accepted on what the other leaves, with one end.
+    ensures both_accepted { (d : Data) (xs ys : List Operation) → IsDocument d → AreWhole xs
+        → AreWhole ys → AreApart xs ys → (m n : Data) → Accepts d xs m → Accepts d ys n
+        → (e : Data) × Accepts m ys e × Accepts n xs e }
+
+    // After the one is accepted, the other is refused where and as it is without it.
+    ensures refused_alike { (d : Data) (xs ys : List Operation) → IsDocument d → AreWhole xs
+        → AreWhole ys → AreApart xs ys → (m : Data) (k : ℕ) (kind : PatchErrorKind)
+        → Accepts d xs m → RefusesAt d ys k kind ↔ RefusesAt m ys k kind }
+
+    // The joined list is refused at an operation of the second exactly where and as that is refused
+    // on the document itself.
+    ensures refused_joined { (d : Data) (xs ys : List Operation) → IsDocument d → AreWhole xs
+        → AreWhole ys → AreApart xs ys → (m : Data) (k : ℕ) (kind : PatchErrorKind)
+        → Accepts d xs m → RefusesAt d (xs ++ ys) (length xs + k) kind ↔ RefusesAt d ys k kind }
+
+    // After both, the inverse of the one is accepted, and leads to the end of the other alone.
+    ensures undo_keeps { (d : Data) (xs ys I : List Operation) (m e : Data) → IsDocument d
+        → AreWhole xs → AreWhole ys → AreApart xs ys → IsInverse d xs I → Accepts d xs m
+        → Accepts m ys e → (n : Data) × Accepts d ys n × Accepts e I n }
+
+    // That neither's `path` begins the other's is not enough for two operations: on an empty list
+    // an `add` at `/-` makes what a `replace` at `/0` is refused without.
+    ensures diverging_is_not_enough { ((d : Data) (x y : Operation) (e : Data) → IsDocument d
+        → IsWholeOp x → IsWholeOp y → Diverge (path_of x) (path_of y) → Accepts d (x ∷ y ∷ []) e
+        → Accepts d (y ∷ x ∷ []) e) → ⊥ }
 {}
 
 /// What add, remove and replace leave: one document, where they are defined, and it is what is
