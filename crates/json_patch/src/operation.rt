@@ -2,13 +2,10 @@
 
 ghost use Rattle.std.specs.Prelude.{◌≡◌, [], IfOk};
 ghost use Rattle.serde_json.specs.Data.{null};
-ghost use Rattle.serde_json.specs.View.{view};
 ghost use Rattle.jsonptr.specs.Pointers.{tokens_of};
 ghost use Rattle.json_patch.specs.Operation.{add_of, copy_of, move_of, operation_of, operations, parts_of, path_of, remove_of, replace_of, test, test_of};
 ghost use Rattle.json_patch.specs.PartsView.{parts_view};
-ghost use Rattle.json_patch.specs.PatchValue.{written_value, written_fields};
 
-use crate::writing::to_object;
 use jsonptr::{Pointer, PointerBuf};
 use serde_json::Value;
 use std::alloc::{AllocError, Global};
@@ -167,13 +164,6 @@ impl AddOperation {
         let value = self.value.clone()?;
         Ok(AddOperation { path, value })
     }
-
-    /// The object of the members `path` and `value`.
-    pub fn to_value(&self, alloc: Global) -> Result<Value, AllocError>
-        ensures { IfOk result (λ v. view v ≡ written_fields (add_of self.now)) }
-    {
-        to_object(alloc, None, self.parts())
-    }
 }
 
 impl RemoveOperation {
@@ -189,13 +179,6 @@ impl RemoveOperation {
     {
         let path = self.path.clone(alloc)?;
         Ok(RemoveOperation { path })
-    }
-
-    /// The object of the member `path`.
-    pub fn to_value(&self, alloc: Global) -> Result<Value, AllocError>
-        ensures { IfOk result (λ v. view v ≡ written_fields (remove_of self.now)) }
-    {
-        to_object(alloc, None, self.parts())
     }
 }
 
@@ -214,13 +197,6 @@ impl ReplaceOperation {
         let value = self.value.clone()?;
         Ok(ReplaceOperation { path, value })
     }
-
-    /// The object of the members `path` and `value`.
-    pub fn to_value(&self, alloc: Global) -> Result<Value, AllocError>
-        ensures { IfOk result (λ v. view v ≡ written_fields (replace_of self.now)) }
-    {
-        to_object(alloc, None, self.parts())
-    }
 }
 
 impl MoveOperation {
@@ -237,13 +213,6 @@ impl MoveOperation {
         let from = self.from.clone(alloc)?;
         let path = self.path.clone(alloc)?;
         Ok(MoveOperation { from, path })
-    }
-
-    /// The object of the members `from` and `path`.
-    pub fn to_value(&self, alloc: Global) -> Result<Value, AllocError>
-        ensures { IfOk result (λ v. view v ≡ written_fields (move_of self.now)) }
-    {
-        to_object(alloc, None, self.parts())
     }
 }
 
@@ -262,13 +231,6 @@ impl CopyOperation {
         let path = self.path.clone(alloc)?;
         Ok(CopyOperation { from, path })
     }
-
-    /// The object of the members `from` and `path`.
-    pub fn to_value(&self, alloc: Global) -> Result<Value, AllocError>
-        ensures { IfOk result (λ v. view v ≡ written_fields (copy_of self.now)) }
-    {
-        to_object(alloc, None, self.parts())
-    }
 }
 
 impl TestOperation {
@@ -285,13 +247,6 @@ impl TestOperation {
         let path = self.path.clone(alloc)?;
         let value = self.value.clone()?;
         Ok(TestOperation { path, value })
-    }
-
-    /// The object of the members `path` and `value`.
-    pub fn to_value(&self, alloc: Global) -> Result<Value, AllocError>
-        ensures { IfOk result (λ v. view v ≡ written_fields (test_of self.now)) }
-    {
-        to_object(alloc, None, self.parts())
     }
 }
 
@@ -328,13 +283,5 @@ impl PatchOperation {
             PatchOperation::Copy(operation) => PatchOperation::Copy(operation.clone(alloc)?),
             PatchOperation::Test(operation) => PatchOperation::Test(operation.clone(alloc)?),
         })
-    }
-
-    /// The object of the members that the operation has, with its name as `op`.
-    pub fn to_value(&self, alloc: Global) -> Result<Value, AllocError>
-        ensures { IfOk result (λ v. view v ≡ written_value (operation_of self.now)) }
-    {
-        let parts = self.parts();
-        to_object(alloc, Some(parts.name), parts)
     }
 }

@@ -6,12 +6,79 @@ ghost use Rattle.std.specs.Prelude.{◌≡◌, IfOk, OnOk, option_map};
 ghost use Rattle.serde_json.specs.Data.{put, string};
 ghost use Rattle.serde_json.specs.View.{members_view, view};
 ghost use Rattle.json_patch.specs.PartsView.{parts_view};
-ghost use Rattle.json_patch.specs.Operation.{operations};
-ghost use Rattle.json_patch.specs.PatchValue.{written_parts, written_patch};
+ghost use Rattle.json_patch.specs.Operation.{add_of, copy_of, move_of, operation_of, operations, remove_of, replace_of, test_of};
+ghost use Rattle.json_patch.specs.PatchValue.{written_fields, written_parts, written_patch, written_value};
 
-use crate::operation::{Parts, Patch};
+use crate::operation::{
+    AddOperation, CopyOperation, MoveOperation, Parts, Patch, PatchOperation, RemoveOperation,
+    ReplaceOperation, TestOperation,
+};
 use serde_json::{Map, Value};
 use std::alloc::{AllocError, Global};
+
+impl AddOperation {
+    /// The object of the members `path` and `value`.
+    pub fn to_value(&self, alloc: Global) -> Result<Value, AllocError>
+        ensures { IfOk result (λ v. view v ≡ written_fields (add_of self.now)) }
+    {
+        to_object(alloc, None, self.parts())
+    }
+}
+
+impl RemoveOperation {
+    /// The object of the member `path`.
+    pub fn to_value(&self, alloc: Global) -> Result<Value, AllocError>
+        ensures { IfOk result (λ v. view v ≡ written_fields (remove_of self.now)) }
+    {
+        to_object(alloc, None, self.parts())
+    }
+}
+
+impl ReplaceOperation {
+    /// The object of the members `path` and `value`.
+    pub fn to_value(&self, alloc: Global) -> Result<Value, AllocError>
+        ensures { IfOk result (λ v. view v ≡ written_fields (replace_of self.now)) }
+    {
+        to_object(alloc, None, self.parts())
+    }
+}
+
+impl MoveOperation {
+    /// The object of the members `from` and `path`.
+    pub fn to_value(&self, alloc: Global) -> Result<Value, AllocError>
+        ensures { IfOk result (λ v. view v ≡ written_fields (move_of self.now)) }
+    {
+        to_object(alloc, None, self.parts())
+    }
+}
+
+impl CopyOperation {
+    /// The object of the members `from` and `path`.
+    pub fn to_value(&self, alloc: Global) -> Result<Value, AllocError>
+        ensures { IfOk result (λ v. view v ≡ written_fields (copy_of self.now)) }
+    {
+        to_object(alloc, None, self.parts())
+    }
+}
+
+impl TestOperation {
+    /// The object of the members `path` and `value`.
+    pub fn to_value(&self, alloc: Global) -> Result<Value, AllocError>
+        ensures { IfOk result (λ v. view v ≡ written_fields (test_of self.now)) }
+    {
+        to_object(alloc, None, self.parts())
+    }
+}
+
+impl PatchOperation {
+    /// The object of the members that the operation has, with its name as `op`.
+    pub fn to_value(&self, alloc: Global) -> Result<Value, AllocError>
+        ensures { IfOk result (λ v. view v ≡ written_value (operation_of self.now)) }
+    {
+        let parts = self.parts();
+        to_object(alloc, Some(parts.name), parts)
+    }
+}
 
 impl Patch {
     /// The list of the operations' objects.
@@ -27,11 +94,7 @@ impl Patch {
 }
 
 /// The object of the members `op`, `from`, `path` and `value`, those that there are.
-pub(crate) fn to_object(
-    alloc: Global,
-    name: Option<&str>,
-    parts: Parts<'_>,
-) -> Result<Value, AllocError>
+fn to_object(alloc: Global, name: Option<&str>, parts: Parts<'_>) -> Result<Value, AllocError>
     ensures { IfOk result (λ v.
         view v ≡ written_parts (option_map (λ s. s.now) name.entry) (parts_view parts.entry)) }
 {

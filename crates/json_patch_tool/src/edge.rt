@@ -16,7 +16,7 @@ use std::alloc::Global;
 use std::io::{ErrorKind, Read, Write};
 
 /// The most calls of `read`, which ends a run on a reader that is always interrupted.
-const MAX_READS: u64 = 20_000_000;
+pub const MAX_READS: u64 = 20_000_000;
 
 /// The most bytes that one call of `read` is asked for.
 const PIECE: usize = 65_536;
@@ -45,8 +45,9 @@ pub fn run<R: Read, W: Write>(
     run_watched(alloc, mode, &mut from, &mut to)
 }
 
-/// `run`, over a reader and a writer that tell afterwards how it went.
-pub(crate) fn run_watched<R: Read, W: Write>(
+/// `run`, over a reader and a writer that tell afterwards how it went: reading ends after at most
+/// [`MAX_READS`] calls, and `ReadFailed` and `WriteFailed` come only where a call is at fault.
+pub fn run_watched<R: Read, W: Write>(
     alloc: Global,
     mode: Mode,
     reader: &mut WatchedReader<R>,

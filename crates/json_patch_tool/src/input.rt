@@ -14,7 +14,7 @@ use serde_json::Value;
 use std::alloc::{AllocError, Global};
 
 /// The most bytes that an input may have.
-pub(crate) const MAX_INPUT: usize = 16_777_216;
+pub const MAX_INPUT: usize = 16_777_216;
 
 /// The document and the patch of an input.
 pub(crate) fn read_pair(alloc: Global, input: &[u8]) -> Result<(Value, Value), ToolFault>

@@ -18,9 +18,11 @@ mod tests;
 mod watch;
 
 pub use answer::respond;
-pub use edge::run;
+pub use edge::{MAX_READS, run, run_watched};
 pub use fault::{ToolFault, status};
+pub use input::MAX_INPUT;
 pub use mode::{Mode, mode_of, usage};
+pub use watch::{WatchedReader, WatchedWriter};
 use std::env;
 use std::process::ExitCode;
 

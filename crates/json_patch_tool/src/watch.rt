@@ -10,17 +10,22 @@ ghost use Rattle.json_patch_tool.specs.Watched.{IsUnread, IsUnwritten};
 use std::io;
 use std::io::{ErrorKind, Read, Write};
 
-/// A reader, with how often it was read, whether it showed its end, and whether a read failed.
+/// A reader, with how the reads went that it was asked for.
 #[derive(Drop)]
-pub(crate) struct WatchedReader<R> {
-    pub(crate) inner: R,
-    pub(crate) calls: u64,
-    pub(crate) has_ended: bool,
-    pub(crate) has_failed: bool,
+pub struct WatchedReader<R> {
+    /// The reader that is watched.
+    pub inner: R,
+    /// How often it was read.
+    pub calls: u64,
+    /// Whether a read answered that nothing is left.
+    pub has_ended: bool,
+    /// Whether a read failed. One that was interrupted didn't.
+    pub has_failed: bool,
 }
 
 impl<R: Read> WatchedReader<R> {
-    pub(crate) fn new(inner: R) -> WatchedReader<R>
+    /// The reader, of which nothing was asked yet.
+    pub fn new(inner: R) -> WatchedReader<R>
         ensures inner { result.inner ≡ inner }
         ensures unread { IsUnread result }
     {
@@ -64,17 +69,20 @@ impl<R: Read> Read for WatchedReader<R> {
     }
 }
 
-/// A writer, with whether a write or a flush failed, and whether the last call was a flush that did
-/// not.
+/// A writer, with how the writes and flushes went that it was asked for.
 #[derive(Drop)]
-pub(crate) struct WatchedWriter<'a, W> {
-    pub(crate) inner: &'a mut W,
-    pub(crate) has_failed: bool,
-    pub(crate) is_flushed: bool,
+pub struct WatchedWriter<'a, W> {
+    /// The writer that is watched.
+    pub inner: &'a mut W,
+    /// Whether a write or a flush failed, or a write took no byte of some.
+    pub has_failed: bool,
+    /// Whether the last call was a flush that didn't fail.
+    pub is_flushed: bool,
 }
 
 impl<'a, W: Write> WatchedWriter<'a, W> {
-    pub(crate) fn new(inner: &'a mut W) -> WatchedWriter<'a, W>
+    /// The writer, of which nothing was asked yet.
+    pub fn new(inner: &'a mut W) -> WatchedWriter<'a, W>
         ensures same_reference { result.inner.ghost_name ≡ inner.entry.ghost_name }
         ensures holds { result.inner.now ≡ inner.old }
         ensures unwritten { IsUnwritten result }

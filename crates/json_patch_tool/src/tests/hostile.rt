@@ -1,7 +1,7 @@
 //! Inputs that are cut off, or changed at one byte: each ends with a status, and nothing is written
 //! where that isn't 0.
 
-use super::{Trouble, writer_with};
+use super::fakes::{Trouble, writer_with};
 use crate::edge::run;
 use crate::fault::status;
 use crate::mode::Mode;
@@ -20,16 +20,23 @@ const NUMBERS: &str =
 
 const NUMBERS_LINE: &str = "[18446744073709551615,-9223372036854775808,0,-9223372036854775808]\n";
 
-/// Each of the six operations.
-const OPERATIONS: &str =
-    r#"[{"a":{"b":1},"l":[1,2]},[{"op":"test","path":"/a/b","value":1},{"op":"add","path":"/l/-","value":3},{"op":"replace","path":"/a/b","value":[true]},{"op":"copy","from":"/l/0","path":"/f"},{"op":"move","from":"/l/1","path":"/s"},{"op":"remove","path":"/l"}]]"#;
+/// A test and two changes in place.
+const CHANGES: &str =
+    r#"[{"a":{"b":1},"l":[1,2]},[{"op":"test","path":"/a/b","value":1},{"op":"add","path":"/l/-","value":3},{"op":"replace","path":"/a/b","value":[true]}]]"#;
 
-const OPERATIONS_LINE: &str = "{\"a\":{\"b\":[true]},\"f\":1,\"s\":2}\n";
+const CHANGES_LINE: &str = "{\"a\":{\"b\":[true]},\"l\":[1,2,3]}\n";
 
-const INPUTS: [(&str, &str); 3] = [
+/// The other three operations.
+const MOVES: &str =
+    r#"[{"l":[1,2]},[{"op":"copy","from":"/l/0","path":"/f"},{"op":"move","from":"/l/1","path":"/s"},{"op":"remove","path":"/l"}]]"#;
+
+const MOVES_LINE: &str = "{\"f\":1,\"s\":2}\n";
+
+const INPUTS: [(&str, &str); 4] = [
     (ESCAPES, ESCAPES_LINE),
     (NUMBERS, NUMBERS_LINE),
-    (OPERATIONS, OPERATIONS_LINE),
+    (CHANGES, CHANGES_LINE),
+    (MOVES, MOVES_LINE),
 ];
 
 /// Changes taken back and made again, and one that is refused.
@@ -61,17 +68,22 @@ fn end_well_where_cut(rt: &(impl Abort + AllocGlobal), modes: &[Mode], text: &st
     }
 }
 
+/// Each byte of the input gives way to each other byte. One mode after another has its turn, so that
+/// each meets each byte somewhere.
 fn end_well_where_changed(
     rt: &(impl Abort + AllocGlobal),
     modes: &[Mode],
     text: &str,
 ) -> Result<(), Fail> {
     let mut input = Vec::from_slice(rt.alloc(), text.as_bytes())?;
+    let mut turns = modes.iter().cycle();
     for place in 0..input.len() {
         let was = input[place];
         for byte in 0..=u8::MAX {
             input[place] = byte;
-            end_well(rt, modes, &input);
+            if let Some(mode) = turns.next() {
+                end_well(rt, &[*mode], &input);
+            }
         }
         input[place] = was;
     }
@@ -100,11 +112,23 @@ fn ends_where_input_is_cut(rt: HostRuntime) {
 }
 
 #[test]
-fn ends_where_a_byte_is_changed(rt: HostRuntime) -> Result<(), Fail> {
-    for (text, _) in INPUTS {
-        end_well_where_changed(&rt, &OTHERS, text)?;
-    }
-    Ok(())
+fn ends_where_a_byte_of_escapes_is_changed(rt: HostRuntime) -> Result<(), Fail> {
+    end_well_where_changed(&rt, &OTHERS, ESCAPES)
+}
+
+#[test]
+fn ends_where_a_byte_of_numbers_is_changed(rt: HostRuntime) -> Result<(), Fail> {
+    end_well_where_changed(&rt, &OTHERS, NUMBERS)
+}
+
+#[test]
+fn ends_where_a_byte_of_changes_is_changed(rt: HostRuntime) -> Result<(), Fail> {
+    end_well_where_changed(&rt, &OTHERS, CHANGES)
+}
+
+#[test]
+fn ends_where_a_byte_of_moves_is_changed(rt: HostRuntime) -> Result<(), Fail> {
+    end_well_where_changed(&rt, &OTHERS, MOVES)
 }
 
 #[test]
