@@ -7,7 +7,6 @@ ghost use Rattle.serde_json.specs.View.{view};
 ghost use Rattle.jsonptr.specs.Pointers.{tokens_of};
 ghost use Rattle.json_patch.specs.Document.{IsDocument};
 ghost use Rattle.json_patch.specs.Resolve.{StandsAt};
-ghost use Rattle.json_patch.specs.Step.{Never};
 ghost use Rattle.json_patch_uses.specs.Layers.{AreMerged, LeavesOut};
 
 use json_patch::jsonptr::Pointer;
@@ -33,11 +32,13 @@ pub fn merge_all(alloc: Global, base: &Value, layers: &[Value]) -> Result<Value,
     Ok(settings)
 }
 
-/// The number at a path, or this one where nothing stands there.
+/// The number at a path, or the default where no whole number from 0 to 2^64 - 1 stands there:
+/// nothing does, or a negative number, or a text, even one of digits.
 pub fn number_or(settings: &Value, path: Pointer<'_>, default: u64) -> u64
     ensures set { (n : ℕ) → StandsAt (view settings.now) (tokens_of path.entry) (number (unsigned n))
         → result ≡ n }
-    ensures unset { Never (StandsAt (view settings.now) (tokens_of path.entry))
+    ensures unset { ((n : ℕ)
+        → ¬ StandsAt (view settings.now) (tokens_of path.entry) (number (unsigned n)))
         → result ≡ default }
 {
     laws::documents();

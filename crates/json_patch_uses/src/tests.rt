@@ -101,19 +101,27 @@ fn a_change_is_for_one_version(rt: HostRuntime) -> Result<(), Fail> {
 #[test]
 fn a_layer_overrides(rt: HostRuntime) -> Result<(), Fail> {
     let alloc = rt.alloc();
-    let base = Value::from_str(alloc, r#"{"hosts":["a"],"log":{"level":1},"port":80}"#)?;
+    let base = Value::from_str(
+        alloc,
+        r#"{"hosts":["a"],"log":{"level":1},"nice":-5,"port":80}"#,
+    )?;
     let site = Value::from_str(alloc, r#"{"log":{"level":null},"port":8080}"#)?;
     let user = Value::from_str(alloc, r#"{"log":{"colour":"red"}}"#)?;
     assert!(rt; is_whole(&base) && is_whole(&site) && is_whole(&user));
     let settings = merge_all(alloc, &base, &[site, user])?;
     assert_eq!(rt;
         settings.to_string(alloc)?.as_str(),
-        r#"{"hosts":["a"],"log":{"colour":"red"},"port":8080}"#
+        r#"{"hosts":["a"],"log":{"colour":"red"},"nice":-5,"port":8080}"#
     );
-    let port = Pointer::parse("/port").expect(&rt, "a pointer");
-    assert_eq!(rt; number_or(&settings, port, 1), 8080);
-    let level = Pointer::parse("/log/level").expect(&rt, "a pointer");
-    assert_eq!(rt; number_or(&settings, level, 1), 1);
+    for (text, number) in [
+        ("/port", 8080),
+        ("/log/level", 1),
+        ("/log/colour", 1),
+        ("/nice", 1),
+    ] {
+        let path = Pointer::parse(text).expect(&rt, "a pointer");
+        assert_eq!(rt; number_or(&settings, path, 1), number, "at {text}");
+    }
     Ok(())
 }
 
