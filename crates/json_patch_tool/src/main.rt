@@ -22,9 +22,9 @@ pub use edge::{MAX_READS, run, run_watched};
 pub use fault::{ToolFault, status};
 pub use input::MAX_INPUT;
 pub use mode::{Mode, mode_of, usage};
-pub use watch::{WatchedReader, WatchedWriter};
 use std::env;
 use std::process::ExitCode;
+pub use watch::{WatchedReader, WatchedWriter};
 
 fn main(rt: HostRuntime) -> ExitCode {
     let asked = program::asked_mode(env::args(&rt));
