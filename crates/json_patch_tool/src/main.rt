@@ -11,6 +11,7 @@ mod editing;
 mod fault;
 mod input;
 pub mod laws;
+mod line;
 mod mode;
 mod program;
 #[cfg(test)]
@@ -22,9 +23,9 @@ pub use edge::{MAX_READS, run, run_watched};
 pub use fault::{ToolFault, status};
 pub use input::MAX_INPUT;
 pub use mode::{Mode, mode_of, usage};
-pub use watch::{WatchedReader, WatchedWriter};
 use std::env;
 use std::process::ExitCode;
+pub use watch::{WatchedReader, WatchedWriter};
 
 fn main(rt: HostRuntime) -> ExitCode {
     let asked = program::asked_mode(env::args(&rt));
