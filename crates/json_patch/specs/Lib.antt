@@ -10,6 +10,7 @@ pub mod Step
 pub mod Undoing
 pub mod Run
 pub mod Refusal
+pub mod RefusalLaws
 pub mod Inverse
 pub mod Merged
 pub mod Shared

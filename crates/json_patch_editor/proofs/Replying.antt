@@ -1,12 +1,13 @@
 -- Lists of commands: joined, with one list of replies, and with one always.
 use Rattle.std.proofs.Common.{◌≡◌, ◌≤◌, ◌<◌, ◌+◌, inl, inr, ℕ, zero, suc, List, [], ◌∷◌, ◌++◌, take, length, Bool, true, false, Some, refl, sym, ap, ◌∙◌, subst, arith}
-use Rattle.std.specs.Prelude.{◌↔◌, IsTrue, All, option_map, slice_get}
+use Rattle.std.specs.Prelude.{◌↔◌, IsTrue, All}
 use Rattle.std.proofs.lemmas.List.{length-take}
 use Rattle.std.proofs.lemmas.List.Elements.{All-cons, All-head, All-nil, All-tail, All-take}
 use Rattle.serde_json.specs.Data.{Data}
 use Rattle.json_patch.specs.Document.{IsDocument}
-use Rattle.json_patch.specs.Operation.{Operation, AreWhole, path_of}
+use Rattle.json_patch.specs.Operation.{Operation, AreWhole}
 use Rattle.json_patch.specs.Refusal.{NamesFirst}
+use Rattle.json_patch.specs.RefusalLaws.{one_refusal, refusal_named}
 use Rattle.json_patch.specs.Run.{Accepts, RefusesAt, Ends}
 use Rattle.json_patch.specs.declared.error.PatchError.{PatchError}
 use Rattle.json_patch.specs.declared.error.PatchErrorKind.{PatchErrorKind}
@@ -105,27 +106,13 @@ module _ (one_end : OneEnd) (keeping : Keeping) where
   not_both d e ops k kind (inl (m, a)) h r = a.nowhere k kind r
   not_both d e ops k kind (inr (n, other, s)) h r = s.never e h
 
-  same_error : (ops : List Operation) (x y : PatchError) → x.operation ≡ y.operation → x.kind ≡ y.kind
-      → option_map path_of (slice_get ops x.operation) ≡ Some x.path → option_map path_of (slice_get ops y.operation) ≡ Some y.path → x ≡ y
-  same_error ops x y n k p q =
-      let r : Some x.path ≡ Some y.path = sym p ∙ ap (λ i. option_map path_of (slice_get ops i)) n ∙ q in
-      let s : x.path ≡ y.path = cc in
-      λ i. record { operation = n i; path = s i; kind = k i }
-
-  one_refused : (d : Data) (ops : List Operation) (x y : PatchError) → Ends d ops → NamesFirst d ops x → NamesFirst d ops y → x ≡ y
-  one_refused d ops x y (inl (m, a)) h k = absurd (a.nowhere x.operation x.kind h.0)
-  one_refused d ops x y (inr (n, kind, r)) h k =
-      let s : (x.operation ≡ n) × (x.kind ≡ kind) = r.here x.operation x.kind h.0 in
-      let t : (y.operation ≡ n) × (y.kind ≡ kind) = r.here y.operation y.kind k.0 in
-      same_error ops x y (s.0 ∙ sym t.0) (s.1 ∙ sym t.1) h.1 k.1
-
   one_step : (vs ws us : Versions) (c : Command) (r s : Reply) → AreVersions vs → IsWholeCommand c → Replies vs c r ws → Replies vs c s us → (r ≡ s) × (ws ≡ us)
   one_step vs ws us (apply ops) accepted accepted a w h k =
       (refl, h.1 ∙ ap (λ e. after_apply e vs) (one_accepted vs.here ws.here us.here ops (one_end vs.here ops a.here w) h.0 k.0) ∙ sym k.1)
   one_step vs ws us (apply ops) accepted (refused e) a w h k = absurd (not_both vs.here ws.here ops e.operation e.kind (one_end vs.here ops a.here w) h.0 k.0.0)
   one_step vs ws us (apply ops) (refused e) accepted a w h k = absurd (not_both vs.here us.here ops e.operation e.kind (one_end vs.here ops a.here w) k.0 h.0.0)
   one_step vs ws us (apply ops) (refused e) (refused f) a w h k =
-      (ap refused (one_refused vs.here ops e f (one_end vs.here ops a.here w) h.0 k.0), h.1 ∙ sym k.1)
+      (ap refused (one_refusal vs.here ops e f (one_end vs.here ops a.here w) h.0 k.0), h.1 ∙ sym k.1)
   one_step vs ws us (apply ops) accepted (moved b) a w h k = absurd k
   one_step vs ws us (apply ops) (refused e) (moved b) a w h k = absurd k
   one_step vs ws us (apply ops) (moved b) s a w h k = absurd h
@@ -151,19 +138,9 @@ module _ (one_end : OneEnd) (keeping : Keeping) where
       let m : (rs ≡ ss) × (ws ≡ us) = once k.0 ws us cs rs ss (versions_step vs k.0 c s a (All-head IsWholeCommand c cs w) k.1) (All-tail IsWholeCommand c cs w) (subst (λ ms. RepliesInTurn ms cs rs ws) o.1 h.2) k.2 in
       ((λ i. o.0 i ∷ m.0 i), m.1)
 
-  path_at : (d : Data) (ops : List Operation) (k : ℕ) (kind : PatchErrorKind) → RefusesAt d ops k kind → (P : List (List ℕ)) × (option_map path_of (slice_get ops k) ≡ Some P)
-  path_at d [] k kind h = absurd h
-  path_at d (op ∷ ops) zero kind h = (path_of op, refl)
-  path_at d (op ∷ ops) (suc k) kind h = path_at h.0 ops k kind h.2
-
-  named : (d : Data) (ops : List Operation) (k : ℕ) (kind : PatchErrorKind) → RefusesAt d ops k kind → (e : PatchError) × NamesFirst d ops e
-  named d ops k kind h =
-      let p : (P : List (List ℕ)) × (option_map path_of (slice_get ops k) ≡ Some P) = path_at d ops k kind h in
-      (record { operation = k; path = p.0; kind = kind }, (h, p.1))
-
   step_on : (vs : Versions) (ops : List Operation) → Ends vs.here ops → (r : Reply) × (ws : Versions) × Replies vs (apply ops) r ws
   step_on vs ops (inl (e, a)) = (accepted, after_apply e vs, (a.accepts, refl))
-  step_on vs ops (inr (k, kind, r)) = let e : (x : PatchError) × NamesFirst vs.here ops x = named vs.here ops k kind r.refuses in (refused e.0, vs, (e.1, refl))
+  step_on vs ops (inr (k, kind, r)) = let e : (x : PatchError) × NamesFirst vs.here ops x = refusal_named vs.here ops k kind r.refuses in (refused e.0, vs, (e.1, refl))
 
   a_step : (vs : Versions) (c : Command) → AreVersions vs → IsWholeCommand c → (r : Reply) × (ws : Versions) × Replies vs c r ws
   a_step vs (apply ops) a w = step_on vs ops (one_end vs.here ops a.here w)

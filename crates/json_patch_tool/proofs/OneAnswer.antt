@@ -1,12 +1,13 @@
 -- An input has one answer at most.
-use Rattle.std.proofs.Common.{◌≡◌, ◌≤◌, ◌<◌, ◌⊎◌, ℕ, List, length, Option, Some, None, Result, Ok, Err, IsUtf8, option_map, slice_get, unwrap_or, inl, inr, refl, sym, ap, subst, ◌∙◌, arith}
+use Rattle.std.proofs.Common.{◌≡◌, ◌≤◌, ◌<◌, ◌⊎◌, ℕ, List, length, Option, Some, None, Result, Ok, Err, IsUtf8, unwrap_or, inl, inr, refl, sym, ap, subst, ◌∙◌, arith}
 use Rattle.serde_json.specs.Data.{Data, array, item, no_items}
 use Rattle.serde_json.specs.Read.{read}
 use Rattle.json_patch.specs.Document.{IsDocument}
-use Rattle.json_patch.specs.Operation.{Operation, AreWhole, path_of}
+use Rattle.json_patch.specs.Operation.{Operation, AreWhole}
 use Rattle.json_patch.specs.PatchValue.{ReadsPatch, RefusesPatch, written_patch}
 use Rattle.json_patch.specs.Run.{Accepts, RefusesAt}
 use Rattle.json_patch.specs.Refusal.{NamesFirst}
+use Rattle.json_patch.specs.RefusalLaws.{one_refusal}
 use Rattle.json_patch.specs.Inverse.{IsInverse}
 use Rattle.json_patch.specs.declared.error.PatchError.{PatchError}
 use Rattle.json_patch.specs.declared.error.ReadError.{ReadError}
@@ -30,13 +31,6 @@ read_error_same e f same_number kind =
     let with_number : Option ℕ → ReadError = λ n. record { operation = n; kind = e.kind } in
     let with_kind : ReadKind → ReadError = λ k. record { operation = f.operation; kind = k } in
     ap with_number same_number ∙ ap with_kind kind
-
-patch_error_same : (e f : PatchError) → e.operation ≡ f.operation → e.path ≡ f.path → e.kind ≡ f.kind → e ≡ f
-patch_error_same e f same_number path kind =
-    let with_number : ℕ → PatchError = λ n. record { operation = n; path = e.path; kind = e.kind } in
-    let with_path : List (List ℕ) → PatchError = λ P. record { operation = f.operation; path = P; kind = e.kind } in
-    let with_kind : PatchErrorKind → PatchError = λ k. record { operation = f.operation; path = f.path; kind = k } in
-    ap with_number same_number ∙ ap with_path path ∙ ap with_kind kind
 
 -- the three causes for which nothing is patched
 abbrev Cause : Data → Data → ToolFault → Type 0
@@ -99,17 +93,6 @@ module _ (below : Below) where
     | inr w ↦ w.2.never e h
   ]
 
-  named_once : (d : Data) (ops : List Operation) → IsDocument d → AreWhole ops → (e f : PatchError) → NamesFirst d ops e → NamesFirst d ops f → e ≡ f
-  named_once d ops document whole e f h k = elim (below.run_ends d ops document whole) [
-    | inl w ↦ absurd (w.1.nowhere _ _ h.0)
-    | inr w ↦
-        let a = w.2.here _ _ h.0 in
-        let b = w.2.here _ _ k.0 in
-        let same_number = a.0 ∙ sym b.0 in
-        let path = inside e.path (sym h.1 ∙ ap (λ n. option_map path_of (slice_get ops n)) same_number ∙ k.1) in
-        patch_error_same e f same_number path (a.1 ∙ sym b.1)
-  ]
-
   -- ---- what a mode gives
 
   patched_once : (d p e f : Data) → IsPatched d p e → IsPatched d p f → e ≡ f
@@ -152,7 +135,7 @@ module _ (below : Below) where
   cause_once d p f g (inr (inr a)) (inr (inr b)) =
       let same = reads_once p b.3.0 a.3.0 b.3.1 a.3.1 in
       let names = subst (λ os. NamesFirst d os b.0) same b.3.2 in
-      a.1 ∙ ap Refused (named_once d a.3.0 a.2 (below.read_is_whole p a.3.0 a.3.1) a.0 b.0 a.3.2 names) ∙ sym b.1
+      a.1 ∙ ap Refused (one_refusal d a.3.0 a.0 b.0 (below.run_ends d a.3.0 a.2 (below.read_is_whole p a.3.0 a.3.1)) a.3.2 names) ∙ sym b.1
 
   fault_once : (mode : Mode) (d p : Data) (f g : ToolFault) → GivesFault mode d p f → GivesFault mode d p g → f ≡ g
   fault_once Patch d p f g h k = cause_once d p f g (cause d p f h) (cause d p g k)

@@ -1,16 +1,16 @@
 -- Each input has an answer.
-use Rattle.std.proofs.Common.{◌≡◌, ◌≤◌, ◌⊎◌, ℕ, zero, suc, List, [], ◌∷◌, length, Bool, true, false, Option, Some, None, Result, Ok, Err, option_map, slice_get, inl, inr, ⊎_elim, refl}
+use Rattle.std.proofs.Common.{◌≡◌, ◌≤◌, ◌⊎◌, ℕ, zero, suc, List, [], ◌∷◌, length, Bool, true, false, Option, Some, None, Result, Ok, Err, inl, inr, ⊎_elim, refl}
 use Rattle.std.specs.Str.{is_utf8}
 use Rattle.std.proofs.lemmas.Bool.{cases_lt}
 use Rattle.std.proofs.lemmas.Str.{IsUtf8-from_is_utf8, is_utf8-from_IsUtf8}
 use Rattle.serde_json.specs.Data.{Data}
 use Rattle.serde_json.specs.Read.{read}
 use Rattle.json_patch.specs.Document.{IsDocument}
-use Rattle.json_patch.specs.Operation.{Operation, path_of}
+use Rattle.json_patch.specs.Operation.{Operation}
 use Rattle.json_patch.specs.PatchValue.{ReadsPatch}
-use Rattle.json_patch.specs.Run.{Accepts, RefusesAt}
+use Rattle.json_patch.specs.RefusalLaws.{refusal_named}
+use Rattle.json_patch.specs.Run.{Accepts}
 use Rattle.json_patch.specs.InverseComputed.{inverse}
-use Rattle.json_patch.specs.declared.error.PatchErrorKind.{PatchErrorKind}
 use Rattle.json_patch_tool.specs.Input.{Says, SaysPair, NoPair, pair_of, line_of}
 use Rattle.json_patch_tool.specs.Answer.{IsNotPatched, GivesValue, GivesFault, Answer}
 use Rattle.json_patch_tool.specs.declared.input.TheConstants.{MAX_INPUT}
@@ -21,13 +21,6 @@ use Rattle.json_patch_tool.specs.declared.fault.ToolFault.TheVariants.{TooLarge,
 use Rattle.json_patch_tool.proofs.Below.{Below}
 use Rattle.json_patch_tool.proofs.OneEdit.{edited_given}
 
--- the operation that is refused has a path
-path_at : (d : Data) (ops : List Operation) (k : ℕ) (kind : PatchErrorKind) → RefusesAt d ops k kind
-    → (P : List (List ℕ)) × (option_map path_of (slice_get ops k) ≡ Some P)
-path_at d [] k kind h = absurd h
-path_at d (op ∷ ops) zero kind h = (path_of op, refl)
-path_at d (op ∷ ops) (suc k) kind h = path_at h.0 ops k kind h.2
-
 -- a patch that is accepted on d, with its end
 abbrev Applies : Data → Data → Type 0
 Applies d p = IsDocument d × ((ops : List Operation) × (e : Data) × ReadsPatch p ops × Accepts d ops e)
@@ -37,8 +30,8 @@ module _ (below : Below) (document_or_not : (d : Data) → IsDocument d ⊎ (IsD
   run_of d p ops document reads = elim (below.run_ends d ops document (below.read_is_whole p ops reads)) [
     | inl w ↦ inl (document, (ops, w.0, reads, w.1.accepts))
     | inr w ↦
-        let (path, is_path) = path_at d ops w.0 w.1 w.2.refuses in
-        inr (Refused (record { operation = w.0; path = path; kind = w.1 }), (document, (ops, reads, (w.2.refuses, is_path))))
+        let (e, names) = refusal_named d ops w.0 w.1 w.2.refuses in
+        inr (Refused e, (document, (ops, reads, names)))
   ]
 
   patch_or_not : (d p : Data) → Applies d p ⊎ ((f : ToolFault) × IsNotPatched d p f)

@@ -1,7 +1,7 @@
 //! What each mode answers to the bytes of an input.
 
 ghost use Rattle.std.specs.Prelude.{◌≡◌, ◌≢◌, Ok, Err, IfOk, IfErr, string_bytes};
-ghost use Rattle.serde_json.specs.Data.{Data, array, item, no_items};
+ghost use Rattle.serde_json.specs.Data.{Data};
 ghost use Rattle.serde_json.specs.View.{view};
 ghost use Rattle.json_patch.specs.Document.{IsDocument};
 ghost use Rattle.json_patch.specs.Operation.{AreWhole, operations};
@@ -14,11 +14,12 @@ ghost use Rattle.json_patch_tool.specs.declared.mode.Mode.TheVariants.{Record};
 
 use crate::editing::edited;
 use crate::fault::ToolFault;
-use crate::input::{line_of, read_pair};
+use crate::input::read_pair;
+use crate::line::{line_of, pair};
 use crate::mode::Mode;
 use json_patch::{Patch, apply_patches, is_whole, laws, merge, patch};
 use serde_json::Value;
-use std::alloc::{AllocError, Global};
+use std::alloc::Global;
 
 /// The line for an input of at most 16777216 bytes: one JSON text, an array of a document and a
 /// patch. The line is one compact JSON text and a line feed: the new document or, in mode `Record`,
@@ -101,11 +102,4 @@ fn read_patch(alloc: Global, document: &Value, value: &Value) -> Result<Patch, T
         return Err(ToolFault::NotWhole);
     }
     Ok(Patch::from_value(alloc, value)?)
-}
-
-/// The array of two values.
-pub(crate) fn pair(alloc: Global, first: Value, second: Value) -> Result<Value, AllocError>
-    ensures { IfOk result (λ v. view v ≡ array (item (view first) (item (view second) no_items))) }
-{
-    Ok(Value::Array(vec![in alloc; first, second]?))
 }

@@ -12,9 +12,8 @@ ghost use Rattle.json_patch_tool.specs.Editing.{ReadsCommand, ReadsCommands, Rea
 ghost use Rattle.json_patch_tool.specs.Input as spec;
 ghost use Rattle.json_patch_tool.specs.declared.fault.ToolFault.TheVariants.{Memory};
 
-use crate::answer::pair;
 use crate::fault::ToolFault;
-use crate::input::line_of;
+use crate::line::{line_of, pair};
 use json_patch::{Patch, PatchError, PatchErrorKind, PatchFault, ReadError, ReadKind, is_whole};
 use json_patch_editor::{Editor, laws};
 use serde_json::{Value, json};

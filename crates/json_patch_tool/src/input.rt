@@ -1,17 +1,14 @@
-//! From the bytes of an input to its two values, and from a value to its line.
+//! From the bytes of an input to its two values.
 
-ghost use Rattle.std.specs.Prelude.{◌≡◌, ◌≢◌, option_map, IfOk, IfErr, OnOk, string_bytes};
+ghost use Rattle.std.specs.Prelude.{◌≡◌, ◌≢◌, option_map, IfOk, IfErr};
 ghost use Rattle.serde_json.specs.View.{view};
-ghost use Rattle.json_patch.specs.Document.{IsDocument};
 ghost use Rattle.json_patch_tool.specs.Input as spec;
 ghost use Rattle.json_patch_tool.specs.Input.{Says, SaysPair, NoPair};
-ghost use Rattle.json_patch_tool.specs.Recording.{ReadsBack};
 ghost use Rattle.json_patch_tool.specs.declared.fault.ToolFault.TheVariants.{Memory};
 
 use crate::fault::ToolFault;
-use json_patch::laws;
 use serde_json::Value;
-use std::alloc::{AllocError, Global};
+use std::alloc::Global;
 
 /// The most bytes that an input may have.
 pub const MAX_INPUT: usize = 16_777_216;
@@ -51,16 +48,4 @@ fn pair_of(value: Value) -> Option<(Value, Value)>
         (Some(first), Some(second), None) => Some((first, second)),
         _ => None,
     }
-}
-
-/// The compact text of a value with whole numbers, and a line feed.
-pub(crate) fn line_of(alloc: Global, value: &Value) -> Result<String, AllocError>
-    requires { IsDocument (view value.now) }
-    ensures line { IfOk result (λ line. string_bytes line ≡ spec.line_of (view value.now)) }
-    ensures reads_back { OnOk result (ReadsBack (view value.now)) }
-{
-    laws::documents();
-    let mut line = value.to_string(alloc)?;
-    line.push('\n')?;
-    Ok(line)
 }

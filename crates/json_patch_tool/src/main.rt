@@ -11,6 +11,7 @@ mod editing;
 mod fault;
 mod input;
 pub mod laws;
+mod line;
 mod mode;
 mod program;
 #[cfg(test)]

@@ -1,7 +1,7 @@
 use Rattle.std.proofs.Common.{◌∙◌, rules, ap, sym, subst, IsUtf8}
 use Rattle.std.proofs.lemmas.Str.{IsUtf8-string_bytes}
 use Rattle.serde_json.specs.Read.{read}
-use Rattle.json_patch_tool.proofs.input.line_of.Goals as goal
+use Rattle.json_patch_tool.proofs.line.line_of.Goals as goal
 
 pub returns-clause-line : goal.returns-clause-line
 returns-clause-line c = let text = c.in_ok-line.ensures.text (c.documents.ensures.no_float _ c.requires) in search rules
