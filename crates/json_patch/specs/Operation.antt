@@ -7,6 +7,7 @@ use Rattle.json_patch.specs.Document.{IsDocument}
 use Rattle.json_patch.specs.declared.operation.AddOperation.{AddOperation}
 use Rattle.json_patch.specs.declared.operation.CopyOperation.{CopyOperation}
 use Rattle.json_patch.specs.declared.operation.MoveOperation.{MoveOperation}
+use Rattle.json_patch.specs.declared.operation.Patch.{Patch}
 use Rattle.json_patch.specs.declared.operation.PatchOperation.{PatchOperation}
 use Rattle.json_patch.specs.declared.operation.RemoveOperation.{RemoveOperation}
 use Rattle.json_patch.specs.declared.operation.ReplaceOperation.{ReplaceOperation}
@@ -50,6 +51,10 @@ operation_of (Test o) = test_of o
 
 abbrev pub operations : List PatchOperation → List Operation
 operations os = map operation_of os
+
+-- those that a patch has
+abbrev pub operations_of : Patch → List Operation
+operations_of p = operations p.0.items
 
 -- the parts of an operation: its name in exactly these letters, its `path`, and its `from` and `value` where it has them
 pub record Parts : Type 0 where

@@ -7,7 +7,7 @@ ghost use Rattle.std.specs.Option.{option_eq};
 ghost use Rattle.std.specs.Ordering.{on};
 ghost use Rattle.serde_json.specs.View.{view, number_view, items_view, members_view};
 ghost use Rattle.json_patch.specs.Document.{IsDocument};
-ghost use Rattle.json_patch.specs.Operation.{add_of, copy_of, move_of, operation_of, operations, remove_of, replace_of, test_of};
+ghost use Rattle.json_patch.specs.Operation.{add_of, copy_of, move_of, operation_of, operations_of, remove_of, replace_of, test_of};
 ghost use Rattle.json_patch.specs.PartsView.{parts_view};
 ghost use Rattle.json_patch.specs.Same.{AreSame, AreSameLists, AreSameOperations, AreSameParts};
 ghost use Rattle.json_patch.specs.SameComputed.{same_num, same, same_items, same_members, same_operation, same_parts};
@@ -234,7 +234,7 @@ impl PartialEq for Patch {
         ensures eq_value { result
             ≡ pointwise (on operation_of same_operation) self.now.0.items other.now.0.items }
         ensures same { IsTrue result
-            ↔ AreSameLists (operations self.now.0.items) (operations other.now.0.items) }
+            ↔ AreSameLists (operations_of self.now) (operations_of other.now) }
     {
         self.0 == other.0
     }

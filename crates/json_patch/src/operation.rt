@@ -3,7 +3,7 @@
 ghost use Rattle.std.specs.Prelude.{◌≡◌, [], IfOk};
 ghost use Rattle.serde_json.specs.Data.{null};
 ghost use Rattle.jsonptr.specs.Pointers.{tokens_of};
-ghost use Rattle.json_patch.specs.Operation.{add_of, copy_of, move_of, operation_of, operations, parts_of, path_of, remove_of, replace_of, test, test_of};
+ghost use Rattle.json_patch.specs.Operation.{add_of, copy_of, move_of, operation_of, operations_of, parts_of, path_of, remove_of, replace_of, test, test_of};
 ghost use Rattle.json_patch.specs.PartsView.{parts_view};
 
 use jsonptr::{Pointer, PointerBuf};
@@ -110,7 +110,7 @@ impl Patch {
 
     /// A copy of the patch, refused for memory alone.
     pub fn clone(&self, alloc: Global) -> Result<Patch, AllocError>
-        ensures { IfOk result (λ copy. operations copy.0.items ≡ operations self.now.0.items) }
+        ensures { IfOk result (λ copy. operations_of copy ≡ operations_of self.now) }
     {
         let mut copies = Vec::with_capacity(alloc, self.0.len())?;
         for operation in &self.0 {

@@ -9,7 +9,7 @@ ghost use Rattle.serde_json.specs.View.{items_view, members_view, number_view, v
 ghost use Rattle.serde_json.specs.Written.{IsInOrder};
 ghost use Rattle.json_patch.specs.Document.{IsDocument};
 ghost use Rattle.json_patch.specs.PartsView.{parts_view};
-ghost use Rattle.json_patch.specs.Operation.{add_of, copy_of, move_of, operation_of, operations, remove_of, replace_of, test_of};
+ghost use Rattle.json_patch.specs.Operation.{add_of, copy_of, move_of, operation_of, operations, operations_of, remove_of, replace_of, test_of};
 ghost use Rattle.json_patch.specs.PatchValue.{all_fields, fields};
 ghost use Rattle.json_patch.specs.Printed.{character_text, leading_text, number_text, value_text, fields_text, parts_text, patch_text, quote, trailing_text};
 
@@ -100,7 +100,7 @@ impl fmt::Display for PatchOperation {
 }
 
 impl fmt::Display for Patch {
-    ghost output = { λ p. Some (patch_text (operations p.0.items)) };
+    ghost output = { λ p. Some (patch_text (operations_of p)) };
 
     /// Writes the list of the operations' objects.
     fn fmt<W: fmt::Write>(&self, f: &mut fmt::Formatter<W>) -> fmt::Result {
@@ -180,7 +180,7 @@ impl fmt::Debug for PatchOperation {
 
 /// Writes what `Display` writes.
 impl fmt::Debug for Patch {
-    ghost debug_output = { λ p. Some (patch_text (operations p.0.items)) };
+    ghost debug_output = { λ p. Some (patch_text (operations_of p)) };
 
     fn fmt<W: fmt::Write>(&self, f: &mut fmt::Formatter<W>) -> fmt::Result {
         fmt::Display::fmt(self, f)

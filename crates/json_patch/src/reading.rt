@@ -4,7 +4,7 @@ ghost use Rattle.std.specs.Prelude.{◌≡◌, ◌∷◌, [], codes, IfOk, List,
 ghost use Rattle.serde_json.specs.Data.{string};
 ghost use Rattle.serde_json.specs.Find.{get};
 ghost use Rattle.serde_json.specs.View.{view};
-ghost use Rattle.json_patch.specs.Operation.{AreWhole, add, add_of, copy_of, move, move_of, operation_of, operations, remove_of, replace_of, test_of};
+ghost use Rattle.json_patch.specs.Operation.{AreWhole, add, add_of, copy_of, move, move_of, operation_of, operations, operations_of, remove_of, replace_of, test_of};
 ghost use Rattle.json_patch.specs.PatchValue.{IfUnreadAlone, IfUnreadable, from_and_path, path_and_value, ReadsFields, ReadsOperation, ReadsPatch, RefusesFields, RefusesOperation, RefusesPatch};
 ghost use Rattle.json_patch.specs.ReadSteps.{HasAnyFrom, IsPointerAt};
 ghost use Rattle.json_patch.specs.declared.error.ReadFault.TheVariants.{Refused};
@@ -178,8 +178,8 @@ impl Patch {
     /// Reads a list of operations (RFC 6902, section 3). Answers the first fault of the first
     /// item that isn't an operation, or `Memory` where a growth was refused.
     pub fn from_value(alloc: Global, value: &Value) -> Result<Patch, ReadFault>
-        ensures read { IfOk result (λ p. ReadsPatch (view value.now) (operations p.0.items)) }
-        ensures whole { IfOk result (λ p. AreWhole (operations p.0.items)) }
+        ensures read { IfOk result (λ p. ReadsPatch (view value.now) (operations_of p)) }
+        ensures whole { IfOk result (λ p. AreWhole (operations_of p)) }
         ensures refused { IfUnreadable result (λ e.
             RefusesPatch (view value.now) e.operation e.kind) }
     {

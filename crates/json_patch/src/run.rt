@@ -9,7 +9,7 @@ ghost use Rattle.json_patch.specs.Faulting.{Reports};
 ghost use Rattle.json_patch.specs.InPlace.{AreInPlace, AreTestsThenRemove};
 ghost use Rattle.json_patch.specs.Inverse.{ArePlain, IsInverse};
 ghost use Rattle.json_patch.specs.InverseComputed.{inverse};
-ghost use Rattle.json_patch.specs.Operation.{AreWhole, operation_of, operations, path_of};
+ghost use Rattle.json_patch.specs.Operation.{AreWhole, operation_of, operations, operations_of, path_of};
 ghost use Rattle.json_patch.specs.Refusal.{IfRefused, NamesFirst, IfShort};
 ghost use Rattle.json_patch.specs.Run.{Accepts, IsAccepted};
 ghost use Rattle.json_patch.specs.Undoing.{From, RunsPart};
@@ -92,13 +92,13 @@ pub fn apply_patches(
     requires whole { AreWhole (operations patches.now) }
     ensures accepted { OnOk result (Accepts (view doc.old) (operations patches.now) (view doc.new)) }
     ensures inverse { IfOk result
-        (λ undo. IsInverse (view doc.old) (operations patches.now) (operations undo.0.items)) }
+        (λ undo. IsInverse (view doc.old) (operations patches.now) (operations_of undo)) }
     ensures leads_back { IfOk result
-        (λ undo. IsAccepted (view doc.new) (operations undo.0.items) (view doc.old)) }
-    ensures plain { IfOk result (λ undo. ArePlain (view doc.new) (operations undo.0.items)) }
+        (λ undo. IsAccepted (view doc.new) (operations_of undo) (view doc.old)) }
+    ensures plain { IfOk result (λ undo. ArePlain (view doc.new) (operations_of undo)) }
     ensures short { IfOk result
-        (λ undo. length (operations undo.0.items) ≤ 2 * length (operations patches.now)) }
-    ensures undo_whole { IfOk result (λ undo. AreWhole (operations undo.0.items)) }
+        (λ undo. length (operations_of undo) ≤ 2 * length (operations patches.now)) }
+    ensures undo_whole { IfOk result (λ undo. AreWhole (operations_of undo)) }
     ensures refused { IfRefused result (NamesFirst (view doc.old) (operations patches.now)) }
     ensures unchanged { OnErr result (view doc.new ≡ view doc.old) }
     ensures document { IsDocument (view doc.new) }

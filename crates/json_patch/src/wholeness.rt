@@ -4,7 +4,7 @@ ghost use Rattle.std.specs.Prelude.{◌≡◌, ◌↔◌, IsTrue, false};
 ghost use Rattle.serde_json.specs.View.{view};
 ghost use Rattle.serde_json.specs.Written.{has_float};
 ghost use Rattle.json_patch.specs.Document.{IsDocument};
-ghost use Rattle.json_patch.specs.Operation.{AreWhole, operations};
+ghost use Rattle.json_patch.specs.Operation.{AreWhole, operations_of};
 
 use crate::operation::Patch;
 use serde_json::Value;
@@ -42,7 +42,7 @@ pub fn is_whole(value: &Value) -> bool
 impl Patch {
     /// Whether the value of each operation is whole, as in an empty patch.
     pub fn is_whole(&self) -> bool
-        ensures { IsTrue result ↔ AreWhole (operations self.now.0.items) }
+        ensures { IsTrue result ↔ AreWhole (operations_of self.now) }
     {
         for operation in &self.0 {
             if !operation.parts().value.is_none_or(is_whole) {

@@ -6,7 +6,7 @@ ghost use Rattle.std.specs.Prelude.{◌≡◌, IfOk, OnOk, option_map};
 ghost use Rattle.serde_json.specs.Data.{put, string};
 ghost use Rattle.serde_json.specs.View.{members_view, view};
 ghost use Rattle.json_patch.specs.PartsView.{parts_view};
-ghost use Rattle.json_patch.specs.Operation.{add_of, copy_of, move_of, operation_of, operations, remove_of, replace_of, test_of};
+ghost use Rattle.json_patch.specs.Operation.{add_of, copy_of, move_of, operation_of, operations_of, remove_of, replace_of, test_of};
 ghost use Rattle.json_patch.specs.PatchValue.{written_fields, written_parts, written_patch, written_value};
 
 use crate::operation::{
@@ -83,7 +83,7 @@ impl PatchOperation {
 impl Patch {
     /// The list of the operations' objects.
     pub fn to_value(&self, alloc: Global) -> Result<Value, AllocError>
-        ensures { IfOk result (λ v. view v ≡ written_patch (operations self.now.0.items)) }
+        ensures { IfOk result (λ v. view v ≡ written_patch (operations_of self.now)) }
     {
         let mut items = Vec::with_capacity(alloc, self.0.len())?;
         for operation in &self.0 {

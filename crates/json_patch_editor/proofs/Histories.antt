@@ -6,11 +6,11 @@ use Rattle.std.proofs.lemmas.List.Elements.{All-cons, All-nil}
 use Rattle.std.specs.declared.alloc.AllocError.{AllocError}
 use Rattle.serde_json.specs.Data.{Data}
 use Rattle.json_patch.specs.Document.{IsDocument}
-use Rattle.json_patch.specs.Operation.{Operation, AreWhole}
+use Rattle.json_patch.specs.Operation.{Operation, AreWhole, operations_of}
 use Rattle.json_patch.specs.Run.{Accepts, IsAccepted, Ends}
 use Rattle.json_patch.specs.RunComputed.{Outcome, after_run}
 use Rattle.json_patch.specs.declared.operation.Patch.{Patch}
-use Rattle.json_patch_editor.specs.History.{operations_of, documents_along, documents_from, Lead, IfEnds, AreStored, AreKept, IsTaken, Shifts, Records}
+use Rattle.json_patch_editor.specs.History.{documents_along, documents_from, Lead, IfEnds, AreStored, AreKept, IsTaken, Shifts, Records}
 use Rattle.json_patch_editor.specs.Versions.{Versions, after_apply}
 
 -- ---- one patch more or less

@@ -1,14 +1,11 @@
 -- Patches that lead from one document to the next.
 use Rattle.std.specs.Prelude.{◌≡◌, ℕ, List, [], ◌∷◌, take, Result, Ok, Err, Bool, true, false}
 use Rattle.serde_json.specs.Data.{Data}
-use Rattle.json_patch.specs.Operation.{Operation, operations, AreWhole}
+use Rattle.json_patch.specs.Operation.{AreWhole, operations_of}
 use Rattle.json_patch.specs.Run.{IsAccepted}
 use Rattle.json_patch.specs.RunComputed.{Outcome, after_run}
 use Rattle.json_patch.specs.declared.operation.Patch.{Patch}
 use Rattle.std.specs.declared.alloc.AllocError.{AllocError}
-
-abbrev pub operations_of : Patch → List Operation
-operations_of p = operations p.0.items
 
 abbrev pub documents_from : Outcome → (Data → List Data) → List Data
 documents_from (Ok e) rest = e ∷ rest e

@@ -3,7 +3,7 @@
 ghost use Rattle.std.specs.Prelude.{◌∷◌, [], IfOk, true, false};
 ghost use Rattle.serde_json.specs.View.{view};
 ghost use Rattle.json_patch.specs.Document.{IsDocument};
-ghost use Rattle.json_patch.specs.Operation.{AreWhole, operations};
+ghost use Rattle.json_patch.specs.Operation.{AreWhole, operations_of};
 ghost use Rattle.json_patch_editor.specs.Commands.{RepliesInTurn, accepted, apply, moved, redo, undo};
 ghost use Rattle.json_patch_editor.specs.Shown.{versions};
 ghost use Rattle.json_patch_editor.specs.Versions.{initial};
@@ -17,9 +17,9 @@ use std::test::Fail;
 /// Makes the change, takes it back, looks for more to take back, and makes the change again.
 fn back_and_on(alloc: Global, document: Value, changes: &Patch) -> Result<Editor, PatchFault>
     requires document { IsDocument (view document) }
-    requires whole { AreWhole (operations changes.now.0.items) }
+    requires whole { AreWhole (operations_of changes.now) }
     ensures { IfOk result (λ editor. RepliesInTurn (initial 2 (view document))
-        (apply (operations changes.now.0.items) ∷ undo ∷ undo ∷ redo ∷ [])
+        (apply (operations_of changes.now) ∷ undo ∷ undo ∷ redo ∷ [])
         (accepted ∷ moved true ∷ moved false ∷ moved true ∷ []) (versions editor)) }
 {
     laws::one_more_reply();

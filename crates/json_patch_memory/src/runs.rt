@@ -3,7 +3,7 @@
 ghost use Rattle.std.specs.Prelude.{IfOk};
 ghost use Rattle.serde_json.specs.View.{view};
 ghost use Rattle.json_patch.specs.Document.{IsDocument};
-ghost use Rattle.json_patch.specs.Operation.{AreWhole, operations};
+ghost use Rattle.json_patch.specs.Operation.{AreWhole, operations_of};
 
 use crate::counted::{counted, line};
 use json_patch::{Patch, PatchFault, is_whole};
@@ -67,13 +67,13 @@ pub(crate) fn document_of(rt: &HostRuntime, text: &str) -> io::Result<Value>
 }
 
 fn patch_of(rt: &HostRuntime, text: &str) -> io::Result<Patch>
-    ensures { IfOk result (λ changes. AreWhole (operations changes.0.items)) }
+    ensures { IfOk result (λ changes. AreWhole (operations_of changes)) }
 {
     patch_from(rt, &value_of(rt, text)?)
 }
 
 pub(crate) fn patch_from(rt: &HostRuntime, value: &Value) -> io::Result<Patch>
-    ensures { IfOk result (λ changes. AreWhole (operations changes.0.items)) }
+    ensures { IfOk result (λ changes. AreWhole (operations_of changes)) }
 {
     match Patch::from_value(rt.alloc(), value) {
         Ok(changes) => Ok(changes),

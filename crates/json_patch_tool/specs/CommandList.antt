@@ -3,7 +3,7 @@ use Rattle.std.specs.Prelude.{◌≡◌, List, map}
 use Rattle.serde_json.specs.Data.{Data}
 use Rattle.serde_json.specs.View.{view}
 use Rattle.serde_json.specs.declared.value.Value.{Value}
-use Rattle.json_patch.specs.Operation.{operations}
+use Rattle.json_patch.specs.Operation.{operations_of}
 use Rattle.json_patch_editor.specs.Commands as editor
 use Rattle.json_patch_editor.specs.Commands.{Reply, RepliesInTurn, apply, undo, redo}
 use Rattle.json_patch_editor.specs.Versions.{Versions}
@@ -14,7 +14,7 @@ use Rattle.json_patch_tool.specs.declared.fault.ToolFault.{ToolFault}
 use Rattle.json_patch_tool.specs.declared.fault.ToolFault.TheVariants.{Unreadable, Memory}
 
 abbrev pub command_of : Command → editor.Command
-command_of (Apply p) = apply (operations p.0.items)
+command_of (Apply p) = apply (operations_of p)
 command_of Undo = undo
 command_of Redo = redo
 

@@ -4,7 +4,7 @@ ghost use Rattle.std.specs.Prelude.{◌≡◌, ◌≢◌, Ok, Err, IfOk, IfErr, 
 ghost use Rattle.serde_json.specs.Data.{Data};
 ghost use Rattle.serde_json.specs.View.{view};
 ghost use Rattle.json_patch.specs.Document.{IsDocument};
-ghost use Rattle.json_patch.specs.Operation.{AreWhole, operations};
+ghost use Rattle.json_patch.specs.Operation.{AreWhole, operations_of};
 ghost use Rattle.json_patch.specs.PatchValue.{ReadsPatch};
 ghost use Rattle.json_patch_tool.specs.Answer.{Answer, IsMergedWhole, IsNotMerged, IsNotPatched, IsPatched, IsRecorded, LeadsBack};
 ghost use Rattle.json_patch_tool.specs.Input as spec;
@@ -93,8 +93,8 @@ fn merged(alloc: Global, mut document: Value, value: &Value) -> Result<String, T
 /// The patch that the value reads as, for a whole document.
 fn read_patch(alloc: Global, document: &Value, value: &Value) -> Result<Patch, ToolFault>
     ensures document { IfOk result (λ _. IsDocument (view document.now)) }
-    ensures read { IfOk result (λ patch. ReadsPatch (view value.now) (operations patch.0.items)) }
-    ensures whole { IfOk result (λ patch. AreWhole (operations patch.0.items)) }
+    ensures read { IfOk result (λ patch. ReadsPatch (view value.now) (operations_of patch)) }
+    ensures whole { IfOk result (λ patch. AreWhole (operations_of patch)) }
     ensures fault { IfErr result (λ fault.
         fault ≢ Memory → IsNotPatched (view document.now) (view value.now) fault) }
 {

@@ -3,7 +3,7 @@
 ghost use Rattle.std.specs.Prelude.{◌≡◌, IfOk, OnOk};
 ghost use Rattle.serde_json.specs.View.{view};
 ghost use Rattle.json_patch.specs.Document.{IsDocument};
-ghost use Rattle.json_patch.specs.Operation.{AreWhole, operations};
+ghost use Rattle.json_patch.specs.Operation.{AreWhole, operations_of};
 
 mod tests;
 
@@ -33,7 +33,7 @@ fn what_was_refused(
     changes: &Patch,
 ) -> Result<String, AllocError>
     requires document { IsDocument (view document.old) }
-    requires whole { AreWhole (operations changes.now.0.items) }
+    requires whole { AreWhole (operations_of changes.now) }
 {
     match patch(alloc, document, changes.as_slice()) {
         Ok(()) => String::from_str(alloc, "accepted"),
@@ -48,7 +48,7 @@ fn there_and_back(
     changes: &Patch,
 ) -> Result<String, UpdateFault>
     requires document { IsDocument (view document.old) }
-    requires whole { AreWhole (operations changes.now.0.items) }
+    requires whole { AreWhole (operations_of changes.now) }
     ensures { OnOk result (view document.new ≡ view document.old) }
 {
     let undo = apply_patches(alloc, document, changes.as_slice())?;
@@ -81,7 +81,7 @@ fn merged_and_looked_up(alloc: Global, document: &mut Value) -> Result<Option<Va
 
 fn taken_back(alloc: Global, document: Value, changes: &Patch) -> Result<Value, UpdateFault>
     requires document { IsDocument (view document) }
-    requires whole { AreWhole (operations changes.now.0.items) }
+    requires whole { AreWhole (operations_of changes.now) }
     ensures { IfOk result (λ v. view v ≡ view document) }
 {
     let mut editor = Editor::open(alloc, document, 100);

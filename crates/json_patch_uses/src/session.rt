@@ -3,7 +3,7 @@
 ghost use Rattle.std.specs.Prelude.{◌≡◌, IfOk, IsFalse, IsTrue};
 ghost use Rattle.serde_json.specs.View.{view};
 ghost use Rattle.json_patch.specs.Document.{IsDocument};
-ghost use Rattle.json_patch.specs.Operation.{AreWhole, operations};
+ghost use Rattle.json_patch.specs.Operation.{AreWhole, operations_of};
 ghost use Rattle.json_patch.specs.Refusal.{IfRefused, NamesFirst};
 ghost use Rattle.json_patch.specs.Run.{Accepts};
 
@@ -20,12 +20,12 @@ pub fn tried(
     keep: bool,
 ) -> Result<Value, PatchFault>
     requires document { IsDocument (view document) }
-    requires whole { AreWhole (operations changes.now.0.items) }
+    requires whole { AreWhole (operations_of changes.now) }
     ensures kept { IsTrue keep → IfOk result (λ e.
-        Accepts (view document) (operations changes.now.0.items) (view e)) }
+        Accepts (view document) (operations_of changes.now) (view e)) }
     ensures taken_back { IsFalse keep → IfOk result (λ e. view e ≡ view document) }
     ensures refused { IfRefused result
-        (NamesFirst (view document) (operations changes.now.0.items)) }
+        (NamesFirst (view document) (operations_of changes.now)) }
 {
     let mut editor = Editor::open(alloc, document, 1);
     editor.apply(alloc, changes.as_slice())?;

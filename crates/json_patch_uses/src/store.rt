@@ -4,7 +4,7 @@ ghost use Rattle.std.specs.Prelude.{◌≡◌, IfErr, IfOk, OnErr, OnOk};
 ghost use Rattle.serde_json.specs.Data.{Data};
 ghost use Rattle.serde_json.specs.View.{view};
 ghost use Rattle.json_patch.specs.Document.{IsDocument};
-ghost use Rattle.json_patch.specs.Operation.{AreWhole, operations};
+ghost use Rattle.json_patch.specs.Operation.{AreWhole, operations_of};
 ghost use Rattle.json_patch.specs.Propositions.{IsDocument-prop};
 ghost use Rattle.json_patch.specs.Refusal.{IfRefused, NamesFirst};
 ghost use Rattle.json_patch.specs.Run.{Accepts, IsAccepted};
@@ -46,8 +46,8 @@ impl Store {
         ensures updated { OnOk result
             (Updates (document_of self.old) text.now (document_of self.new)) }
         ensures leads_back { IfOk result (λ undo.
-            IsAccepted (document_of self.new) (operations undo.0.items) (document_of self.old)) }
-        ensures undo_whole { IfOk result (λ undo. AreWhole (operations undo.0.items)) }
+            IsAccepted (document_of self.new) (operations_of undo) (document_of self.old)) }
+        ensures undo_whole { IfOk result (λ undo. AreWhole (operations_of undo)) }
         ensures fault { IfErr result (IsFault (document_of self.old) text.now) }
         ensures unchanged { OnErr result (document_of self.new ≡ document_of self.old) }
     {
@@ -59,11 +59,11 @@ impl Store {
 
     /// Makes the changes of a patch, as one that `update` answered.
     pub fn revert(&mut self, alloc: Global, undo: &Patch) -> Result<(), PatchFault>
-        requires { AreWhole (operations undo.now.0.items) }
+        requires { AreWhole (operations_of undo.now) }
         ensures accepted { OnOk result (Accepts (document_of self.old)
-            (operations undo.now.0.items) (document_of self.new)) }
+            (operations_of undo.now) (document_of self.new)) }
         ensures refused { IfRefused result
-            (NamesFirst (document_of self.old) (operations undo.now.0.items)) }
+            (NamesFirst (document_of self.old) (operations_of undo.now)) }
         ensures unchanged { OnErr result (document_of self.new ≡ document_of self.old) }
     {
         patch(alloc, &mut self.document, undo.as_slice())

@@ -3,7 +3,7 @@
 ghost use Rattle.std.specs.Prelude.{◌≡◌, IfErr, OnErr, OnOk};
 ghost use Rattle.serde_json.specs.View.{view};
 ghost use Rattle.json_patch.specs.Document.{IsDocument};
-ghost use Rattle.json_patch.specs.Operation.{AreWhole, operations};
+ghost use Rattle.json_patch.specs.Operation.{AreWhole, operations_of};
 ghost use Rattle.json_patch.specs.Run.{Accepts};
 ghost use Rattle.json_patch_uses.specs.Versioned.{HasVersion, IsVersionFault};
 ghost use Rattle.json_patch_uses.specs.declared.versioned.VersionFault.TheVariants.{Memory};
@@ -44,11 +44,11 @@ pub fn update_version(
     mut changes: Patch,
 ) -> Result<(), VersionFault>
     requires document { IsDocument (view doc.old) }
-    requires whole { AreWhole (operations changes.0.items) }
+    requires whole { AreWhole (operations_of changes) }
     ensures updated { OnOk result (HasVersion (view doc.old) version
-        × Accepts (view doc.old) (operations changes.0.items) (view doc.new)) }
+        × Accepts (view doc.old) (operations_of changes) (view doc.new)) }
     ensures fault { IfErr result
-        (IsVersionFault (view doc.old) version (operations changes.0.items)) }
+        (IsVersionFault (view doc.old) version (operations_of changes)) }
     ensures unchanged { OnErr result (view doc.new ≡ view doc.old) }
     ensures document { IsDocument (view doc.new) }
 {

@@ -4,7 +4,7 @@
 ghost use Rattle.std.specs.Prelude.{IfOk};
 ghost use Rattle.serde_json.specs.View.{view};
 ghost use Rattle.json_patch.specs.Document.{IsDocument};
-ghost use Rattle.json_patch.specs.Operation.{AreWhole, operations};
+ghost use Rattle.json_patch.specs.Operation.{AreWhole, operations, operations_of};
 
 use crate::runner::{assert_read_again, assert_shown, assert_text};
 use json_patch::jsonptr::PointerBuf;
@@ -37,7 +37,7 @@ fn document(rt: &(impl Abort + AllocGlobal), text: &str) -> Result<Value, Fail>
 
 /// The patch that makes `PATCHED` of `FIRST`.
 fn changes(alloc: Global) -> Result<Patch, Fail>
-    ensures { IfOk result (λ changes. AreWhole (operations changes.0.items)) }
+    ensures { IfOk result (λ changes. AreWhole (operations_of changes)) }
 {
     let operations = concat!(
         r#"[{"op":"move","from":"/a/b","path":"/l/0"},"#,

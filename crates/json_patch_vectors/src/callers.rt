@@ -3,7 +3,7 @@
 ghost use Rattle.std.specs.Prelude.{◌≡◌, OnOk};
 ghost use Rattle.serde_json.specs.View.{view};
 ghost use Rattle.json_patch.specs.Document.{IsDocument};
-ghost use Rattle.json_patch.specs.Operation.{AreWhole, operations};
+ghost use Rattle.json_patch.specs.Operation.{AreWhole, operations_of};
 
 use json_patch::{Patch, PatchFault, apply_patches, is_whole, patch};
 use serde_json::Value;
@@ -13,7 +13,7 @@ use std::test::Fail;
 /// Makes the changes and takes them back: whatever they were, the document is the first one again.
 fn there_and_back(alloc: Global, doc: &mut Value, changes: &Patch) -> Result<(), PatchFault>
     requires document { IsDocument (view doc.old) }
-    requires whole { AreWhole (operations changes.now.0.items) }
+    requires whole { AreWhole (operations_of changes.now) }
     ensures back { OnOk result (view doc.new ≡ view doc.old) }
 {
     let undo = apply_patches(alloc, doc, changes.as_slice())?;

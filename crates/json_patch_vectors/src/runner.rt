@@ -2,7 +2,7 @@
 
 ghost use Rattle.serde_json.specs.View.{view};
 ghost use Rattle.json_patch.specs.Document.{IsDocument};
-ghost use Rattle.json_patch.specs.Operation.{AreWhole, operations};
+ghost use Rattle.json_patch.specs.Operation.{AreWhole, operations_of};
 
 use json_patch::{
     AddOperation, CopyOperation, MoveOperation, Patch, PatchFault, PatchOperation, ReadFault,
@@ -97,7 +97,7 @@ fn assert_runs(
     after: &str,
 ) -> Result<(), Fail>
     requires document { IsDocument (view document.now) }
-    requires whole { AreWhole (operations changes.now.0.items) }
+    requires whole { AreWhole (operations_of changes.now) }
 {
     let alloc = rt.alloc();
     let mut copied = document.clone()?;
@@ -120,7 +120,7 @@ fn assert_recorded(
     inverse: Option<&str>,
 ) -> Result<(), Fail>
     requires document { IsDocument (view document.now) }
-    requires whole { AreWhole (operations changes.now.0.items) }
+    requires whole { AreWhole (operations_of changes.now) }
 {
     let alloc = rt.alloc();
     let mut recorded = document.clone()?;
@@ -145,7 +145,7 @@ fn assert_refused(
     left: &str,
 ) -> Result<(), Fail>
     requires document { IsDocument (view document.now) }
-    requires whole { AreWhole (operations changes.now.0.items) }
+    requires whole { AreWhole (operations_of changes.now) }
 {
     let alloc = rt.alloc();
     let first = document.to_string(alloc)?;

@@ -2,7 +2,7 @@
 
 ghost use Rattle.serde_json.specs.View.{view};
 ghost use Rattle.json_patch.specs.Document.{IsDocument};
-ghost use Rattle.json_patch.specs.Operation.{AreWhole, operations};
+ghost use Rattle.json_patch.specs.Operation.{AreWhole, operations, operations_of};
 
 use crate::readme::{
     from_texts, merged_and_looked_up, taken_back, there_and_back, what_was_refused,
@@ -23,7 +23,7 @@ fn whole(alloc: Global, text: &str) -> Value
 }
 
 fn changes(alloc: Global, text: &str) -> Patch
-    ensures { AreWhole (operations result.0.items) }
+    ensures { AreWhole (operations_of result) }
 {
     let Ok(value) = Value::from_str(alloc, text) else {
         return Patch::new(alloc);
