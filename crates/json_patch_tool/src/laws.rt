@@ -1,5 +1,5 @@
-//! Laws over the definitions, each the contract of a public function that only names the laws from
-//! which it follows: it is for proofs to cite, and never called.
+//! Laws over the definitions: the clauses of a function that only names the laws from which they
+//! follow. They are for proofs to cite, and never called by the program.
 
 ghost use Rattle.std.specs.Prelude.{◌≡◌, ◌≢◌, ℕ, List, Result, Err};
 ghost use Rattle.json_patch_tool.specs.Answer.{Answer};
@@ -10,23 +10,20 @@ ghost use Rattle.json_patch_tool.specs.declared.mode.Mode.{Mode};
 use json_patch::laws::{documents, inverse, merging, runs, values};
 use json_patch_editor::laws;
 
-/// In each mode an input has one answer at most: one line, or one fault.
-pub fn answered_once()
-    ensures { (mode : Mode) (input : List ℕ) (a b : Result (List ℕ) ToolFault)
+/// The answers to inputs.
+pub fn answers()
+    // In each mode an input has one answer at most: one line, or one fault.
+    ensures answered_once { (mode : Mode) (input : List ℕ) (a b : Result (List ℕ) ToolFault)
         → Answer mode input a → Answer mode input b → a ≡ b }
-{
-    values();
-    runs();
-    inverse();
-    merging();
-    laws::replied_once();
-    laws::always_replied();
-}
 
-/// In each mode each input has an answer.
-pub fn each_input_has_an_answer()
-    ensures { (mode : Mode) (input : List ℕ)
+    // In each mode each input has an answer.
+    ensures each_input_has_an_answer { (mode : Mode) (input : List ℕ)
         → (answer : Result (List ℕ) ToolFault) × Answer mode input answer }
+
+    // The answer is no fault of memory, of the reader or of the writer.
+    ensures answer_is_no_failure { (mode : Mode) (input : List ℕ) (fault : ToolFault)
+        → Answer mode input (Err fault)
+        → (fault ≢ Memory) × (fault ≢ ReadFailed) × (fault ≢ WriteFailed) }
 {
     documents();
     values();
@@ -36,9 +33,3 @@ pub fn each_input_has_an_answer()
     laws::replied_once();
     laws::always_replied();
 }
-
-/// The answer is no fault of memory, of the reader or of the writer.
-pub fn answer_is_no_failure()
-    ensures { (mode : Mode) (input : List ℕ) (fault : ToolFault) → Answer mode input (Err fault)
-        → (fault ≢ Memory) × (fault ≢ ReadFailed) × (fault ≢ WriteFailed) }
-{}
