@@ -63,9 +63,6 @@ inside b F P R is h = search (rules, append_cancel_left)
 pub move_inside : (d : Data) (F P : Pointer) → IsProperPrefix F P → after_step d (move F P) ≡ Err CannotMoveInsideItself
 move_inside d F P h = rw (prefix_begins F P h)
 
-pub moves : {T : Type 0} (r : Result T StepFault) (d m e v : Data) (F P : Pointer) → (IsProperPrefix F P → ⊥) → after_remove d F ≡ Some m → pointee d F ≡ Some v → Attempts r (after_add m P v) m e → ComesTo r (after_step d (move F P)) e
-moves r d m e v F P out gone stood h = search (rules, not_begins)
-
 pub move_nowhere : (d : Data) (F P : Pointer) → (IsProperPrefix F P → ⊥) → after_remove d F ≡ None → after_step d (move F P) ≡ Err InvalidFromPointer
 move_nowhere d F P out none = rw (not_begins F P out, none) (search rules)
 
