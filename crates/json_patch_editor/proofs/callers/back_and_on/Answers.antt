@@ -1,6 +1,6 @@
 use Rattle.std.proofs.Common.{subst}
 use Rattle.serde_json.specs.View.{view}
-use Rattle.json_patch.specs.Operation.{operations_of}
+use Rattle.json_patch.specs.Operation.{operations, operations_of}
 use Rattle.json_patch.specs.Run.{Accepts}
 use Rattle.json_patch_editor.specs.Shown.{versions}
 use Rattle.json_patch_editor.proofs.Rounds.{rounds}
