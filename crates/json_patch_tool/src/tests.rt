@@ -5,7 +5,6 @@ mod answers;
 mod depth;
 mod endings;
 mod fakes;
-mod hostile;
 mod inputs;
 mod refusals;
 mod streams;

@@ -26,8 +26,8 @@ fn fails_in_mid_stream(rt: HostRuntime) -> Result<(), Fail> {
     Ok(())
 }
 
-/// An interruption is no end and no failure, however often it comes; that reading ends at last is a
-/// clause.
+/// An interruption is no end and no failure, however often it comes. That reading ends at last is a
+/// clause, and `hostile/run` interrupts the built program as often as that.
 #[test]
 fn reads_on_where_interrupted(rt: HostRuntime) {
     for left in [1, 10_000] {
