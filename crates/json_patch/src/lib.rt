@@ -6,6 +6,7 @@ mod error;
 pub mod laws;
 mod merging;
 mod operation;
+mod parsing;
 mod printing;
 mod reading;
 mod record;
@@ -14,16 +15,18 @@ mod shared;
 mod step;
 mod walk;
 mod wholeness;
+mod within;
 mod writing;
 
 pub use equality::same;
-pub use error::{PatchError, PatchErrorKind, PatchFault, ReadError, ReadFault, ReadKind};
+pub use error::{Fault, PatchError, PatchErrorKind, PatchFault, ReadError, ReadFault, ReadKind};
 pub use jsonptr;
 pub use merging::merge;
 pub use operation::{
     AddOperation, CopyOperation, MoveOperation, Patch, PatchOperation, RemoveOperation,
     ReplaceOperation, TestOperation,
 };
+pub use parsing::document_from_str;
 pub use printing::pretty;
 pub use run::{apply_patches, patch, patch_unsafe};
 pub use walk::lookup;

@@ -7,22 +7,18 @@ ghost use Rattle.json_patch.specs.Operation.{AreWhole, operations};
 
 mod tests;
 
-use crate::fault::UpdateFault;
 use json_patch::jsonptr::PointerBuf;
 use json_patch::{
-    AddOperation, Patch, PatchFault, PatchOperation, apply_patches, is_whole, lookup, merge, patch,
+    AddOperation, Fault, Patch, PatchFault, PatchOperation, apply_patches, document_from_str,
+    lookup, merge, patch,
 };
 use json_patch_editor::Editor;
 use serde_json::{Value, json};
 use std::alloc::{AllocError, Global};
 
-fn from_texts(alloc: Global) -> Result<Value, UpdateFault> {
-    let mut document = Value::from_str(alloc, r#"{"a":1,"l":[1,2]}"#)?;
-    let value = Value::from_str(alloc, r#"[{"op":"add","path":"/l/-","value":3}]"#)?;
-    let changes = Patch::from_value(alloc, &value)?;
-    if !is_whole(&document) {
-        return Err(UpdateFault::NotWhole);
-    }
+fn from_texts(alloc: Global) -> Result<Value, Fault> {
+    let mut document = document_from_str(alloc, r#"{"a":1,"l":[1,2]}"#)?;
+    let changes = Patch::from_str(alloc, r#"[{"op":"add","path":"/l/-","value":3}]"#)?;
     patch(alloc, &mut document, changes.as_slice())?;
     Ok(document)
 }
@@ -42,11 +38,7 @@ fn what_was_refused(
     }
 }
 
-fn there_and_back(
-    alloc: Global,
-    document: &mut Value,
-    changes: &Patch,
-) -> Result<String, UpdateFault>
+fn there_and_back(alloc: Global, document: &mut Value, changes: &Patch) -> Result<String, Fault>
     requires document { IsDocument (view document.old) }
     requires whole { AreWhole (operations changes.now.0.items) }
     ensures { OnOk result (view document.new ≡ view document.old) }
@@ -57,7 +49,7 @@ fn there_and_back(
     Ok(told)
 }
 
-fn written_and_read(alloc: Global, value: Value) -> Result<bool, UpdateFault> {
+fn written_and_read(alloc: Global, value: Value) -> Result<bool, Fault> {
     let mut path = PointerBuf::new();
     path.push_back(alloc, "a/b")?;
     path.push_back(alloc, "-")?;
@@ -79,7 +71,7 @@ fn merged_and_looked_up(alloc: Global, document: &mut Value) -> Result<Option<Va
     }
 }
 
-fn taken_back(alloc: Global, document: Value, changes: &Patch) -> Result<Value, UpdateFault>
+fn taken_back(alloc: Global, document: Value, changes: &Patch) -> Result<Value, Fault>
     requires document { IsDocument (view document) }
     requires whole { AreWhole (operations changes.now.0.items) }
     ensures { IfOk result (λ v. view v ≡ view document) }
