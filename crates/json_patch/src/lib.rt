@@ -1,4 +1,11 @@
 //! JSON Patch (RFC 6902) and JSON Merge Patch (RFC 7396).
+//!
+//! ```rust
+//! let mut document = document_from_str(alloc, r#"{"a":1,"l":[1,2]}"#)?;
+//! let changes = Patch::from_str(alloc, r#"[{"op":"add","path":"/l/-","value":3}]"#)?;
+//! patch(alloc, &mut document, changes.as_slice())?;
+//! // {"a":1,"l":[1,2,3]}
+//! ```
 #![tactic(auto)]
 
 mod equality;

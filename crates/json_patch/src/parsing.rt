@@ -13,6 +13,10 @@ use std::alloc::Global;
 
 /// The document that a JSON text says. Answers `Syntax`, or `NotWhole` where a number isn't a whole
 /// one of 64 bits, or `Memory`. Of a name that stands twice the last value is read.
+///
+/// ```rust
+/// let mut document = document_from_str(alloc, r#"{"a":1,"l":[1,2]}"#)?;
+/// ```
 pub fn document_from_str(alloc: Global, text: &str) -> Result<Value, Fault>
     ensures document { IfOk result (λ d. SaysDocument text.now (view d)) }
     ensures fault { IfErr result (NoDocument text.now) }
@@ -27,6 +31,10 @@ pub fn document_from_str(alloc: Global, text: &str) -> Result<Value, Fault>
 impl Patch {
     /// The patch that a JSON text says (RFC 6902, section 3). Answers `Syntax`, or `Unreadable` with
     /// the first fault that [`Patch::from_value`] finds, or `Memory`.
+    ///
+    /// ```rust
+    /// let changes = Patch::from_str(alloc, r#"[{"op":"add","path":"/l/-","value":3}]"#)?;
+    /// ```
     pub fn from_str(alloc: Global, text: &str) -> Result<Patch, Fault>
         ensures read { IfOk result (λ p. SaysPatch text.now (operations p.0.items)) }
         ensures whole { IfOk result (λ p. AreWhole (operations p.0.items)) }

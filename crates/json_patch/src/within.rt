@@ -11,7 +11,7 @@ use jsonptr::{Pointer, PointerBuf};
 
 impl PatchOperation {
     /// Whether the operation's `path`, and its `from` where it has one, leads to somewhere below the
-    /// section: whether each is the section's tokens and at least one more.
+    /// section: whether each is the section's tokens and at least one more. Takes no memory.
     pub fn is_within(&self, section: Pointer<'_>) -> bool
         ensures { IsTrue result ↔ IsWithin (tokens_of section.entry) (operation_of self.now) }
     {
@@ -24,7 +24,14 @@ impl PatchOperation {
 }
 
 impl Patch {
-    /// Whether each operation is within the section, as in an empty patch.
+    /// Whether each operation is within the section, as in an empty patch. Such a patch changes what
+    /// stands at the section, and nothing elsewhere (`laws::locality`).
+    ///
+    /// ```rust
+    /// let section = Pointer::parse("/ann")?;
+    /// Ok(changes.is_within(section))
+    /// // not where it has a `copy` from /bob/0 to /ann/x
+    /// ```
     pub fn is_within(&self, section: Pointer<'_>) -> bool
         ensures { IsTrue result
             ↔ AreWithin (tokens_of section.entry) (operations self.now.0.items) }

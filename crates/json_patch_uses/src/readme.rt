@@ -1,16 +1,17 @@
-//! The examples of the README, word for word.
+//! The examples of the README and of the crates' comments, word for word.
 
-ghost use Rattle.std.specs.Prelude.{◌≡◌, IfOk, OnOk};
+ghost use Rattle.std.specs.Prelude.{◌≡◌, IfOk, OnOk, take};
 ghost use Rattle.serde_json.specs.View.{view};
 ghost use Rattle.json_patch.specs.Document.{IsDocument};
 ghost use Rattle.json_patch.specs.Operation.{AreWhole, operations};
+ghost use Rattle.json_patch.specs.Run.{Accepts};
 
 mod tests;
 
-use json_patch::jsonptr::PointerBuf;
+use json_patch::jsonptr::{ParseError, Pointer, PointerBuf};
 use json_patch::{
     AddOperation, Fault, Patch, PatchFault, PatchOperation, apply_patches, document_from_str,
-    lookup, merge, patch,
+    lookup, merge, patch, patch_unsafe,
 };
 use json_patch_editor::Editor;
 use serde_json::{Value, json};
@@ -34,6 +35,19 @@ fn what_was_refused(
     match patch(alloc, document, changes.as_slice()) {
         Ok(()) => String::from_str(alloc, "accepted"),
         Err(PatchFault::Refused(error)) => format!(in alloc; "{error}"),
+        Err(PatchFault::Memory(error)) => Err(error),
+    }
+}
+
+fn left_part_way(alloc: Global, document: &mut Value, changes: &Patch) -> Result<usize, AllocError>
+    requires document { IsDocument (view document.old) }
+    requires whole { AreWhole (operations changes.now.0.items) }
+    ensures { IfOk result (λ made. Accepts (view document.old)
+        (take made (operations changes.now.0.items)) (view document.new)) }
+{
+    match patch_unsafe(alloc, document, changes.as_slice()) {
+        Ok(()) => Ok(changes.as_slice().len()),
+        Err(PatchFault::Refused(error)) => Ok(error.operation),
         Err(PatchFault::Memory(error)) => Err(error),
     }
 }
@@ -69,6 +83,11 @@ fn merged_and_looked_up(alloc: Global, document: &mut Value) -> Result<Option<Va
         Some(found) => Ok(Some(found.clone()?)),
         None => Ok(None),
     }
+}
+
+fn is_of_ann(changes: &Patch) -> Result<bool, ParseError> {
+    let section = Pointer::parse("/ann")?;
+    Ok(changes.is_within(section))
 }
 
 fn taken_back(alloc: Global, document: Value, changes: &Patch) -> Result<Value, Fault>
