@@ -300,11 +300,18 @@ def kind_calls(line, kind, value, read, told):
     yield Call(f"clone: {line}", ["clone", kind, text], left(told, told), same)
 
 
+def text_call(line, call, value, told):
+    """The call on the text of a value: `told` is the text of what is read."""
+    text = compact(value)
+    return Call(f"from_str: {line}", [call, text], left(told, text), [left(MEMORY, text)])
+
+
 def vector_calls():
-    """Each vector's patch, each of its operations, and each operation's struct."""
+    """Each vector's document and patch, each of its operations, and each operation's struct."""
     for document, operations in VECTORS:
         read = [{n: v for n, v in it.items() if n != "xyz"} for it in operations]
         yield from kind_calls("a patch", "patch", operations, read, printed_patch(read))
+        yield text_call("a patch", "patch_from_str", operations, printed_patch(read))
         for it in read:
             fields = {n: v for n, v in it.items() if n != "op"}
             yield from kind_calls("an operation", "operation", it, it, printed(it))
@@ -312,6 +319,7 @@ def vector_calls():
         text = compact(document)
         answer = left(indented(document), text)
         yield Call("pretty", ["pretty", text], answer, [left(MEMORY, text)])
+        yield text_call("a document", "document_from_str", document, text)
 
 
 def tool_runs():

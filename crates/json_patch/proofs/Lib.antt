@@ -15,6 +15,7 @@ pub mod StepOutcomes
 pub mod Runs
 pub mod BlocksLeadBack
 pub mod Blocks
+pub mod Trails
 pub mod Parents
 pub mod Locality
 pub mod Plain
@@ -22,8 +23,10 @@ pub mod ProgramRuns
 pub mod Undos
 pub mod PatchFaults
 pub mod PatchValues
+pub mod SaidTexts
 pub mod Merges
 pub mod SharedTokens
+pub mod Sections
 pub mod MergeFills
 pub mod ApartChanges
 pub mod ApartOutcomes

@@ -218,7 +218,7 @@ pub written_patch_document : (ops : List Operation) → AreWhole ops → IsDocum
 written_patch_document ops w = written_items_documents ops w
 
 -- what reads is read: as that patch and no other, and refused for nothing
-read_is : (v : Data) (ops : List Operation) → ReadsPatch v ops → IsRead v ops
+pub read_is : (v : Data) (ops : List Operation) → ReadsPatch v ops → IsRead v ops
 read_is v ops h = search (rules, IsRead v, read_or_refused v, IsRead, read_or_refused)
 
 pub written_reads_back : (ops : List Operation) → AreWhole ops → IsRead (written_patch ops) ops

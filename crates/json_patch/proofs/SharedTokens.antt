@@ -35,10 +35,10 @@ push_some (u ∷ R) t = (u, R ++ t ∷ [], refl)
 front_proper : (T : Pointer) (t : List ℕ) (P : Pointer) → IsPrefix T (front_of t P) → IsProperPrefix T (t ∷ P)
 front_proper T t P h = search (rules, push_some h.0 (last_of t P), split_whole t P, append_assoc T h.0 (last_of t P ∷ []), push_some, split_whole, append_assoc)
 
-proper_front : (T : Pointer) (t : List ℕ) (P : Pointer) → IsProperPrefix T (t ∷ P) → IsPrefix T (front_of t P)
+pub proper_front : (T : Pointer) (t : List ℕ) (P : Pointer) → IsProperPrefix T (t ∷ P) → IsPrefix T (front_of t P)
 proper_front T t P h = search (rules, split_whole h.0 h.1, append_assoc T (front_of h.0 h.1) (last_of h.0 h.1 ∷ []), split_is t P (T ++ front_of h.0 h.1) (last_of h.0 h.1), split_whole, append_assoc, split_is)
 
-no_proper : (T : Pointer) → IsProperPrefix T [] → ⊥
+pub no_proper : (T : Pointer) → IsProperPrefix T [] → ⊥
 no_proper [] h = let e : [] ≡ h.0 ∷ h.1 = h.2 in cc
 no_proper (t ∷ T) h = let e : [] ≡ t ∷ (T ++ h.0 ∷ h.1) = h.2 in cc
 

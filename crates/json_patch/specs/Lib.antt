@@ -19,6 +19,7 @@ pub mod Faulting
 pub mod PartRun
 pub mod InPlace
 pub mod PatchValue
+pub mod Texts
 pub mod Printed
 pub mod ReadLaws
 pub mod ReadSteps
@@ -27,6 +28,7 @@ pub mod ChangeComputed
 pub mod SameComputed
 pub mod SameLaws
 pub mod RunComputed
+pub mod Trails
 pub mod InverseComputed
 pub mod MergedComputed
 pub mod SharedComputed

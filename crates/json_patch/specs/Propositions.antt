@@ -1,6 +1,6 @@
--- That a value is a document, and that the values of operations are, has one proof at most, so that either may be a ghost
--- field of a type.
-use Rattle.std.specs.Prelude.{◌≡◌, ◌<◌, ◌^◌, ℕ, pos, negsuc, List, [], ◌∷◌, Option, Some, None, IfSome}
+-- That a value is a document, that the values of operations are, that patches are each whole, and that they are a trail,
+-- has one proof at most, so that each may be a ghost field of a type.
+use Rattle.std.specs.Prelude.{◌≡◌, ◌<◌, ◌^◌, ℕ, pos, negsuc, List, [], ◌∷◌, Option, Some, None, IfSome, Ok, Err}
 use mathlib.Core.Path.{refl}
 use Rattle.std.proofs.Props.{props}
 use Rattle.std.specs.Ordering.{nat_cmp}
@@ -8,7 +8,10 @@ use Rattle.std.specs.declared.cmp.Ordering.TheVariants.{Less}
 use Rattle.std.specs.Cmp.Lexicographic.{slice_cmp}
 use Rattle.serde_json.specs.Data.{Num, unsigned, negative, float, Data, null, boolean, number, string, array, object, Items, no_items, item, Members, no_members, member}
 use Rattle.json_patch.specs.Document.{IsBelowMembers, IsWhole, IsDocument, AreDocuments, AreMembers}
-use Rattle.json_patch.specs.Operation.{Operation, parts_of, AreWhole}
+use Rattle.json_patch.specs.Operation.{Operation, operations, parts_of, AreWhole}
+use Rattle.json_patch.specs.RunComputed.{Outcome, after_run}
+use Rattle.json_patch.specs.Trails.{AreEachWhole, IfEnds, IsTrail}
+use Rattle.json_patch.specs.declared.operation.Patch.{Patch}
 
 IsBelowMembers-prop : (k : List ℕ) (ms : Members) → IsProp (IsBelowMembers k ms)
 IsBelowMembers-prop k no_members p q = refl
@@ -46,3 +49,16 @@ value-prop (Some d) p q = IsDocument-prop d p q
 pub AreWhole-prop : (ops : List Operation) → IsProp (AreWhole ops)
 AreWhole-prop [] p q = refl
 AreWhole-prop (op ∷ ops) p q = λ i. (value-prop (parts_of op).value p.0 q.0 i, AreWhole-prop ops p.1 q.1 i)
+
+pub AreEachWhole-prop : (ps : List Patch) → IsProp (AreEachWhole ps)
+AreEachWhole-prop [] p q = refl
+AreEachWhole-prop (x ∷ ps) p q = λ i. (AreWhole-prop (operations x.0.items) p.0 q.0 i, AreEachWhole-prop ps p.1 q.1 i)
+
+IfEnds-prop : (o : Outcome) (P : Data → Type 0) → ((e : Data) → IsProp (P e)) → IsProp (IfEnds o P)
+IfEnds-prop (Ok e) P one p q = one e p q
+IfEnds-prop (Err f) P one p q = absurd p
+
+pub IsTrail-prop : (d : Data) (ps : List Patch) → IsProp (IsTrail d ps)
+IsTrail-prop d [] p q = refl
+IsTrail-prop d (x ∷ ps) p q =
+    λ i. (AreWhole-prop (operations x.0.items) p.0 q.0 i, IfEnds-prop (after_run d (operations x.0.items)) (λ e. IsTrail e ps) (λ e. IsTrail-prop e ps) p.1 q.1 i)

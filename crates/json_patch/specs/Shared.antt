@@ -1,8 +1,11 @@
 -- The part of a document that a list of operations is about: the tokens that begin the parent of each of their
 -- pointers (RFC 6901, section 3; RFC 6902, section 4).
-use Rattle.std.specs.Prelude.{List, [], ◌∷◌, ◌++◌, length, drop, map}
+use Rattle.std.specs.Prelude.{◌≡◌, List, [], ◌∷◌, ◌++◌, length, drop, map}
+use Rattle.serde_json.specs.Data.{Data}
 use Rattle.jsonptr.specs.Text.{Pointer, IsPrefix, IsProperPrefix}
+use Rattle.json_patch.specs.Document.{Segment, look}
 use Rattle.json_patch.specs.Operation.{Operation, add, remove, replace, move, copy, test}
+use Rattle.json_patch.specs.Resolve.{Resolves}
 
 -- S begins the parent of each pointer of op: each is S and at least one token more
 abbrev pub IsWithin : Pointer → Operation → Type 0
@@ -16,6 +19,10 @@ IsWithin S (test P v) = IsProperPrefix S P
 abbrev pub AreWithin : Pointer → List Operation → Type 0
 AreWithin S [] = Unit {0}
 AreWithin S (op ∷ ops) = IsWithin S op × AreWithin S ops
+
+-- e looks as d at each location that is not at or under the one to which S leads in d
+abbrev pub KeepsElsewhere : Pointer → Data → Data → Type 0
+KeepsElsewhere S d e = (X : List Segment) → ((L R : List Segment) (c : Data) → Resolves d S L c → X ≡ L ++ R → ⊥) → look e X ≡ look d X
 
 abbrev pub IsNotEmpty : List Operation → Type 0
 IsNotEmpty [] = ⊥

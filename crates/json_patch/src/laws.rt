@@ -14,19 +14,25 @@ ghost use Rattle.json_patch.specs.Inverse.{IsInverse, ArePlain, IsBlock};
 ghost use Rattle.json_patch.specs.InverseComputed.{block, inverse};
 ghost use Rattle.json_patch.specs.Merged.{IsMerged};
 ghost use Rattle.json_patch.specs.MergedComputed.{after_merge};
-ghost use Rattle.json_patch.specs.Operation.{AreWhole, IsWholeOp, Operation, path_of};
+ghost use Rattle.json_patch.specs.Operation.{AreWhole, IsWholeOp, Operation, operations, path_of};
 ghost use Rattle.json_patch.specs.PatchValue.{ReadsPatch, written_value, written_fields, written_patch};
 ghost use Rattle.json_patch.specs.ReadLaws.{IsRead, IsReadAlone, IsReadLike, HasReadFault, HasReadFaultAlone, HasReadFaultLike};
 ghost use Rattle.json_patch.specs.Resolve.{Resolves, StandsAt, HasTarget};
-ghost use Rattle.json_patch.specs.Run.{Accepts, AreTests, Ends, RefusesAt};
+ghost use Rattle.json_patch.specs.Run.{Accepts, AreTests, Ends, IsAccepted, RefusesAt};
 ghost use Rattle.json_patch.specs.RunComputed.{fault, after_run, after_step};
 ghost use Rattle.json_patch.specs.Same.{AreInOrder, AreSame, AreSameAt, AreSameLists};
-ghost use Rattle.json_patch.specs.Shared.{AreWithin, IsShared, IsWithin, extend_all, strip, strip_all};
+ghost use Rattle.json_patch.specs.Shared.{AreWithin, IsShared, IsWithin, KeepsElsewhere, extend_all, strip, strip_all};
 ghost use Rattle.json_patch.specs.SharedComputed.{shared_tokens};
 ghost use Rattle.json_patch.specs.Sight.{Sight};
 ghost use Rattle.json_patch.specs.Step.{Leaves, Refuses};
+ghost use Rattle.json_patch.specs.Texts.{NoDocument, NoPatch, SaysDocument, SaysPatch};
+ghost use Rattle.json_patch.specs.Trails.{AreEachWhole, IsTrail, LeadsTo};
+ghost use Rattle.json_patch.specs.declared.error.Fault.{Fault};
+ghost use Rattle.json_patch.specs.declared.error.Fault.TheVariants.{Memory};
 ghost use Rattle.json_patch.specs.declared.error.PatchErrorKind.{PatchErrorKind};
 ghost use Rattle.json_patch.specs.declared.error.ReadKind.{ReadKind};
+ghost use Rattle.json_patch.specs.declared.operation.Patch.{Patch};
+ghost use Rattle.std.specs.declared.alloc.AllocError.{AllocError};
 
 /// Single operations and runs.
 #[tactic(auto, using(crate::proofs::Blocks::step_left, crate::proofs::Blocks::step_refused, crate::proofs::Blocks::run_accepted, crate::proofs::Blocks::run_refused, crate::proofs::Runs::ends, crate::proofs::Runs::accepts_document, crate::proofs::Blocks::joined, crate::proofs::Runs::refuses_first, crate::proofs::Runs::refuses_second, crate::proofs::Runs::tests_end))]
@@ -99,6 +105,11 @@ pub fn locality()
     ensures local_run { (d : Data) (S : Pointer) (b : Data) (ops : List Operation) → IsDocument d
         → AreWhole ops → StandsAt d S b → AreWithin S ops → (x : Data) → Accepts d ops x
         ↔ ((e : Data) × Accepts b (strip_all S ops) e × IsReplaced d S e x) }
+
+    // A list changes what stands at the tokens that it shares, and nothing elsewhere: nothing at
+    // all where these lead nowhere.
+    ensures elsewhere_kept { (d : Data) (S : Pointer) (ops : List Operation) (x : Data)
+        → IsDocument d → AreWhole ops → AreWithin S ops → Accepts d ops x → KeepsElsewhere S d x }
 
     // Where the one is refused, so is the other, at the same number and for the same kind.
     ensures local_run_refused { (d : Data) (S : Pointer) (b : Data) (ops : List Operation)
@@ -256,6 +267,31 @@ pub fn inverse()
         → IsInverse e I J → Accepts d J e }
 {}
 
+/// Patches that are accepted one after another, as those that take changes back, the latest first.
+#[tactic(auto, using(crate::proofs::Trails::trail_begins, crate::proofs::Trails::trail_grows, crate::proofs::Trails::trail_leads, crate::proofs::Trails::leads_to_one, crate::proofs::Trails::each_whole))]
+pub fn trails()
+    // The first patch of a trail is accepted, and the others are a trail from its end.
+    ensures trail_begins { (d : Data) (p : Patch) (ps : List Patch) → IsDocument d
+        → IsTrail d (p ∷ ps)
+        → (e : Data) × IsAccepted d (operations p.0.items) e × IsDocument e × IsTrail e ps }
+
+    // A patch that leads to where a trail begins makes it longer.
+    ensures trail_grows { (d e : Data) (p : Patch) (ps : List Patch) → IsDocument e
+        → AreWhole (operations p.0.items) → IsAccepted e (operations p.0.items) d
+        → IsTrail d ps → IsTrail e (p ∷ ps) }
+
+    // A trail leads to a document.
+    ensures trail_leads { (d : Data) (ps : List Patch) → IsDocument d → IsTrail d ps
+        → (e : Data) × LeadsTo d ps e }
+
+    // Patches lead to one document at most.
+    ensures leads_to_one { (d : Data) (ps : List Patch) (e f : Data) → LeadsTo d ps e
+        → LeadsTo d ps f → f ≡ e }
+
+    // The patches of a trail are each whole.
+    ensures trail_is_whole { (d : Data) (ps : List Patch) → IsTrail d ps → AreEachWhole ps }
+{}
+
 /// Patches as JSON values.
 #[tactic(auto, using(crate::proofs::PatchValues::written_reads_back, crate::proofs::PatchValues::written_reads_alone, crate::proofs::PatchValues::written_fields_read_back, crate::proofs::PatchValues::written_patch_document, crate::proofs::PatchFaults::patch_whole))]
 pub fn values()
@@ -291,6 +327,25 @@ pub fn values()
     // What is written of a whole patch is a document.
     ensures written_is_document { (ops : List Operation) → AreWhole ops
         → IsDocument (written_patch ops) }
+{}
+
+/// What texts say.
+#[tactic(auto, using(crate::proofs::SaidTexts::one_document, crate::proofs::SaidTexts::document_no_fault))]
+pub fn texts()
+    // A text says one document at most.
+    ensures one_document { (t : List ℕ) (d e : Data) → SaysDocument t d → SaysDocument t e → e ≡ d }
+
+    // Where it says one, it is refused for want of memory alone.
+    ensures document_has_no_fault { (t : List ℕ) (d : Data) (f : Fault)
+        → SaysDocument t d → NoDocument t f → (e : AllocError) × (f ≡ Memory e) }
+
+    // A text says one patch at most.
+    ensures one_patch { (t : List ℕ) (ops others : List Operation)
+        → SaysPatch t ops → SaysPatch t others → others ≡ ops }
+
+    // Where it says one, it is refused for want of memory alone.
+    ensures patch_has_no_fault { (t : List ℕ) (ops : List Operation) (f : Fault)
+        → SaysPatch t ops → NoPatch t f → (e : AllocError) × (f ≡ Memory e) }
 {}
 
 /// Equality of values and of lists of operations.

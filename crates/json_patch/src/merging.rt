@@ -31,6 +31,12 @@ enum Former<'a> {
 ///
 /// It copies nothing of the document. All that takes memory comes first and is taken back where
 /// memory is short, which is the only error.
+///
+/// ```rust
+/// let changes = json!(in alloc; {"a": {"b": null}, "d": [3]})?;
+/// merge(alloc, document, &changes)?;
+/// // {"a":{"b":1},"c":2} becomes {"a":{},"c":2,"d":[3]}
+/// ```
 pub fn merge(alloc: Global, doc: &mut Value, patch: &Value) -> Result<(), AllocError>
     requires document { IsDocument (view doc.old) }
     requires whole { IsDocument (view patch.now) }

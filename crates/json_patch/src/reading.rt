@@ -177,6 +177,11 @@ fn read_name(value: &Value) -> Result<&str, ReadFault>
 impl Patch {
     /// Reads a list of operations (RFC 6902, section 3). Answers the first fault of the first
     /// item that isn't an operation, or `Memory` where a growth was refused.
+    ///
+    /// ```rust
+    /// let read = Patch::from_value(alloc, &changes.to_value(alloc)?)?;
+    /// Ok(read == changes)
+    /// ```
     pub fn from_value(alloc: Global, value: &Value) -> Result<Patch, ReadFault>
         ensures read { IfOk result (λ p. ReadsPatch (view value.now) (operations_of p)) }
         ensures whole { IfOk result (λ p. AreWhole (operations_of p)) }

@@ -32,6 +32,15 @@ use std::alloc::{AllocError, Global};
 /// made in place too, but for a `move`. If more are left, they are made on a copy of the part of the
 /// document that they share, which takes its place at the end. The empty list takes no memory, and
 /// neither does an accepted list of `test`s and then at most one `remove` at a path with no `~`.
+///
+/// ```rust
+/// match patch(alloc, document, changes.as_slice()) {
+///     Ok(()) => String::from_str(alloc, "accepted"),
+///     Err(PatchFault::Refused(error)) => format!(in alloc; "{error}"),
+///     // operation '/1' failed at path '/c/d': path is invalid
+///     Err(PatchFault::Memory(error)) => Err(error),
+/// }
+/// ```
 #[tactic(auto, using(crate::proofs::Runs::accepts_document))]
 pub fn patch(alloc: Global, doc: &mut Value, patch: &[PatchOperation]) -> Result<(), PatchFault>
     requires document { IsDocument (view doc.old) }
@@ -52,6 +61,15 @@ pub fn patch(alloc: Global, doc: &mut Value, patch: &[PatchOperation]) -> Result
 /// before it made of the document; where memory is short, what some of the first ones made of it
 /// is left. A `move` is made on a copy of the part where both its places stand, so that none loses
 /// its value. An accepted list of `test`s and of `remove`s at paths with no `~` takes no memory.
+///
+/// ```rust
+/// match patch_unsafe(alloc, document, changes.as_slice()) {
+///     Ok(()) => Ok(changes.as_slice().len()),
+///     // {"a":1} is left as {"a":1,"b":2} by `add /b 2` and a refused `remove /c/d`
+///     Err(PatchFault::Refused(error)) => Ok(error.operation),
+///     Err(PatchFault::Memory(error)) => Err(error),
+/// }
+/// ```
 #[tactic(auto, using(crate::proofs::ProgramRuns::state_document))]
 pub fn patch_unsafe(
     alloc: Global,
@@ -83,6 +101,13 @@ pub fn patch_unsafe(
 /// holds `add`, `remove` and `replace` alone, at most two for each operation, and no `-` that
 /// stands for a place in a list. What the run took out of the document is moved into it, but for
 /// the value of a `move`, which stays in the document and is copied.
+///
+/// ```rust
+/// let undo = apply_patches(alloc, document, changes.as_slice())?;
+/// let told = format!(in alloc; "{undo}")?;
+/// // [{"op":"replace","path":"/a","value":{"c":2}},{"op":"add","path":"/a/b","value":1}]
+/// patch(alloc, document, undo.as_slice())?;
+/// ```
 pub fn apply_patches(
     alloc: Global,
     doc: &mut Value,

@@ -162,6 +162,13 @@ fn edit_items(items: &mut Vec<Value>, token: Token<'_>, edit: Edit) -> Result<Di
 }
 
 /// What stands where the pointer leads, if anything does. It takes no memory.
+///
+/// ```rust
+/// match lookup(document, path.as_pointer()) {
+///     Some(found) => Ok(Some(found.clone()?)),
+///     None => Ok(None),
+/// }
+/// ```
 pub fn lookup<'v>(document: &'v Value, path: Pointer<'_>) -> Option<&'v Value>
     ensures found { IfSome result (λ v.
         StandsAt (view document.now) (tokens_of path.entry) (view v.now)) }

@@ -8,6 +8,7 @@ mod editing;
 mod kinds;
 mod pointers;
 mod runs;
+mod texts;
 
 use std::env::Args;
 use std::io::ErrorKind;
@@ -39,6 +40,8 @@ fn on_one(rt: &HostRuntime, call: &str, text: &str) -> io::Result<String> {
         "parse" => pointers::parse(rt, text),
         "clone" => pointers::clone(rt, text),
         "pretty" => runs::pretty(rt, text),
+        "document_from_str" => texts::document(rt, text),
+        "patch_from_str" => texts::patch(rt, text),
         _ => Err(io::Error::from(ErrorKind::InvalidInput)),
     }
 }

@@ -1,4 +1,6 @@
 pub mod Updates
+pub mod Sections
 pub mod Stores
+pub mod Trail
 pub mod Versioned
 pub mod Layers

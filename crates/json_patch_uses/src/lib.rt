@@ -2,12 +2,13 @@
 #![tactic(auto)]
 
 mod example;
-mod fault;
 mod layers;
 mod pointers;
 #[cfg(test)]
 mod readme;
+mod section;
 mod session;
+mod settings;
 mod store;
 #[cfg(test)]
 mod tests;
@@ -15,10 +16,11 @@ mod texts;
 mod versioned;
 
 pub use example::first_example;
-pub use fault::UpdateFault;
 pub use layers::{merge_all, number_or};
 pub use pointers::{depth, item, member};
+pub use section::{SectionFault, patch_section};
 pub use session::tried;
+pub use settings::Settings;
 pub use store::Store;
 pub use texts::patched;
 pub use versioned::{VersionFault, update_version};

@@ -1,28 +1,25 @@
-//! The examples of the README, word for word.
+//! The examples of the README and of the crates' comments, word for word.
 
-ghost use Rattle.std.specs.Prelude.{◌≡◌, IfOk, OnOk};
+ghost use Rattle.std.specs.Prelude.{◌≡◌, IfOk, OnOk, take};
 ghost use Rattle.serde_json.specs.View.{view};
 ghost use Rattle.json_patch.specs.Document.{IsDocument};
 ghost use Rattle.json_patch.specs.Operation.{AreWhole, operations_of};
+ghost use Rattle.json_patch.specs.Run.{Accepts};
 
 mod tests;
 
-use crate::fault::UpdateFault;
-use json_patch::jsonptr::PointerBuf;
+use json_patch::jsonptr::{ParseError, Pointer, PointerBuf};
 use json_patch::{
-    AddOperation, Patch, PatchFault, PatchOperation, apply_patches, is_whole, lookup, merge, patch,
+    AddOperation, Fault, Patch, PatchFault, PatchOperation, apply_patches, document_from_str,
+    lookup, merge, patch, patch_unsafe,
 };
 use json_patch_editor::Editor;
 use serde_json::{Value, json};
 use std::alloc::{AllocError, Global};
 
-fn from_texts(alloc: Global) -> Result<Value, UpdateFault> {
-    let mut document = Value::from_str(alloc, r#"{"a":1,"l":[1,2]}"#)?;
-    let value = Value::from_str(alloc, r#"[{"op":"add","path":"/l/-","value":3}]"#)?;
-    let changes = Patch::from_value(alloc, &value)?;
-    if !is_whole(&document) {
-        return Err(UpdateFault::NotWhole);
-    }
+fn from_texts(alloc: Global) -> Result<Value, Fault> {
+    let mut document = document_from_str(alloc, r#"{"a":1,"l":[1,2]}"#)?;
+    let changes = Patch::from_str(alloc, r#"[{"op":"add","path":"/l/-","value":3}]"#)?;
     patch(alloc, &mut document, changes.as_slice())?;
     Ok(document)
 }
@@ -42,11 +39,20 @@ fn what_was_refused(
     }
 }
 
-fn there_and_back(
-    alloc: Global,
-    document: &mut Value,
-    changes: &Patch,
-) -> Result<String, UpdateFault>
+fn left_part_way(alloc: Global, document: &mut Value, changes: &Patch) -> Result<usize, AllocError>
+    requires document { IsDocument (view document.old) }
+    requires whole { AreWhole (operations_of changes.now) }
+    ensures { IfOk result (λ made. Accepts (view document.old)
+        (take made (operations_of changes.now)) (view document.new)) }
+{
+    match patch_unsafe(alloc, document, changes.as_slice()) {
+        Ok(()) => Ok(changes.as_slice().len()),
+        Err(PatchFault::Refused(error)) => Ok(error.operation),
+        Err(PatchFault::Memory(error)) => Err(error),
+    }
+}
+
+fn there_and_back(alloc: Global, document: &mut Value, changes: &Patch) -> Result<String, Fault>
     requires document { IsDocument (view document.old) }
     requires whole { AreWhole (operations_of changes.now) }
     ensures { OnOk result (view document.new ≡ view document.old) }
@@ -57,7 +63,7 @@ fn there_and_back(
     Ok(told)
 }
 
-fn written_and_read(alloc: Global, value: Value) -> Result<bool, UpdateFault> {
+fn written_and_read(alloc: Global, value: Value) -> Result<bool, Fault> {
     let mut path = PointerBuf::new();
     path.push_back(alloc, "a/b")?;
     path.push_back(alloc, "-")?;
@@ -79,7 +85,12 @@ fn merged_and_looked_up(alloc: Global, document: &mut Value) -> Result<Option<Va
     }
 }
 
-fn taken_back(alloc: Global, document: Value, changes: &Patch) -> Result<Value, UpdateFault>
+fn is_of_ann(changes: &Patch) -> Result<bool, ParseError> {
+    let section = Pointer::parse("/ann")?;
+    Ok(changes.is_within(section))
+}
+
+fn taken_back(alloc: Global, document: Value, changes: &Patch) -> Result<Value, Fault>
     requires document { IsDocument (view document) }
     requires whole { AreWhole (operations_of changes.now) }
     ensures { IfOk result (λ v. view v ≡ view document) }

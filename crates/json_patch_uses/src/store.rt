@@ -8,10 +8,9 @@ ghost use Rattle.json_patch.specs.Operation.{AreWhole, operations_of};
 ghost use Rattle.json_patch.specs.Propositions.{IsDocument-prop};
 ghost use Rattle.json_patch.specs.Refusal.{IfRefused, NamesFirst};
 ghost use Rattle.json_patch.specs.Run.{Accepts, IsAccepted};
-ghost use Rattle.json_patch_uses.specs.Updates.{IsFault, UnlessShort, Updates};
+ghost use Rattle.json_patch_uses.specs.Updates.{NoUpdate, UnlessShort, Updates};
 
-use crate::fault::UpdateFault;
-use json_patch::{Patch, PatchFault, apply_patches, patch};
+use json_patch::{Fault, Patch, PatchFault, apply_patches, patch};
 use serde_json::Value;
 use std::alloc::Global;
 
@@ -42,17 +41,16 @@ impl Store {
     }
 
     /// Makes the changes that a text says, and answers the patch that takes them back.
-    pub fn update(&mut self, alloc: Global, text: &str) -> Result<Patch, UpdateFault>
+    pub fn update(&mut self, alloc: Global, text: &str) -> Result<Patch, Fault>
         ensures updated { OnOk result
             (Updates (document_of self.old) text.now (document_of self.new)) }
         ensures leads_back { IfOk result (λ undo.
             IsAccepted (document_of self.new) (operations_of undo) (document_of self.old)) }
         ensures undo_whole { IfOk result (λ undo. AreWhole (operations_of undo)) }
-        ensures fault { IfErr result (IsFault (document_of self.old) text.now) }
+        ensures fault { IfErr result (NoUpdate (document_of self.old) text.now) }
         ensures unchanged { OnErr result (document_of self.new ≡ document_of self.old) }
     {
-        let value = Value::from_str(alloc, text)?;
-        let changes = Patch::from_value(alloc, &value)?;
+        let changes = Patch::from_str(alloc, text)?;
         let undo = apply_patches(alloc, &mut self.document, changes.as_slice())?;
         Ok(undo)
     }
@@ -71,9 +69,9 @@ impl Store {
 
     /// Makes the changes that a text says and takes them back, which tells whether `update` would
     /// make them: the document is then as before, unless memory was short.
-    pub fn rehearse(&mut self, alloc: Global, text: &str) -> Result<(), UpdateFault>
+    pub fn rehearse(&mut self, alloc: Global, text: &str) -> Result<(), Fault>
         ensures updates { OnOk result ((e : Data) × Updates (document_of self.old) text.now e) }
-        ensures fault { IfErr result (IsFault (document_of self.old) text.now) }
+        ensures fault { IfErr result (NoUpdate (document_of self.old) text.now) }
         ensures unchanged { UnlessShort result (document_of self.new ≡ document_of self.old) }
     {
         let undo = self.update(alloc, text)?;

@@ -1,11 +1,11 @@
 //! Each program on an example.
 
 use crate::{
-    Store, UpdateFault, VersionFault, depth, first_example, item, member, merge_all, number_or,
-    patched, tried, update_version,
+    SectionFault, Settings, Store, VersionFault, depth, first_example, item, member, merge_all,
+    number_or, patch_section, patched, tried, update_version,
 };
 use json_patch::jsonptr::Pointer;
-use json_patch::{Patch, is_whole};
+use json_patch::{Fault, Patch, document_from_str, is_whole, patch};
 use serde_json::Value;
 use std::test::Fail;
 
@@ -46,14 +46,14 @@ fn a_fault_leaves_the_store(rt: HostRuntime) -> Result<(), Fail> {
         alloc,
         r#"[{"op":"remove","path":"/b"},{"op":"remove","path":"/c"}]"#,
     ) {
-        Err(UpdateFault::Refused(error)) => assert_eq!(rt; error.operation, 1),
+        Err(Fault::Refused(error)) => assert_eq!(rt; error.operation, 1),
         _ => panic!(rt; "there is no c"),
     }
     match store.update(alloc, r#"[{"op":"remove","path":"/b"},{"op":"remove"}]"#) {
-        Err(UpdateFault::NoPatch(error)) => assert_eq!(rt; error.operation, Some(1)),
+        Err(Fault::Unreadable(error)) => assert_eq!(rt; error.operation, Some(1)),
         _ => panic!(rt; "there is no path"),
     }
-    assert!(rt; matches!(store.update(alloc, "[}"), Err(UpdateFault::Text(_))));
+    assert!(rt; matches!(store.update(alloc, "[}"), Err(Fault::Syntax(_))));
     assert_eq!(rt; store.document().to_string(alloc)?.as_str(), r#"{"b":1}"#);
     Ok(())
 }
@@ -64,8 +64,8 @@ fn two_texts_make_a_document(rt: HostRuntime) -> Result<(), Fail> {
     let changes = r#"[{"op":"add","path":"/1","value":true}]"#;
     let document = patched(alloc, "[1,2]", changes).expect(&rt, "an accepted patch");
     assert_eq!(rt; document.to_string(alloc)?.as_str(), "[1,true,2]");
-    assert!(rt; matches!(patched(alloc, "[1.5]", changes), Err(UpdateFault::NotWhole)));
-    assert!(rt; matches!(patched(alloc, "[]", changes), Err(UpdateFault::Refused(_))));
+    assert!(rt; matches!(patched(alloc, "[1.5]", changes), Err(Fault::NotWhole)));
+    assert!(rt; matches!(patched(alloc, "[]", changes), Err(Fault::Refused(_))));
     Ok(())
 }
 
@@ -155,5 +155,63 @@ fn a_pointer_goes_further_and_back(rt: HostRuntime) -> Result<(), Fail> {
     assert_eq!(rt; list.as_str(), "/a~1b");
     assert_eq!(rt; place, 0);
     assert!(rt; member(rt.alloc(), "a", "b").is_err());
+    Ok(())
+}
+
+#[test]
+fn a_client_changes_its_section_alone(rt: HostRuntime) -> Result<(), Fail> {
+    let alloc = rt.alloc();
+    let first = r#"{"ann":{"colour":"red"},"bob":[1]}"#;
+    let mut document = document_from_str(alloc, first).expect(&rt, "a document");
+    let section = Pointer::parse("/ann").expect(&rt, "a pointer");
+    let own = r#"[{"op":"move","from":"/ann/colour","path":"/ann/tint"}]"#;
+    let undo = patch_section(alloc, &mut document, section, own).expect(&rt, "an accepted patch");
+    let changed = r#"{"ann":{"tint":"red"},"bob":[1]}"#;
+    assert_eq!(rt; document.to_string(alloc)?.as_str(), changed);
+    let other = concat!(
+        r#"[{"op":"remove","path":"/ann/tint"},"#,
+        r#"{"op":"copy","from":"/bob/0","path":"/ann/x"}]"#
+    );
+    match patch_section(alloc, &mut document, section, other) {
+        Err(SectionFault::Outside(number)) => assert_eq!(rt; number, 1),
+        _ => panic!(rt; "the section of Bob is read"),
+    }
+    let whole = r#"[{"op":"remove","path":"/ann"}]"#;
+    match patch_section(alloc, &mut document, section, whole) {
+        Err(SectionFault::Outside(number)) => assert_eq!(rt; number, 0),
+        _ => panic!(rt; "the section itself is removed"),
+    }
+    let refused = patch_section(alloc, &mut document, section, own);
+    assert!(rt; matches!(refused, Err(SectionFault::NotApplied(Fault::Refused(_)))));
+    assert_eq!(rt; document.to_string(alloc)?.as_str(), changed);
+    patch(alloc, &mut document, undo.as_slice()).expect(&rt, "an accepted patch");
+    assert_eq!(rt; document.to_string(alloc)?.as_str(), first);
+    Ok(())
+}
+
+#[test]
+fn all_changes_are_taken_back(rt: HostRuntime) -> Result<(), Fail> {
+    let alloc = rt.alloc();
+    let first = r#"{"log":{"level":1},"paths":["/a"]}"#;
+    let values = document_from_str(alloc, first).expect(&rt, "a document");
+    let mut settings = Settings::open(alloc, values);
+    let added = r#"[{"op":"add","path":"/paths/-","value":"/b"}]"#;
+    settings
+        .change(alloc, added)
+        .expect(&rt, "an accepted patch");
+    let moved = r#"[{"op":"move","from":"/log/level","path":"/level"}]"#;
+    settings
+        .change(alloc, moved)
+        .expect(&rt, "an accepted patch");
+    match settings.change(alloc, moved) {
+        Err(Fault::Refused(error)) => assert_eq!(rt; error.operation, 0),
+        _ => panic!(rt; "the level is there no more"),
+    }
+    assert_eq!(rt;
+        settings.values().to_string(alloc)?.as_str(),
+        r#"{"level":1,"log":{},"paths":["/a","/b"]}"#
+    );
+    settings.take_all_back(alloc)?;
+    assert_eq!(rt; settings.values().to_string(alloc)?.as_str(), first);
     Ok(())
 }

@@ -33,6 +33,8 @@ mod runner;
 #[cfg(test)]
 mod shared;
 #[cfg(test)]
+mod texts;
+#[cfg(test)]
 mod worked;
 #[cfg(test)]
 mod writing;

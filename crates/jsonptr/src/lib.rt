@@ -3,6 +3,13 @@
 //! A text is a pointer's where it is empty or a sequence of parts, each a slash and an encoded
 //! token. In an encoded token `~1` stands for a slash and `~0` for a tilde, and a tilde stands
 //! nowhere else. The text and the list of decoded tokens determine each other.
+//!
+//! ```rust
+//! let mut path = PointerBuf::new();
+//! path.push_back(alloc, "a/b")?;
+//! path.push_back(alloc, "-")?;
+//! // its text is /a~1b/-
+//! ```
 #![tactic(auto)]
 
 mod buf;

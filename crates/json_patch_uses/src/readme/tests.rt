@@ -5,8 +5,8 @@ ghost use Rattle.json_patch.specs.Document.{IsDocument};
 ghost use Rattle.json_patch.specs.Operation.{AreWhole, operations, operations_of};
 
 use crate::readme::{
-    from_texts, merged_and_looked_up, taken_back, there_and_back, what_was_refused,
-    written_and_read,
+    from_texts, is_of_ann, left_part_way, merged_and_looked_up, taken_back, there_and_back,
+    what_was_refused, written_and_read,
 };
 use json_patch::{Patch, is_whole};
 use serde_json::Value;
@@ -53,6 +53,27 @@ fn a_refusal_names_its_operation(rt: HostRuntime) -> Result<(), Fail> {
         "operation '/1' failed at path '/c/d': path is invalid"
     );
     assert_eq!(rt; document.to_string(alloc)?.as_str(), r#"{"a":1}"#);
+    Ok(())
+}
+
+#[test]
+fn a_refusal_leaves_what_was_made(rt: HostRuntime) -> Result<(), Fail> {
+    let alloc = rt.alloc();
+    let mut document = whole(alloc, r#"{"a":1}"#);
+    let operations = r#"[{"op":"add","path":"/b","value":2},{"op":"remove","path":"/c/d"}]"#;
+    let made = left_part_way(alloc, &mut document, &changes(alloc, operations))?;
+    assert_eq!(rt; made, 1);
+    assert_eq!(rt; document.to_string(alloc)?.as_str(), r#"{"a":1,"b":2}"#);
+    Ok(())
+}
+
+#[test]
+fn a_section_is_kept_to(rt: HostRuntime) -> Result<(), Fail> {
+    let alloc = rt.alloc();
+    let own = changes(alloc, r#"[{"op":"remove","path":"/ann/tint"}]"#);
+    assert!(rt; is_of_ann(&own).expect(&rt, "a pointer"));
+    let read = changes(alloc, r#"[{"op":"copy","from":"/bob/0","path":"/ann/x"}]"#);
+    assert!(rt; !is_of_ann(&read).expect(&rt, "a pointer"));
     Ok(())
 }
 

@@ -1,4 +1,5 @@
 use Rattle.json_patch.proofs.Locality.{runs_alike, inverses_alike}
+use Rattle.json_patch.proofs.Sections.{elsewhere_kept}
 use Rattle.json_patch.proofs.SharedTokens.{shared_iff}
 use Rattle.json_patch.proofs.laws.locality.Goals as goal
 
@@ -10,3 +11,6 @@ returns-clause-local_inverse c = inverses_alike
 
 pub returns-clause-shared_is_computed : goal.returns-clause-shared_is_computed
 returns-clause-shared_is_computed c = shared_iff
+
+pub returns-clause-elsewhere_kept : goal.returns-clause-elsewhere_kept
+returns-clause-elsewhere_kept c = elsewhere_kept
