@@ -32,3 +32,4 @@ pub mod MergedComputed
 pub mod SharedComputed
 pub mod Filled
 pub mod Apart
+pub mod Footprints

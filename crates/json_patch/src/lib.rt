@@ -1,6 +1,7 @@
 //! JSON Patch (RFC 6902) and JSON Merge Patch (RFC 7396).
 #![tactic(auto)]
 
+mod apart;
 mod equality;
 mod error;
 pub mod laws;
@@ -16,6 +17,7 @@ mod walk;
 mod wholeness;
 mod writing;
 
+pub use apart::are_apart;
 pub use equality::same;
 pub use error::{PatchError, PatchErrorKind, PatchFault, ReadError, ReadFault, ReadKind};
 pub use jsonptr;

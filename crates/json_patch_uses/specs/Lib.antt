@@ -2,3 +2,4 @@ pub mod Updates
 pub mod Stores
 pub mod Versioned
 pub mod Layers
+pub mod SharedDocuments

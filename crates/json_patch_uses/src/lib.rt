@@ -8,6 +8,7 @@ mod pointers;
 #[cfg(test)]
 mod readme;
 mod session;
+mod shared;
 mod store;
 #[cfg(test)]
 mod tests;
@@ -19,6 +20,7 @@ pub use fault::UpdateFault;
 pub use layers::{merge_all, number_or};
 pub use pointers::{depth, item, member};
 pub use session::tried;
+pub use shared::{ChangeFault, SharedDocument};
 pub use store::Store;
 pub use texts::patched;
 pub use versioned::{VersionFault, update_version};

@@ -1,12 +1,16 @@
 //! Each program on an example.
 
+ghost use Rattle.std.specs.Prelude.{IfOk};
+ghost use Rattle.json_patch.specs.Operation.{AreWhole, operations};
+
 use crate::{
-    Store, UpdateFault, VersionFault, depth, first_example, item, member, merge_all, number_or,
-    patched, tried, update_version,
+    ChangeFault, SharedDocument, Store, UpdateFault, VersionFault, depth, first_example, item,
+    member, merge_all, number_or, patched, tried, update_version,
 };
 use json_patch::jsonptr::Pointer;
-use json_patch::{Patch, is_whole};
+use json_patch::{Patch, is_whole, laws};
 use serde_json::Value;
+use std::alloc::Global;
 use std::test::Fail;
 
 #[test]
@@ -155,5 +159,75 @@ fn a_pointer_goes_further_and_back(rt: HostRuntime) -> Result<(), Fail> {
     assert_eq!(rt; list.as_str(), "/a~1b");
     assert_eq!(rt; place, 0);
     assert!(rt; member(rt.alloc(), "a", "b").is_err());
+    Ok(())
+}
+
+fn patch_of(alloc: Global, text: &str) -> Result<Patch, UpdateFault>
+    ensures { IfOk result (λ changes. AreWhole (operations changes.0.items)) }
+{
+    laws::values();
+    let value = Value::from_str(alloc, text)?;
+    let changes = Patch::from_value(alloc, &value)?;
+    Ok(changes)
+}
+
+#[test]
+fn two_share_a_document(rt: HostRuntime) -> Result<(), Fail> {
+    let alloc = rt.alloc();
+    let document = Value::from_str(alloc, r#"{"tags":[1],"title":"a"}"#)?;
+    assert!(rt; is_whole(&document));
+    let mut shared = SharedDocument::open(alloc, document);
+    let title = patch_of(alloc, r#"[{"op":"replace","path":"/title","value":"b"}]"#).expect(
+        &rt, "a patch",
+    );
+    let tag = patch_of(alloc, r#"[{"op":"add","path":"/tags/-","value":2}]"#).expect(
+        &rt, "a patch",
+    );
+    let other = patch_of(alloc, r#"[{"op":"add","path":"/tags/0","value":0}]"#).expect(
+        &rt, "a patch",
+    );
+    shared
+        .update(alloc, 0, title)
+        .expect(&rt, "the first change");
+    shared
+        .update(alloc, 0, tag)
+        .expect(&rt, "a change that is apart");
+    let text = r#"{"tags":[1,2],"title":"b"}"#;
+    assert_eq!(rt; shared.document().to_string(alloc)?.as_str(), text);
+    assert_eq!(rt; shared.version(), 2);
+    let collided = shared.update(alloc, 0, other);
+    assert!(rt; matches!(collided, Err(ChangeFault::Conflict(1))));
+    assert_eq!(rt; shared.document().to_string(alloc)?.as_str(), text);
+    shared.undo(alloc, 0).expect(&rt, "the tag is apart");
+    let text = r#"{"tags":[1,2],"title":"a"}"#;
+    assert_eq!(rt; shared.document().to_string(alloc)?.as_str(), text);
+    assert!(rt; matches!(shared.undo(alloc, 0), Err(ChangeFault::Conflict(2))));
+    assert!(rt; matches!(shared.undo(alloc, 3), Err(ChangeFault::NoVersion)));
+    assert_eq!(rt; shared.document().to_string(alloc)?.as_str(), text);
+    Ok(())
+}
+
+#[test]
+fn a_change_is_refused_as_on_its_version(rt: HostRuntime) -> Result<(), Fail> {
+    let alloc = rt.alloc();
+    let document = Value::from_str(alloc, r#"{"a":1}"#)?;
+    assert!(rt; is_whole(&document));
+    let mut shared = SharedDocument::open(alloc, document);
+    let first = patch_of(alloc, r#"[{"op":"add","path":"/b","value":2}]"#).expect(&rt, "a patch");
+    let second = patch_of(
+        alloc,
+        r#"[{"op":"test","path":"/a","value":1},{"op":"remove","path":"/c"}]"#,
+    )
+    .expect(&rt, "a patch");
+    let third = patch_of(alloc, "[]").expect(&rt, "a patch");
+    shared
+        .update(alloc, 0, first)
+        .expect(&rt, "the first change");
+    match shared.update(alloc, 0, second) {
+        Err(ChangeFault::Refused(error)) => assert_eq!(rt; error.operation, 1),
+        _ => panic!(rt; "there is no c"),
+    }
+    assert!(rt; matches!(shared.update(alloc, 2, third), Err(ChangeFault::NoVersion)));
+    assert_eq!(rt; shared.version(), 1);
     Ok(())
 }
