@@ -33,3 +33,4 @@ pub mod ApartOutcomes
 pub mod ApartRuns
 pub mod ApartUndos
 pub mod ApartExamples
+pub mod Footprints

@@ -34,3 +34,4 @@ pub mod MergedComputed
 pub mod SharedComputed
 pub mod Filled
 pub mod Apart
+pub mod Footprints

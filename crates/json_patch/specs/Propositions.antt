@@ -8,7 +8,7 @@ use Rattle.std.specs.declared.cmp.Ordering.TheVariants.{Less}
 use Rattle.std.specs.Cmp.Lexicographic.{slice_cmp}
 use Rattle.serde_json.specs.Data.{Num, unsigned, negative, float, Data, null, boolean, number, string, array, object, Items, no_items, item, Members, no_members, member}
 use Rattle.json_patch.specs.Document.{IsBelowMembers, IsWhole, IsDocument, AreDocuments, AreMembers}
-use Rattle.json_patch.specs.Operation.{Operation, operations, parts_of, AreWhole}
+use Rattle.json_patch.specs.Operation.{Operation, operations, parts_of, AreWhole, operations_of}
 use Rattle.json_patch.specs.RunComputed.{Outcome, after_run}
 use Rattle.json_patch.specs.Trails.{AreEachWhole, IfEnds, IsTrail}
 use Rattle.json_patch.specs.declared.operation.Patch.{Patch}
@@ -52,7 +52,7 @@ AreWhole-prop (op ∷ ops) p q = λ i. (value-prop (parts_of op).value p.0 q.0 i
 
 pub AreEachWhole-prop : (ps : List Patch) → IsProp (AreEachWhole ps)
 AreEachWhole-prop [] p q = refl
-AreEachWhole-prop (x ∷ ps) p q = λ i. (AreWhole-prop (operations x.0.items) p.0 q.0 i, AreEachWhole-prop ps p.1 q.1 i)
+AreEachWhole-prop (x ∷ ps) p q = λ i. (AreWhole-prop (operations_of x) p.0 q.0 i, AreEachWhole-prop ps p.1 q.1 i)
 
 IfEnds-prop : (o : Outcome) (P : Data → Type 0) → ((e : Data) → IsProp (P e)) → IsProp (IfEnds o P)
 IfEnds-prop (Ok e) P one p q = one e p q
@@ -61,4 +61,4 @@ IfEnds-prop (Err f) P one p q = absurd p
 pub IsTrail-prop : (d : Data) (ps : List Patch) → IsProp (IsTrail d ps)
 IsTrail-prop d [] p q = refl
 IsTrail-prop d (x ∷ ps) p q =
-    λ i. (AreWhole-prop (operations x.0.items) p.0 q.0 i, IfEnds-prop (after_run d (operations x.0.items)) (λ e. IsTrail e ps) (λ e. IsTrail-prop e ps) p.1 q.1 i)
+    λ i. (AreWhole-prop (operations_of x) p.0 q.0 i, IfEnds-prop (after_run d (operations_of x)) (λ e. IsTrail e ps) (λ e. IsTrail-prop e ps) p.1 q.1 i)

@@ -14,7 +14,7 @@ ghost use Rattle.json_patch.specs.Inverse.{IsInverse, ArePlain, IsBlock};
 ghost use Rattle.json_patch.specs.InverseComputed.{block, inverse};
 ghost use Rattle.json_patch.specs.Merged.{IsMerged};
 ghost use Rattle.json_patch.specs.MergedComputed.{after_merge};
-ghost use Rattle.json_patch.specs.Operation.{AreWhole, IsWholeOp, Operation, operations, path_of};
+ghost use Rattle.json_patch.specs.Operation.{AreWhole, IsWholeOp, Operation, operations, operations_of, path_of};
 ghost use Rattle.json_patch.specs.PatchValue.{ReadsPatch, written_value, written_fields, written_patch};
 ghost use Rattle.json_patch.specs.ReadLaws.{IsRead, IsReadAlone, IsReadLike, HasReadFault, HasReadFaultAlone, HasReadFaultLike};
 ghost use Rattle.json_patch.specs.Resolve.{Resolves, StandsAt, HasTarget};
@@ -273,11 +273,11 @@ pub fn trails()
     // The first patch of a trail is accepted, and the others are a trail from its end.
     ensures trail_begins { (d : Data) (p : Patch) (ps : List Patch) → IsDocument d
         → IsTrail d (p ∷ ps)
-        → (e : Data) × IsAccepted d (operations p.0.items) e × IsDocument e × IsTrail e ps }
+        → (e : Data) × IsAccepted d (operations_of p) e × IsDocument e × IsTrail e ps }
 
     // A patch that leads to where a trail begins makes it longer.
     ensures trail_grows { (d e : Data) (p : Patch) (ps : List Patch) → IsDocument e
-        → AreWhole (operations p.0.items) → IsAccepted e (operations p.0.items) d
+        → AreWhole (operations_of p) → IsAccepted e (operations_of p) d
         → IsTrail d ps → IsTrail e (p ∷ ps) }
 
     // A trail leads to a document.

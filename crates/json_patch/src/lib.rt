@@ -8,6 +8,7 @@
 //! ```
 #![tactic(auto)]
 
+mod apart;
 mod equality;
 mod error;
 pub mod laws;
@@ -25,6 +26,7 @@ mod wholeness;
 mod within;
 mod writing;
 
+pub use apart::are_apart;
 pub use equality::same;
 pub use error::{Fault, PatchError, PatchErrorKind, PatchFault, ReadError, ReadFault, ReadKind};
 pub use jsonptr;

@@ -2,7 +2,7 @@
 
 ghost use Rattle.std.specs.Prelude.{IfErr, IfOk};
 ghost use Rattle.serde_json.specs.View.{view};
-ghost use Rattle.json_patch.specs.Operation.{AreWhole, operations};
+ghost use Rattle.json_patch.specs.Operation.{AreWhole, operations_of};
 ghost use Rattle.json_patch.specs.Texts.{NoDocument, NoPatch, SaysDocument, SaysPatch};
 
 use crate::error::Fault;
@@ -36,8 +36,8 @@ impl Patch {
     /// let changes = Patch::from_str(alloc, r#"[{"op":"add","path":"/l/-","value":3}]"#)?;
     /// ```
     pub fn from_str(alloc: Global, text: &str) -> Result<Patch, Fault>
-        ensures read { IfOk result (λ p. SaysPatch text.now (operations p.0.items)) }
-        ensures whole { IfOk result (λ p. AreWhole (operations p.0.items)) }
+        ensures read { IfOk result (λ p. SaysPatch text.now (operations_of p)) }
+        ensures whole { IfOk result (λ p. AreWhole (operations_of p)) }
         ensures fault { IfErr result (NoPatch text.now) }
     {
         let value = Value::from_str(alloc, text)?;

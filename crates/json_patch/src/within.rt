@@ -3,7 +3,7 @@
 ghost use Rattle.std.specs.Prelude.{◌↔◌, IsTrue};
 ghost use Rattle.jsonptr.specs.Pointers.{tokens_of};
 ghost use Rattle.jsonptr.specs.Text.{IsProperPrefix};
-ghost use Rattle.json_patch.specs.Operation.{operation_of, operations};
+ghost use Rattle.json_patch.specs.Operation.{operation_of, operations, operations_of};
 ghost use Rattle.json_patch.specs.Shared.{AreWithin, IsWithin};
 
 use crate::operation::{Patch, PatchOperation};
@@ -34,7 +34,7 @@ impl Patch {
     /// ```
     pub fn is_within(&self, section: Pointer<'_>) -> bool
         ensures { IsTrue result
-            ↔ AreWithin (tokens_of section.entry) (operations self.now.0.items) }
+            ↔ AreWithin (tokens_of section.entry) (operations_of self.now) }
     {
         for operation in &self.0 {
             if !operation.is_within(section) {

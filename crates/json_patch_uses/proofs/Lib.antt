@@ -1,2 +1,3 @@
 pub mod TestedFirst
 pub mod Chains
+pub mod SharedChanges

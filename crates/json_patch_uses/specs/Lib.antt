@@ -4,3 +4,4 @@ pub mod Stores
 pub mod Trail
 pub mod Versioned
 pub mod Layers
+pub mod SharedDocuments

@@ -9,6 +9,7 @@ mod readme;
 mod section;
 mod session;
 mod settings;
+mod shared;
 mod store;
 #[cfg(test)]
 mod tests;
@@ -21,6 +22,7 @@ pub use pointers::{depth, item, member};
 pub use section::{SectionFault, patch_section};
 pub use session::tried;
 pub use settings::Settings;
+pub use shared::{ChangeFault, SharedDocument};
 pub use store::Store;
 pub use texts::patched;
 pub use versioned::{VersionFault, update_version};

@@ -4,7 +4,7 @@ ghost use Rattle.std.specs.Prelude.{◌≡◌, IfErr, IfOk, OnErr, OnOk};
 ghost use Rattle.serde_json.specs.View.{view};
 ghost use Rattle.jsonptr.specs.Pointers.{tokens_of};
 ghost use Rattle.json_patch.specs.Document.{IsDocument};
-ghost use Rattle.json_patch.specs.Operation.{AreWhole, operations};
+ghost use Rattle.json_patch.specs.Operation.{AreWhole, operations_of};
 ghost use Rattle.json_patch.specs.Run.{IsAccepted};
 ghost use Rattle.json_patch.specs.Shared.{KeepsElsewhere};
 ghost use Rattle.json_patch.specs.Texts.{of_patch};
@@ -58,8 +58,8 @@ pub fn patch_section(
     ensures elsewhere { OnOk result (KeepsElsewhere (tokens_of section.entry)
         (view document.old) (view document.new)) }
     ensures leads_back { IfOk result (λ undo.
-        IsAccepted (view document.new) (operations undo.0.items) (view document.old)) }
-    ensures undo_whole { IfOk result (λ undo. AreWhole (operations undo.0.items)) }
+        IsAccepted (view document.new) (operations_of undo) (view document.old)) }
+    ensures undo_whole { IfOk result (λ undo. AreWhole (operations_of undo)) }
     ensures fault { IfErr result (NoUpdateBelow (tokens_of section.entry)
         (view document.old) text.now) }
     ensures unchanged { OnErr result (view document.new ≡ view document.old) }

@@ -4,7 +4,7 @@ ghost use Rattle.std.specs.Prelude.{◌≡◌, ◌∷◌, [], IfErr, OnErr, OnOk
 ghost use Rattle.serde_json.specs.Data.{Data};
 ghost use Rattle.serde_json.specs.View.{view};
 ghost use Rattle.json_patch.specs.Document.{IsDocument};
-ghost use Rattle.json_patch.specs.Operation.{operations};
+ghost use Rattle.json_patch.specs.Operation.{operations_of};
 ghost use Rattle.json_patch.specs.Propositions.{IsDocument-prop, IsTrail-prop};
 ghost use Rattle.json_patch.specs.Run.{IsAccepted};
 ghost use Rattle.json_patch.specs.Trails.{IsTrail};
@@ -50,7 +50,7 @@ impl Settings {
     pub fn change(&mut self, alloc: Global, text: &str) -> Result<(), Fault>
         ensures changed { OnOk result (Updates (values_of self.old) text.now (values_of self.new)) }
         ensures traced { OnOk result ((undo : Patch)
-            × IsAccepted (values_of self.new) (operations undo.0.items) (values_of self.old)
+            × IsAccepted (values_of self.new) (operations_of undo) (values_of self.old)
             × (trail_of self.new ≡ undo ∷ trail_of self.old)) }
         ensures began { (first : Data) → BeganAs self.old first → BeganAs self.new first }
         ensures fault { IfErr result (NoUpdate (values_of self.old) text.now) }

@@ -1,8 +1,8 @@
 //! Each program on an example.
 
 use crate::{
-    SectionFault, Settings, Store, VersionFault, depth, first_example, item, member, merge_all,
-    number_or, patch_section, patched, tried, update_version,
+    ChangeFault, SectionFault, Settings, SharedDocument, Store, VersionFault, depth, first_example,
+    item, member, merge_all, number_or, patch_section, patched, tried, update_version,
 };
 use json_patch::jsonptr::Pointer;
 use json_patch::{Fault, Patch, document_from_str, is_whole, patch};
@@ -213,5 +213,69 @@ fn all_changes_are_taken_back(rt: HostRuntime) -> Result<(), Fail> {
     );
     settings.take_all_back(alloc)?;
     assert_eq!(rt; settings.values().to_string(alloc)?.as_str(), first);
+    Ok(())
+}
+
+#[test]
+fn two_share_a_document(rt: HostRuntime) -> Result<(), Fail> {
+    let alloc = rt.alloc();
+    let document = document_from_str(alloc, r#"{"tags":[1],"title":"a"}"#).expect(
+        &rt,
+        "a document",
+    );
+    let mut shared = SharedDocument::open(alloc, document);
+    let title = Patch::from_str(alloc, r#"[{"op":"replace","path":"/title","value":"b"}]"#).expect(
+        &rt, "a patch",
+    );
+    let tag = Patch::from_str(alloc, r#"[{"op":"add","path":"/tags/-","value":2}]"#).expect(
+        &rt, "a patch",
+    );
+    let other = Patch::from_str(alloc, r#"[{"op":"add","path":"/tags/0","value":0}]"#).expect(
+        &rt, "a patch",
+    );
+    shared
+        .update(alloc, 0, title)
+        .expect(&rt, "the first change");
+    shared
+        .update(alloc, 0, tag)
+        .expect(&rt, "a change that is apart");
+    let text = r#"{"tags":[1,2],"title":"b"}"#;
+    assert_eq!(rt; shared.document().to_string(alloc)?.as_str(), text);
+    assert_eq!(rt; shared.version(), 2);
+    let collided = shared.update(alloc, 0, other);
+    assert!(rt; matches!(collided, Err(ChangeFault::Conflict(1))));
+    assert_eq!(rt; shared.document().to_string(alloc)?.as_str(), text);
+    shared.undo(alloc, 0).expect(&rt, "the tag is apart");
+    let text = r#"{"tags":[1,2],"title":"a"}"#;
+    assert_eq!(rt; shared.document().to_string(alloc)?.as_str(), text);
+    assert!(rt; matches!(shared.undo(alloc, 0), Err(ChangeFault::Conflict(2))));
+    assert!(rt; matches!(shared.undo(alloc, 3), Err(ChangeFault::NoVersion)));
+    assert_eq!(rt; shared.document().to_string(alloc)?.as_str(), text);
+    Ok(())
+}
+
+#[test]
+fn a_change_is_refused_as_on_its_version(rt: HostRuntime) -> Result<(), Fail> {
+    let alloc = rt.alloc();
+    let document = document_from_str(alloc, r#"{"a":1}"#).expect(&rt, "a document");
+    let mut shared = SharedDocument::open(alloc, document);
+    let first = Patch::from_str(alloc, r#"[{"op":"add","path":"/b","value":2}]"#).expect(
+        &rt, "a patch",
+    );
+    let second = Patch::from_str(
+        alloc,
+        r#"[{"op":"test","path":"/a","value":1},{"op":"remove","path":"/c"}]"#,
+    )
+    .expect(&rt, "a patch");
+    let third = Patch::from_str(alloc, "[]").expect(&rt, "a patch");
+    shared
+        .update(alloc, 0, first)
+        .expect(&rt, "the first change");
+    match shared.update(alloc, 0, second) {
+        Err(ChangeFault::Refused(error)) => assert_eq!(rt; error.operation, 1),
+        _ => panic!(rt; "there is no c"),
+    }
+    assert!(rt; matches!(shared.update(alloc, 2, third), Err(ChangeFault::NoVersion)));
+    assert_eq!(rt; shared.version(), 1);
     Ok(())
 }

@@ -1,0 +1,78 @@
+-- The versions of a shared document, and what a change makes of them.
+use Rattle.std.specs.Prelude.{◌≡◌, ◌≤◌, ◌<◌, ◌++◌, ◌+◌, ℕ, List, [], ◌∷◌, length, drop, zero, suc, Some, slice_get}
+use Rattle.serde_json.specs.Data.{Data}
+use Rattle.serde_json.specs.View.{view}
+use Rattle.json_patch.specs.Apart.{AreApart}
+use Rattle.json_patch.specs.Document.{IsDocument}
+use Rattle.json_patch.specs.Inverse.{IsInverse}
+use Rattle.json_patch.specs.Operation.{Operation, operations_of}
+use Rattle.json_patch.specs.Refusal.{NamesFirst}
+use Rattle.json_patch.specs.Run.{Accepts}
+use Rattle.json_patch_uses.specs.declared.shared.Change.{Change}
+use Rattle.json_patch_uses.specs.declared.shared.ChangeFault.{ChangeFault}
+use Rattle.json_patch_uses.specs.declared.shared.ChangeFault.TheVariants.{NoVersion, Conflict, Refused, Memory}
+use Rattle.json_patch_uses.specs.declared.shared.SharedDocument.{SharedDocument}
+
+abbrev pub document_of : SharedDocument → Data
+document_of s = view s.document
+
+-- the number of its version: how many changes led to it
+abbrev pub version_of : SharedDocument → ℕ
+version_of s = length s.changes.items
+
+abbrev pub patch_of : Change → List Operation
+patch_of c = operations_of c.patch
+
+abbrev pub undo_of : Change → List Operation
+undo_of c = operations_of c.undo
+
+-- the operations of changes, one after another
+abbrev pub joined : List Change → List Operation
+joined [] = []
+joined (c ∷ cs) = patch_of c ++ joined cs
+
+-- the operations of all changes since the version k
+abbrev pub since : SharedDocument → ℕ → List Operation
+since s k = joined (drop k s.changes.items)
+
+-- the changes lead from d to e, each stored with its inverse
+abbrev pub Lead : Data → List Change → Data → Type 0
+Lead d [] e = d ≡ e
+Lead d (c ∷ cs) e = (m : Data) × Accepts d (patch_of c) m × IsInverse d (patch_of c) (undo_of c) × Lead m cs e
+
+-- d is the version k
+pub record IsVersion (s : SharedDocument) (k : ℕ) (d : Data) : Type 0 where
+  pub document : IsDocument d
+  pub counted : k ≤ version_of s
+  pub leads : Lead d (drop k s.changes.items) (document_of s)
+
+-- one change more leads from the document of s to that of t
+abbrev pub IsMade : SharedDocument → List Operation → SharedDocument → Type 0
+IsMade s ops t =
+    (c : Change) × (t.changes.items ≡ s.changes.items ++ c ∷ []) × (patch_of c ≡ ops) × Accepts (document_of s) ops (document_of t)
+    × IsInverse (document_of s) ops (undo_of c)
+
+-- the document and its changes are the same
+abbrev pub AreKept : SharedDocument → SharedDocument → Type 0
+AreKept s t = (document_of t ≡ document_of s) × (t.changes.items ≡ s.changes.items)
+
+-- the change at n is the first from which the operations are not apart
+abbrev pub CollidesAt : List Operation → List Change → ℕ → Type 0
+CollidesAt ops [] n = ⊥
+CollidesAt ops (c ∷ cs) zero = AreApart ops (patch_of c) → ⊥
+CollidesAt ops (c ∷ cs) (suc n) = AreApart ops (patch_of c) × CollidesAt ops cs n
+
+-- why a change that was meant for version k is not made: what refuses it there refuses it here
+abbrev pub IsUpdateFault : SharedDocument → ℕ → List Operation → ChangeFault → Type 0
+IsUpdateFault s k ops NoVersion = version_of s < k
+IsUpdateFault s k ops (Conflict v) = (n : ℕ) × (v ≡ k + n) × CollidesAt ops (drop k s.changes.items) n
+IsUpdateFault s k ops (Refused e) = (d : Data) → IsVersion s k d → NamesFirst d ops e
+IsUpdateFault s k ops (Memory e) = Unit {0}
+
+-- why the change that was made to version k is not taken back: it is never refused
+abbrev pub IsUndoFault : SharedDocument → ℕ → ChangeFault → Type 0
+IsUndoFault s k NoVersion = version_of s ≤ k
+IsUndoFault s k (Conflict v) =
+    (c : Change) × (slice_get s.changes.items k ≡ Some c) × (n : ℕ) × (v ≡ k + 1 + n) × CollidesAt (patch_of c) (drop (k + 1) s.changes.items) n
+IsUndoFault s k (Refused e) = (d : Data) → IsVersion s k d → ⊥
+IsUndoFault s k (Memory e) = Unit {0}

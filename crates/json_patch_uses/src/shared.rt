@@ -1,0 +1,183 @@
+//! A document that several change, each from a version that it has seen.
+
+ghost use Rattle.std.specs.Prelude.{◌≡◌, ◌<◌, ◌++◌, ◌+◌, ℕ, List, length, IfErr, IfNone, IfSome, OnErr, OnOk};
+ghost use Rattle.serde_json.specs.Data.{Data};
+ghost use Rattle.serde_json.specs.View.{view};
+ghost use Rattle.json_patch.specs.Apart.{AreApart};
+ghost use Rattle.json_patch.specs.Document.{IsDocument};
+ghost use Rattle.json_patch.specs.Operation.{AreWhole, Operation, operations, operations_of};
+ghost use Rattle.json_patch.specs.Propositions.{AreWhole-prop, IsDocument-prop};
+ghost use Rattle.json_patch.specs.Refusal.{IfRefused, NamesFirst};
+ghost use Rattle.json_patch.specs.Run.{Accepts};
+ghost use Rattle.json_patch_uses.specs.declared.shared.ChangeFault.TheVariants.{Memory};
+
+use json_patch::{Patch, PatchError, PatchFault, PatchOperation, apply_patches, are_apart, laws};
+use serde_json::Value;
+use std::alloc::{AllocError, Global};
+use thiserror::Error;
+
+/// Why a change isn't made.
+#[derive(Debug, Drop, Error)]
+pub enum ChangeFault {
+    /// The document has had no such version.
+    #[error("there is no such version")]
+    NoVersion,
+    /// It isn't apart from the change that led on from this version, the first such.
+    #[error("the change collides with the one that was made to version {0}")]
+    Conflict(usize),
+    /// An operation was refused.
+    #[error("{0}")]
+    Refused(PatchError),
+    /// A growth of memory was refused.
+    #[error("out of memory")]
+    Memory(AllocError),
+}
+
+impl From<AllocError> for ChangeFault {
+    ghost from_gives = { λ error fault. fault ≡ Memory error };
+
+    fn from(error: AllocError) -> ChangeFault {
+        ChangeFault::Memory(error)
+    }
+}
+
+/// A change that was made, and what takes it back.
+#[derive(Drop)]
+struct Change {
+    patch: Patch,
+    undo: Patch,
+    ghost patch_whole: { AreWhole (operations_of patch) } by { AreWhole-prop (operations_of patch) },
+    ghost undo_whole: { AreWhole (operations_of undo) } by { AreWhole-prop (operations_of undo) },
+}
+
+/// A document, and the changes since it was opened. Its versions are counted from 0, the document
+/// that was opened; each change leads from one to the next.
+#[derive(Drop)]
+pub struct SharedDocument {
+    document: Value,
+    changes: Vec<Change>,
+    ghost whole: { IsDocument (view document) } by { IsDocument-prop (view document) },
+}
+
+impl SharedDocument {
+    ghost use Rattle.json_patch_uses.specs.declared.shared.SharedDocument.{SharedDocument};
+    ghost use Rattle.json_patch_uses.specs.SharedDocuments.{AreKept, CollidesAt, IsMade, IsUndoFault, IsUpdateFault, IsVersion, document_of, joined, since, version_of};
+
+    /// A document that begins with the version 0.
+    pub fn open(alloc: Global, document: Value) -> SharedDocument
+        requires { IsDocument (view document) }
+        ensures value { document_of result ≡ view document }
+        ensures version { version_of result ≡ 0 }
+    {
+        SharedDocument {
+            document,
+            changes: Vec::new(alloc),
+        }
+    }
+
+    /// The document.
+    pub fn document(&self) -> &Value
+        ensures value { view result.now ≡ document_of self.now }
+        ensures version { IsVersion self.now (version_of self.now) (document_of self.now) }
+    {
+        &self.document
+    }
+
+    /// The number of the document's version.
+    pub fn version(&self) -> usize
+        ensures { result ≡ version_of self.now }
+    {
+        self.changes.len()
+    }
+
+    /// Makes a change that was meant for this version, if it is apart from each change since.
+    pub fn update(&mut self, alloc: Global, version: usize, patch: Patch) -> Result<(), ChangeFault>
+        requires { AreWhole (operations_of patch) }
+        ensures as_if_first { OnOk result ((d : Data) → IsVersion self.old version d
+            → Accepts d (operations_of patch ++ since self.old version) (document_of self.new)) }
+        ensures made { OnOk result (IsMade self.old (operations_of patch) self.new) }
+        ensures fault { IfErr result (IsUpdateFault self.old version (operations_of patch)) }
+        ensures unchanged { OnErr result (AreKept self.old self.new) }
+    {
+        laws::apart();
+        laws::runs();
+        if version > self.changes.len() {
+            return Err(ChangeFault::NoVersion);
+        }
+        if let Some(n) = Self::first_collision(patch.as_slice(), &self.changes[version..]) {
+            return Err(ChangeFault::Conflict(version + n));
+        }
+        match self.make(alloc, patch) {
+            Ok(()) => Ok(()),
+            Err(PatchFault::Refused(error)) => Err(ChangeFault::Refused(error)),
+            Err(PatchFault::Memory(error)) => Err(ChangeFault::Memory(error)),
+        }
+    }
+
+    /// Takes back the change that was made to this version, if it is apart from each change since.
+    /// That is a change too, to the newest version.
+    pub fn undo(&mut self, alloc: Global, version: usize) -> Result<(), ChangeFault>
+        ensures others_stay { OnOk result ((d : Data) → IsVersion self.old version d
+            → Accepts d (since self.old (version + 1)) (document_of self.new)) }
+        ensures fault { IfErr result (IsUndoFault self.old version) }
+        ensures unchanged { OnErr result (AreKept self.old self.new) }
+    {
+        laws::apart();
+        laws::runs();
+        if version >= self.changes.len() {
+            return Err(ChangeFault::NoVersion);
+        }
+        let change = &self.changes[version];
+        let later = &self.changes[version + 1..];
+        if let Some(n) = Self::first_collision(change.patch.as_slice(), later) {
+            return Err(ChangeFault::Conflict(version + 1 + n));
+        }
+        let undo = change.undo.clone(alloc)?;
+        match self.make(alloc, undo) {
+            Ok(()) => Ok(()),
+            Err(PatchFault::Refused(error)) => Err(ChangeFault::Refused(error)),
+            Err(PatchFault::Memory(error)) => Err(ChangeFault::Memory(error)),
+        }
+    }
+
+    /// Laws of the versions, for proofs to cite.
+    #[tactic(auto, using(crate::proofs::SharedChanges::refusal_keeps))]
+    pub fn versions()
+        // After a change each version is what it was.
+        ensures change_keeps { (s t : SharedDocument) (ops : List Operation) (k : ℕ) (d : Data)
+            → IsMade s ops t → IsVersion s k d → IsVersion t k d }
+
+        // So it is after a change that isn't made.
+        ensures refusal_keeps { (s t : SharedDocument) (k : ℕ) (d : Data) → AreKept s t
+            → IsVersion s k d → IsVersion t k d }
+    {}
+
+    /// Which of the changes is the first from which the operations aren't apart.
+    #[tactic(auto, using(crate::proofs::SharedChanges::apart_each))]
+    fn first_collision(patch: &[PatchOperation], changes: &[Change]) -> Option<usize>
+        ensures none { IfNone result (AreApart (operations patch.now) (joined changes.now)) }
+        ensures some { IfSome result (CollidesAt (operations patch.now) changes.now) }
+        ensures within { IfSome result (λ n. n < length changes.now) }
+    {
+        for (n, change) in changes.iter().enumerate() {
+            if !are_apart(patch, change.patch.as_slice()) {
+                return Some(n);
+            }
+        }
+        None
+    }
+
+    /// Makes a change to the newest version.
+    fn make(&mut self, alloc: Global, patch: Patch) -> Result<(), PatchFault>
+        requires { AreWhole (operations_of patch) }
+        ensures made { OnOk result (IsMade self.old (operations_of patch) self.new) }
+        ensures refused { IfRefused result
+            (NamesFirst (document_of self.old) (operations_of patch)) }
+        ensures unchanged { OnErr result (AreKept self.old self.new) }
+    {
+        self.changes.reserve(1)?;
+        let undo = apply_patches(alloc, &mut self.document, patch.as_slice())?;
+        self.changes.push_reserved(Change { patch, undo });
+        Ok(())
+    }
+}
