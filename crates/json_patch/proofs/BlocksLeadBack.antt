@@ -112,7 +112,7 @@ found_document d P p hd is = let h : (L : List Segment) × Resolves d P L p = fo
 abbrev pub TakesBackAt : (Data → Option Data) → (Data → Option Data) → Data → Pointer → Type 0
 TakesBackAt f g d P = (p q : Data) → IsDocument p → pointee d P ≡ Some p → f p ≡ Some q → IsDocument q × (g q ≡ Some p)
 
-set_altered : (g : Data → Option Data) (d : Data) (t : List ℕ) (P : Pointer) (s : Segment) (c b : Data) → segment_of d t ≡ Some s → child s d ≡ Some c → after_change g b P ≡ Some c
+pub set_altered : (g : Data → Option Data) (d : Data) (t : List ℕ) (P : Pointer) (s : Segment) (c b : Data) → segment_of d t ≡ Some s → child s d ≡ Some c → after_change g b P ≡ Some c
     → after_change g (set_child s b d) (t ∷ P) ≡ Some (set_child s c (set_child s b d))
 set_altered g d t P s c b named stands inner = search (rules, step_of_set, child_set)
 

@@ -33,4 +33,16 @@ pub mod ApartOutcomes
 pub mod ApartRuns
 pub mod ApartUndos
 pub mod ApartExamples
+pub mod Marked
+pub mod MarkedChanges
+pub mod MarkedRuns
+pub mod MarkedContainers
+pub mod MarkedUnseen
+pub mod MarkedEdits
+pub mod MarkedCounts
+pub mod MarkedUndos
+pub mod Shown
+pub mod Exchanges
+pub mod Logged
+pub mod LoggedEdits
 pub mod Footprints

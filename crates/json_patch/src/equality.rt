@@ -1,6 +1,6 @@
 //! Equality of JSON values, and with it of operations and of patches.
 
-ghost use Rattle.std.specs.Prelude.{◌≡◌, ◌↔◌, IsTrue, option_map};
+ghost use Rattle.std.specs.Prelude.{◌≡◌, ◌↔◌, IsTrue, if◌then◌else◌, option_map};
 ghost use Rattle.std.specs.Cmp.{on_equiv, on_per};
 ghost use Rattle.std.specs.Cmp.Lexicographic.{lists_equiv, lists_per, pointwise};
 ghost use Rattle.std.specs.Option.{option_eq};
@@ -8,11 +8,13 @@ ghost use Rattle.std.specs.Ordering.{on};
 ghost use Rattle.serde_json.specs.View.{view, number_view, items_view, members_view};
 ghost use Rattle.json_patch.specs.Document.{IsDocument};
 ghost use Rattle.json_patch.specs.Operation.{add_of, copy_of, move_of, operation_of, operations_of, remove_of, replace_of, test_of};
+ghost use Rattle.json_patch.specs.Marked.{seen, seen_items, seen_members};
 ghost use Rattle.json_patch.specs.PartsView.{parts_view};
 ghost use Rattle.json_patch.specs.Same.{AreSame, AreSameLists, AreSameOperations, AreSameParts};
 ghost use Rattle.json_patch.specs.SameComputed.{same_num, same, same_items, same_members, same_operation, same_parts};
 ghost use Rattle.json_patch.specs.SameLaws.{operation_equivalence, operation_partial_equivalence};
 
+use crate::marks::is_mark;
 use crate::operation::{
     AddOperation, CopyOperation, MoveOperation, Parts, Patch, PatchOperation, RemoveOperation,
     ReplaceOperation, TestOperation,
@@ -29,29 +31,50 @@ pub fn same(a: &Value, b: &Value) -> bool
     same_values(a, b)
 }
 
-#[cycle(same)]
+/// Whether two values are equal.
 pub(crate) fn same_values(a: &Value, b: &Value) -> bool
     ensures { result ≡ same (view a.now) (view b.now) }
+{
+    same_past(a, b, false)
+}
+
+/// Whether what is seen of a value with marks is equal to `expected`. It takes no memory.
+pub(crate) fn shows(value: &Value, expected: &Value) -> bool
+    ensures { result ≡ same (seen (view value.now)) (view expected.now) }
+{
+    same_past(value, expected, true)
+}
+
+/// Whether two values are equal, where marks in the first are passed over, or count as the numbers
+/// that they are.
+#[cycle(same)]
+fn same_past(a: &Value, b: &Value, past_marks: bool) -> bool
+    ensures { result ≡ same (if past_marks then seen (view a.now) else view a.now) (view b.now) }
 {
     match (a, b) {
         (Value::Null, Value::Null) => true,
         (Value::Bool(x), Value::Bool(y)) => x == y,
         (Value::Number(x), Value::Number(y)) => same_numbers(x, y),
         (Value::String(x), Value::String(y)) => x.as_str() == y.as_str(),
-        (Value::Array(xs), Value::Array(ys)) => same_lists(xs, ys),
-        (Value::Object(xs), Value::Object(ys)) => same_maps(xs, ys),
+        (Value::Array(xs), Value::Array(ys)) => same_lists(xs, ys, past_marks),
+        (Value::Object(xs), Value::Object(ys)) => same_maps(xs, ys, past_marks),
         _ => false,
     }
 }
 
 #[cycle(same)]
-fn same_lists(xs: &Vec<Value>, ys: &Vec<Value>) -> bool
-    ensures { result ≡ same_items (items_view xs.now.items) (items_view ys.now.items) }
+fn same_lists(xs: &Vec<Value>, ys: &Vec<Value>, past_marks: bool) -> bool
+    ensures { result ≡ same_items
+        (if past_marks then seen_items (items_view xs.now.items) else items_view xs.now.items)
+        (items_view ys.now.items) }
 {
     let mut others = ys.iter();
     for x in xs {
+        if past_marks && is_mark(x) {
+            return others.next().is_none();
+        }
         match others.next() {
-            Some(y) if same_values(x, y) => {}
+            Some(y) if same_past(x, y, past_marks) => {}
             _ => return false,
         }
     }
@@ -59,13 +82,18 @@ fn same_lists(xs: &Vec<Value>, ys: &Vec<Value>) -> bool
 }
 
 #[cycle(same)]
-fn same_maps(xs: &Map<String, Value>, ys: &Map<String, Value>) -> bool
-    ensures { result ≡ same_members (members_view xs.now.entries) (members_view ys.now.entries) }
+fn same_maps(xs: &Map<String, Value>, ys: &Map<String, Value>, past_marks: bool) -> bool
+    ensures { result ≡ same_members
+        (if past_marks then seen_members (members_view xs.now.entries) else members_view xs.now.entries)
+        (members_view ys.now.entries) }
 {
     let mut others = ys.iter();
     for (name, x) in xs.iter() {
+        if past_marks && is_mark(x) {
+            continue;
+        }
         match others.next() {
-            Some((other, y)) if name.as_str() == other.as_str() && same_values(x, y) => {}
+            Some((other, y)) if name.as_str() == other.as_str() && same_past(x, y, past_marks) => {}
             _ => return false,
         }
     }

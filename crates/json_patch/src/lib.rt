@@ -9,9 +9,12 @@
 #![tactic(auto)]
 
 mod apart;
+mod edits;
 mod equality;
 mod error;
 pub mod laws;
+mod log;
+mod marks;
 mod merging;
 mod operation;
 mod parsing;
@@ -19,6 +22,7 @@ mod printing;
 mod reading;
 mod record;
 mod run;
+mod seen;
 mod shared;
 mod step;
 mod walk;

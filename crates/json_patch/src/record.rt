@@ -48,7 +48,7 @@ pub(crate) fn is_undoable(operation: &PatchOperation) -> bool
 }
 
 /// Whether the pointer's text holds no `~`.
-fn is_unescaped(path: Pointer<'_>) -> bool
+pub(crate) fn is_unescaped(path: Pointer<'_>) -> bool
     ensures { IsTrue result ↔ AreUnescaped (tokens_of path.entry) }
 {
     for token in path.tokens() {

@@ -160,7 +160,7 @@ pub(crate) fn take_out(
 }
 
 /// Whether something follows in `path` after all of `from`.
-fn is_inside(path: Pointer<'_>, from: Pointer<'_>) -> bool
+pub(crate) fn is_inside(path: Pointer<'_>, from: Pointer<'_>) -> bool
     ensures { IsTrue result ↔ IsProperPrefix (tokens_of from.entry) (tokens_of path.entry) }
 {
     match path.strip_prefix(from) {

@@ -247,7 +247,7 @@ pub(crate) fn item_index(token: Token<'_>, len: usize) -> Result<usize, PatchErr
 }
 
 /// The place at which a token puts a new item, among so many: that of one, or the one after the last.
-fn slot_index(token: Token<'_>, len: usize) -> Result<usize, PatchErrorKind>
+pub(crate) fn slot_index(token: Token<'_>, len: usize) -> Result<usize, PatchErrorKind>
     ensures { MatchResult result
         (λ i. (i ≤ len) × (slot_in (token_of token.entry) len ≡ Some i))
         (λ kind. (kind ≡ InvalidPointer) × (slot_in (token_of token.entry) len ≡ None)) }

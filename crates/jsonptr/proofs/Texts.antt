@@ -1,7 +1,8 @@
 -- The texts of pointers and their tokens.
 use Rattle.std.proofs.Common.{take_all, length-append, take-append-drop, ◌≡◌, ℕ, ◌+◌, ◌<◌, ◌≤◌, Bool, true, false, cond, eqb, List, [], ◌∷◌, ◌++◌, length, get_or, take, drop, refl, sym, ap, ◌∙◌, subst, ⊎_elim, append_assoc, append-nil, suc, zero, arith}
 use Rattle.std.proofs.lemmas.Bool.{cases_eq, ne_eqb}
-use Rattle.std.specs.Prelude.{MatchOption, Option, Some, None, IfNone, Result, Ok, Err, OnErr}
+use Rattle.std.specs.Prelude.{MatchOption, Option, Some, None, IfNone, Result, Ok, Err, OnErr, OnOk, is_ok, if◌then◌else◌}
+use Rattle.std.specs.declared.alloc.AllocError.{AllocError}
 use Rattle.std.specs.List.{count_by}
 use Rattle.std.proofs.lemmas.Slice.Eq.{bytes_eq-Decides}
 use Rattle.std.proofs.Math.Utf8.{encode, encodes}
@@ -318,3 +319,15 @@ pub same_tokens : (P Q : List (List ℕ)) (r : Bool) → r ≡ bytes_eq (text_of
 same_tokens P Q r e =
     let d = bytes_eq-Decides (text_of P) (text_of Q) in
     ((λ h. one_pointer P Q (d.0 (sym e ∙ h))), (λ h. e ∙ d.1 (ap text_of h)))
+
+-- an escape is longer than what it stands for
+pub cut_length : (rest plain after others : List ℕ) → CutsTilde rest plain after → (x : ℕ) → after ≡ x ∷ others → length rest ≡ length plain + 2 + length others
+cut_length rest plain after others cuts x is =
+    let whole : length rest ≡ length (plain ++ 126 ∷ after) = ap length cuts.whole in
+    let more : length after ≡ length (x ∷ others) = ap length is in
+    omega (arith, length-append plain (126 ∷ after))
+
+-- the last part of what is decoded
+pub decoded_end : (r : Result (Unit {0}) AllocError) (old new rest whole : List ℕ) → new ≡ (if is_ok r then old ++ rest else old) → whole ≡ old ++ rest → OnOk r (new ≡ whole)
+decoded_end (Ok x) old new rest whole is same = is ∙ sym same
+decoded_end (Err e) old new rest whole is same = tt

@@ -1,7 +1,7 @@
 //! The tokens of a pointer.
 
-ghost use Rattle.std.specs.Prelude.{◌≡◌, ℕ, ◌<◌, [], ◌∷◌, IfOk, IfSome, IfNone, OnErr, MatchResult, IsTrue, ◌↔◌};
-ghost use Rattle.std.specs.String.{string_bytes};
+ghost use Rattle.std.specs.Prelude.{◌≡◌, ℕ, ◌<◌, [], ◌∷◌, ◌≤◌, IfOk, IfSome, IfNone, IsOk, OnErr, OnOk, MatchResult, IsTrue, ◌↔◌, length};
+ghost use Rattle.std.specs.String.{string_bytes, string_capacity};
 ghost use Rattle.jsonptr.specs.Text.{after_tilde, decoded, encoded};
 ghost use Rattle.jsonptr.specs.Scanning.{IsEncoded, Escaped, StartsEscape};
 
@@ -40,16 +40,28 @@ impl<'a> Token<'a> {
     pub fn decoded(&self, alloc: Global) -> Result<String, AllocError>
         ensures { IfOk result (λ s. string_bytes s ≡ token_of self.now) }
     {
+        let mut out = String::with_capacity(alloc, self.encoded().len())?;
+        self.decode_into(&mut out)?;
+        Ok(out)
+    }
+
+    /// Puts the text that the token stands for into `out`, in place of what that holds. It takes no
+    /// memory where `out` has room for the token as it is encoded.
+    pub fn decode_into(&self, out: &mut String) -> Result<(), AllocError>
+        ensures text { OnOk result (string_bytes out.new ≡ token_of self.now) }
+        ensures no_memory { length (encoded (token_of self.now)) ≤ string_capacity out.old
+            → IsOk result }
+        ensures grows { string_capacity out.old ≤ string_capacity out.new }
+    {
+        out.clear();
         let mut rest = self.encoded();
-        let mut out = String::with_capacity(alloc, rest.len())?;
         while let Some((plain, after)) = rest.split_once('~') {
             out.push_str(plain)?;
             let (escaped, others) = unescape(after);
             out.push(escaped)?;
             rest = others;
         }
-        out.push_str(rest)?;
-        Ok(out)
+        out.push_str(rest)
     }
 
     /// Whether the token stands for `key`. Texts are compared as they are, without normalisation.

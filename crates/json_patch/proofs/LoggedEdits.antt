@@ -1,0 +1,258 @@
+-- A logged edit of a marked document: what it comes to, what undoes it, and what the inverse says of it.
+use Rattle.json_patch.proofs.Common.{◌≡◌, ◌++◌, ◌+◌, ◌≤◌, ℕ, List, [], ◌∷◌, Bool, true, false, Option, Some, None, Result, Ok, Err, refl, sym, ap, ◌∙◌, subst, rules, arith, append_assoc, Data, null, boolean, number, string, array, object, Items, no_items, item, Members, no_members, member, view, Pointer, StepFault, Refused, PatchErrorKind, InvalidPointer, Attempts, ComesTo, IsDocument, AreDocuments, AreMembers, IfOk, Value, after_add}
+use Rattle.jsonptr.specs.Pointers.{tokens_of}
+use Rattle.jsonptr.specs.declared.pointer.Pointer.{Pointer as PointerOf}
+use Rattle.json_patch.specs.ChangeComputed.{pointee, after_remove, last_of}
+use Rattle.json_patch.specs.Edits.{place_to_undo}
+use Rattle.json_patch.specs.Exchange.{AreFitting, Exchanges, Finds, FindsWhere, made_where, room}
+use Rattle.json_patch.specs.InverseComputed.{block, undo_add}
+use Rattle.json_patch.specs.Logged.{AreRoomy, GoesBack, IsFor, IsKept, IsKeptBack, IsLogged, IsRoomy, IsRoomyFrom, IsTakenFrom, IsUndone, Keeps, LeadsBack, Logs, LogsEdit, kept_block, kept_blocks, place_of, put_back, taken_by, taken_from, takes}
+use Rattle.json_patch.specs.Marked.{IsMarked, IsSeen, IsValue, is_mark, seen, the_mark}
+use Rattle.json_patch.specs.MarkedComputed.{marks, marks_items, marks_members}
+use Rattle.json_patch.specs.Operation.{Operation, add, remove, replace, move, path_of}
+use Rattle.json_patch.specs.RunComputed.{after_step, after_move, begins, or_refused}
+use Rattle.json_patch.specs.SeenEdits.{IsReversible, Suits, found_marks, operation_at, put_marks, seen_where, undo_found}
+use Rattle.json_patch.specs.declared.edits.Edit.{Edit}
+use Rattle.json_patch.specs.declared.edits.Edit.TheVariants.{Insert, Take, Swap, Undo}
+use Rattle.json_patch.specs.declared.edits.Found.{Found}
+use Rattle.json_patch.specs.declared.edits.Found.TheVariants.{Nothing, Former, Taken}
+use Rattle.json_patch.specs.declared.error.StepFault.TheVariants.{Memory}
+use Rattle.json_patch.specs.declared.log.Change.{Change}
+use Rattle.json_patch.specs.declared.log.Keep.{Keep}
+use Rattle.json_patch.specs.declared.log.Keep.TheVariants.{Inverse}
+use Rattle.json_patch.specs.declared.log.Kept.{Kept}
+use Rattle.json_patch.specs.declared.log.Log.{Log}
+use Rattle.json_patch.proofs.Logged.{leads_pushed, roomy_more, roomy_pushed}
+use Rattle.json_patch.proofs.MarkedChanges.{corr_some}
+use Rattle.json_patch.proofs.MarkedCounts.{one_mark, where_counts}
+use Rattle.json_patch.proofs.MarkedEdits.{attempt_seen, exchange_seen, put_comes_out, where_back, where_seen}
+use Rattle.json_patch.proofs.MarkedRuns.{document_seen, document_value}
+use Rattle.json_patch.proofs.MarkedUndos.{edit_undoes, found_there, move_undoes, taken_seen}
+use Rattle.json_patch.proofs.StepOutcomes.{not_begins}
+use Rattle.jsonptr.specs.Text.{IsProperPrefix}
+
+-- ---- a document's values
+
+mutual
+  document_marks : (d : Data) → IsDocument d → marks d ≡ 0
+  document_marks (array ds) h = documents_marks ds h
+  document_marks (object ms) h = members_marks ms h
+  document_marks d h = search rules
+
+  documents_marks : (ds : Items) → AreDocuments ds → marks_items ds ≡ 0
+  documents_marks no_items h = refl
+  documents_marks (item d ds) h = rw (document_marks d h.0, documents_marks ds h.1) refl
+
+  members_marks : (ms : Members) → AreMembers ms → marks_members ms ≡ 0
+  members_marks no_members h = refl
+  members_marks (member k d ms) h = rw (document_marks d h.1, members_marks ms h.2) refl
+
+suits : (edit : Edit) (v : Data) → IsFor edit v → Suits edit v
+suits Insert v h = document_value v h
+suits Swap v h = document_value v h
+suits Take v h = h
+suits edit v h = absurd h
+
+reverses : (edit : Edit) (v : Data) → IsFor edit v → IsReversible edit v
+reverses Insert v h = (document_value v h).1
+reverses Swap v h = tt
+reverses Take v h = tt
+reverses edit v h = absurd h
+
+-- an edit as its operation
+step_of : (edit : Edit) (v d : Data) (P : Pointer) → IsFor edit v → or_refused InvalidPointer (seen_where edit (seen v) d P) ≡ after_step d (operation_at edit P v)
+step_of Insert v d P h = rw (document_seen v h) refl
+step_of Swap v d P h = rw (document_seen v h) refl
+step_of Take v d P h = refl
+step_of edit v d P h = absurd h
+
+-- ---- what is left of the document
+
+comes_of : {T : Type 0} (r : Result T StepFault) (o : Option Data) (d e : Data) → Attempts r o d e → ComesTo r (or_refused InvalidPointer o) e
+comes_of (Ok x) o d e h = ap (or_refused InvalidPointer) h
+comes_of (Err (Refused kind)) o d e h = rw (h.0.1, h.0.0) refl
+comes_of (Err (Memory error)) o d e h = tt
+
+edit_left : (r : Result (Unit {0}) StepFault) (edit : Edit) (keep : Keep) (P : PointerOf) (F : Option PointerOf) (olds news : Log) (d e v w : Data) → LogsEdit r edit keep P F olds news d e v w → Attempts r (made_where edit v d (tokens_of P)) d e
+edit_left (Ok x) edit keep P F olds news d e v w h = h.1.makes
+edit_left (Err fault) edit keep P F olds news d e v w h = (h.0, h.1)
+
+-- ---- the log with one change more
+
+takes_pushed : (log : List Change) (c : Change) → takes (log ++ c ∷ []) ≡ takes log + (taken_by c.found + taken_from c.from)
+takes_pushed [] c = omega arith
+takes_pushed (b ∷ log) c = let more : takes (log ++ c ∷ []) ≡ takes log + (taken_by c.found + taken_from c.from) = takes_pushed log c in omega arith
+
+blocks_pushed : (log : List Change) (c : Change) → kept_blocks (log ++ c ∷ []) ≡ kept_block c.kept c.found (view c.value) ++ kept_blocks log
+blocks_pushed [] c = search rules
+blocks_pushed (b ∷ log) c = ap (λ x. x ++ kept_block b.kept b.found (view b.value)) (blocks_pushed log c) ∙ append_assoc (kept_block c.kept c.found (view c.value)) (kept_blocks log) (kept_block b.kept b.found (view b.value))
+
+-- a log that is the old one, where the document is
+pub logs_none : (olds news : Log) (d e : Data) → room olds.names ≤ room news.names → news.changes.items ≡ olds.changes.items → e ≡ d → Logs olds news d e
+logs_none olds news d e grows same is = record {
+  roomy = λ h. rw same (roomy_more _ _ olds.changes.items grows h);
+  leads = λ p h. rw (same, is) h;
+  counts = rw (same, is) (omega arith);
+}
+
+-- the log had less room before
+pub logs_earlier : (first olds news : Log) (d e : Data) → room first.names ≤ room olds.names → olds.changes.items ≡ first.changes.items → Logs olds news d e → Logs first news d e
+logs_earlier first olds news d e grows same l = record {
+  roomy = λ h. l.roomy (rw same (roomy_more _ _ first.changes.items grows h));
+  leads = λ p h. l.leads p (rw same h);
+  counts = rw same at l.counts;
+}
+
+logs_one : (olds news : Log) (c : Change) (d e : Data) → room olds.names ≤ room news.names → news.changes.items ≡ olds.changes.items ++ c ∷ [] → IsRoomy (room news.names) c → IsUndone c e d
+    → marks e ≤ marks d + (taken_by c.found + taken_from c.from) → Logs olds news d e
+logs_one olds news c d e grows ends fits undone counted = record {
+  roomy = λ h. rw ends (roomy_pushed _ olds.changes.items c (roomy_more _ _ olds.changes.items grows h) fits);
+  leads = λ p h. rw ends (leads_pushed olds.changes.items c e d p undone h);
+  counts = rw ends (omega (arith, takes_pushed olds.changes.items c));
+}
+
+-- ---- what the inverse says
+
+place_same : (edit : Edit) (d : Data) (P : Pointer) (v : Data) → place_of edit d P ≡ place_to_undo d (operation_at edit P v)
+place_same Insert d P v = refl
+place_same Swap d P v = refl
+place_same edit d P v = refl
+
+abbrev put_back_of : Option PointerOf → Data → List Operation
+put_back_of None v = []
+put_back_of (Some F) v = add (tokens_of F) (seen v) ∷ []
+
+kept_back : (F : Option PointerOf) (v : Data) (x : Option (Pointer × Value)) → IsKeptBack F v x → put_back x ≡ put_back_of F v
+kept_back None v None h = refl
+kept_back (Some F) v (Some x) h = rw (h.0, h.1) refl
+kept_back F v x h = search rules
+
+kept_says : (k : Option Kept) (Q : Pointer) (F : Option PointerOf) (v : Data) (found : Found) (w : Data) → IsKept Inverse Q F v k → kept_block k found w ≡ undo_found Q found w ∷ put_back_of F v
+kept_says None Q F v found w h = absurd h
+kept_says (Some k) Q F v found w h = rw (h.0, kept_back F v k.back h.1) refl
+
+kept_one : (olds news : Log) (c : Change) (Q : Pointer) (F : Option PointerOf) (v : Data) (B : List Operation) → news.changes.items ≡ olds.changes.items ++ c ∷ [] → IsKept Inverse Q F v c.kept → B ≡ undo_found Q c.found (view c.value) ∷ put_back_of F v
+    → kept_blocks news.changes.items ≡ B ++ kept_blocks olds.changes.items
+kept_one olds news c Q F v B ends kept is = rw (ends, is, blocks_pushed olds.changes.items c, kept_says c.kept Q F v c.found (view c.value) kept) refl
+
+-- ---- an edit by itself
+
+took_at : (t : List ℕ) (c : Data) (found : Found) (w : Data) → Finds Take t c found w → found ≡ Taken
+took_at t c Nothing w finds = absurd finds
+took_at t c Former w finds = absurd finds
+took_at t c Taken w finds = refl
+
+took : (v d e : Data) (P : Pointer) (found : Found) (w : Data) → FindsWhere Take d P found w → made_where Take v d P ≡ Some e → found ≡ Taken
+took v d e [] found w finds made = cc
+took v d e (t ∷ P) found w finds made = took_at (last_of t P) finds.0 found w finds.2
+
+puts : (edit : Edit) (v d e : Data) (P : Pointer) (found : Found) (w : Data) → IsFor edit v → FindsWhere edit d P found w → made_where edit v d P ≡ Some e → put_marks edit v ≤ taken_by found
+puts Insert v d e P found w hv finds made = rw (document_marks v hv) (omega arith)
+puts Swap v d e P found w hv finds made = rw (document_marks v hv) (omega arith)
+puts Take v d e P found w hv finds made = rw (one_mark v hv.1, took v d e P found w finds made) (omega arith)
+puts edit v d e P found w hv finds made = absurd hv
+
+-- a `remove` leaves a mark, and what puts a value in leaves none
+edit_counts : (edit : Edit) (v d e : Data) (P : Pointer) (found : Found) (w : Data) → IsFor edit v → IsMarked d → FindsWhere edit d P found w → made_where edit v d P ≡ Some e → marks e ≤ marks d + (taken_by found + 0)
+edit_counts edit v d e P found w hv hd finds made =
+    let counted : marks e + found_marks found w ≡ marks d + put_marks edit v = where_counts edit v d e P found w (suits edit v hv) hd finds made in
+    let put : put_marks edit v ≤ taken_by found = puts edit v d e P found w hv finds made in
+    omega arith
+
+module _ (r : Result (Unit {0}) StepFault) (edit : Edit) (keep : Keep) (P : PointerOf) (olds news : Log) (d e v w : Data) (hv : IsFor edit v) (hd : IsValue d) (h : LogsEdit r edit keep P None olds news d e v w) where
+  seen_left : Attempts r (seen_where edit (seen v) (seen d) (tokens_of P)) (seen d) (seen e) × IsValue e
+  seen_left = attempt_seen r _ _ d e hd (where_seen edit v d (tokens_of P) (suits edit v hv) hd) (edit_left r edit keep P None olds news d e v w h)
+
+  pub edit_comes : ComesTo r (after_step (seen d) (operation_at edit (tokens_of P) v)) (seen e)
+  edit_comes = subst (λ x. ComesTo r x (seen e)) (step_of edit v (seen d) (tokens_of P) hv) (comes_of r _ (seen d) (seen e) seen_left.0)
+
+  pub edit_value : IsValue e
+  edit_value = seen_left.1
+
+  pub edit_logs : room olds.names ≤ room news.names → Logs olds news d e
+  edit_logs grows = by_result r h
+    where
+      -- what the log's new end has of the edit's place
+      roomy_at : (c : Change) → IsLogged edit keep P None olds news d e v c → IsRoomy (room news.names) c
+      roomy_at c l = rw (l.at, l.from) (l.fits, tt)
+
+      undone_at : (c : Change) → IsLogged edit keep P None olds news d e v c → IsUndone c e d
+      undone_at c l = rw (l.at, l.from) (edit_value.0, (d, where_back edit v d e (tokens_of P) c.found (view c.value) (reverses edit v hv) hd.0 l.finds l.makes, refl))
+
+      counted : (c : Change) → IsLogged edit keep P None olds news d e v c → marks e ≤ marks d + (taken_by c.found + taken_from c.from)
+      counted c l = rw l.from (edit_counts edit v d e (tokens_of P) c.found (view c.value) hv hd.0 l.finds l.makes)
+
+      by_result : (r : Result (Unit {0}) StepFault) → LogsEdit r edit keep P None olds news d e v w → Logs olds news d e
+      by_result (Ok x) g = logs_one olds news g.0 d e grows g.1.ends (roomy_at g.0 g.1) (undone_at g.0 g.1) (counted g.0 g.1)
+      by_result (Err fault) g = logs_none olds news d e grows g.3 g.1
+
+  pub edit_keeps : IfOk r (λ x. Keeps keep olds news (block (seen d) (operation_at edit (tokens_of P) v)))
+  edit_keeps = by_result r h
+    where
+      by_result : (r : Result (Unit {0}) StepFault) → LogsEdit r edit keep P None olds news d e v w → IfOk r (λ x. Keeps keep olds news (block (seen d) (operation_at edit (tokens_of P) v)))
+      by_result (Ok x) g = λ is. kept_one olds news g.0 (place_of edit (seen d) (tokens_of P)) None v _ g.1.ends (rw is at g.1.kept)
+          (edit_undoes edit v v d e (tokens_of P) g.0.found (view g.0.value) (suits edit v hv) hd g.1.finds g.1.makes ∙ ap (λ Q. undo_found Q g.0.found (view g.0.value) ∷ []) (sym (place_same edit (seen d) (tokens_of P) v)))
+      by_result (Err fault) g = tt
+
+-- ---- a `move`
+
+pub moves : {T : Type 0} (r : Result T StepFault) (d m e v : Data) (F P : Pointer) → (IsProperPrefix F P → ⊥) → after_remove d F ≡ Some m → pointee d F ≡ Some v → Attempts r (after_add m P v) m e → ComesTo r (after_step d (move F P)) e
+moves r d m e v F P out gone stood h = search (rules, not_begins)
+
+-- what can't be taken from a marked document can't be removed from what is seen of it
+pub take_refused : (kind : PatchErrorKind) (d m v w : Data) (F : Pointer) → IsValue d → v ≡ the_mark → Exchanges (Err (Refused kind)) (made_where Take v d F) (FindsWhere Take d F) d m v w → after_remove (seen d) F ≡ None
+take_refused kind d m v w F hd same h = (exchange_seen (Err (Refused kind)) Take v d m w F (rw same (tt, refl)) hd h).0.0.1
+
+module _ (d m v : Data) (F : PointerOf) (P : PointerOf) (hd : IsValue d) (t : IsTakenFrom d m (tokens_of F) (tokens_of P) v) where
+  left : (after_remove (seen d) (tokens_of F) ≡ Some (seen m)) × IsValue m
+  left = taken_seen Take t.mark d m (tokens_of F) tt t.marks hd t.makes
+
+  stood : (pointee (seen d) (tokens_of F) ≡ Some (seen v)) × IsValue v
+  stood = found_there Take t.mark d m (tokens_of F) Taken v tt hd t.finds t.makes
+
+  pub source_value : IsValue m
+  source_value = left.1
+
+  source_back : made_where (Undo Taken) v m (tokens_of F) ≡ Some d
+  source_back = where_back Take t.mark d m (tokens_of F) Taken v tt hd.0 t.finds t.makes
+
+  pub goes_back : (e w : Data) → e ≡ m → w ≡ v → made_where (Undo Taken) w e (tokens_of F) ≡ Some d
+  goes_back e w left same = rw (left, same) source_back
+
+  module _ (r : Result (Unit {0}) StepFault) (keep : Keep) (olds news : Log) (e w : Data) (h : LogsEdit r Insert keep P (Some F) olds news m e v w) where
+    put_seen : Attempts r (seen_where Insert (seen v) (seen m) (tokens_of P)) (seen m) (seen e) × IsValue e
+    put_seen = attempt_seen r _ _ m e left.1 (where_seen Insert v m (tokens_of P) stood.1 left.1) (edit_left r Insert keep P (Some F) olds news m e v w h)
+
+    pub move_comes : ComesTo r (after_step (seen d) (move (tokens_of F) (tokens_of P))) (seen e)
+    move_comes = moves r (seen d) (seen m) (seen e) (seen v) (tokens_of F) (tokens_of P) t.out left.0 stood.0 put_seen.0
+
+    pub move_value : IsValue e
+    move_value = put_seen.1
+
+  module _ (keep : Keep) (olds news : Log) (e w : Data) (h : LogsEdit (Ok tt) Insert keep P (Some F) olds news m e v w) where
+    undone_move : IsUndone h.0 e d
+    undone_move =
+        let l = h.1 in
+        rw (l.at, l.from) (
+          (move_value (Ok tt) keep olds news e w h).0,
+          (
+            m,
+            where_back Insert v m e (tokens_of P) h.0.found (view h.0.value) stood.1.1 left.1.0 l.finds l.makes,
+            (left.1.0, λ f x out. rw (put_comes_out v m e (tokens_of P) h.0.found f (view h.0.value) x stood.1.1 l.finds l.makes out) source_back),
+          ),
+        )
+
+    counted_move : marks e ≤ marks d + (taken_by h.0.found + 1)
+    counted_move =
+        let put : marks e + found_marks h.0.found (view h.0.value) ≡ marks m + marks v = where_counts Insert v m e (tokens_of P) h.0.found (view h.0.value) stood.1 left.1.0 h.1.finds h.1.makes in
+        let took : marks m + marks v ≡ marks d + marks t.mark = where_counts Take t.mark d m (tokens_of F) Taken v t.marks hd.0 t.finds t.makes in
+        let one : marks t.mark ≡ 1 = one_mark t.mark t.marks.1 in
+        omega arith
+
+    pub move_logs : room olds.names ≤ room news.names → AreFitting (room news.names) (tokens_of F) → Logs olds news d e
+    move_logs grows fits =
+        logs_one olds news h.0 d e grows h.1.ends (rw (h.1.at, h.1.from) (h.1.fits, fits)) undone_move (rw h.1.from counted_move)
+
+    pub move_keeps : Keeps keep olds news (block (seen d) (move (tokens_of F) (tokens_of P)))
+    move_keeps = λ is. kept_one olds news h.0 (path_of (undo_add (seen m) (tokens_of P))) (Some F) v _ h.1.ends (rw is at h.1.kept)
+        (move_undoes Take t.mark d m (tokens_of F) (tokens_of P) Taken h.0.found v (view h.0.value) tt t.marks hd t.finds t.makes h.1.finds)

@@ -1,0 +1,85 @@
+-- What is seen of a marked document.
+use Rattle.json_patch.proofs.Common.{◌≡◌, ◌&&◌, ℕ, List, [], ◌∷◌, Bool, false, not, bytes_eq, if◌then◌else◌, Some, option_and_then_some, segment_of, child, refl, ap, subst, rules, Data, array, object, Items, no_items, item, Members, no_members, member, pointee, Pointer, IsDocument, AreDocuments, AreMembers, same, same_items, same_members}
+use Rattle.json_patch.proofs.Marked.{shown_some, child_marked}
+use Rattle.json_patch.specs.Marked.{is_mark, shown, item_unless, member_unless, seen, seen_items, seen_members, IsMarked, AreMarkedItems, AreMarkedMembers, IsValue}
+use Rattle.json_patch.specs.MarkedComputed.{same_passing, passing_items, passing_members}
+
+-- ---- documents have no marks
+
+pub document_is : (d : Data) → IsDocument d → is_mark d ≡ false
+document_is d h = search rules
+
+mutual
+  pub document_seen : (d : Data) → IsDocument d → seen d ≡ d
+  document_seen (array ds) h = ap array (documents_seen ds h)
+  document_seen (object ms) h = ap object (members_document_seen ms h)
+  document_seen d h = refl
+
+  documents_seen : (ds : Items) → AreDocuments ds → seen_items ds ≡ ds
+  documents_seen no_items h = refl
+  documents_seen (item d ds) h = rw (document_is d h.0, document_seen d h.0, documents_seen ds h.1) refl
+
+  members_document_seen : (ms : Members) → AreMembers ms → seen_members ms ≡ ms
+  members_document_seen no_members h = refl
+  members_document_seen (member k d ms) h = rw (document_is d h.1, document_seen d h.1, members_document_seen ms h.2) refl
+
+mutual
+  pub document_marked : (d : Data) → IsDocument d → IsMarked d
+  document_marked (array ds) h = documents_marked ds h
+  document_marked (object ms) h = members_document_marked ms h
+  document_marked d h = tt
+
+  documents_marked : (ds : Items) → AreDocuments ds → AreMarkedItems ds
+  documents_marked no_items h = tt
+  documents_marked (item d ds) h = (document_marked d h.0, λ so. (let e : is_mark d ≡ false = document_is d h.0 in cc), documents_marked ds h.1)
+
+  members_document_marked : (ms : Members) → AreMembers ms → AreMarkedMembers ms
+  members_document_marked no_members h = tt
+  members_document_marked (member k d ms) h = (h.0, document_marked d h.1, members_document_marked ms h.2)
+
+pub document_value : (v : Data) → IsDocument v → IsValue v
+document_value v h = (document_marked v h, document_is v h)
+
+-- ---- equality
+
+passing_ends : (b : Bool) (d : Data) (ds : Items) → b ≡ same_items (item_unless b d ds) no_items
+passing_ends b d ds = search rules
+
+passing_item : (b : Bool) (d e : Data) (ds es : Items) → (not b && (same d e && same_items ds es)) ≡ same_items (item_unless b d ds) (item e es)
+passing_item b d e ds es = search rules
+
+passing_last : (b : Bool) (k : List ℕ) (d : Data) (ms : Members) → (b && same_members ms no_members) ≡ same_members (member_unless b k d ms) no_members
+passing_last b k d ms = search rules
+
+passing_member : (b : Bool) (k l : List ℕ) (d e : Data) (ms ns : Members) → (if b then same_members ms (member l e ns) else (bytes_eq k l && (same d e && same_members ms ns))) ≡ same_members (member_unless b k d ms) (member l e ns)
+passing_member b k l d e ms ns = search rules
+
+mutual
+  pub passing_is : (p d : Data) → same_passing p d ≡ same (seen p) d
+  passing_is (array ds) (array es) = items_passing ds es
+  passing_is (object ms) (object ns) = members_passing ms ns
+  passing_is p d = refl
+
+  items_passing : (ds es : Items) → passing_items ds es ≡ same_items (seen_items ds) es
+  items_passing no_items no_items = refl
+  items_passing no_items (item e es) = refl
+  items_passing (item d ds) no_items = passing_ends (is_mark d) (seen d) (seen_items ds)
+  items_passing (item d ds) (item e es) = rw (passing_is d e, items_passing ds es) (passing_item (is_mark d) (seen d) e (seen_items ds) es)
+
+  members_passing : (ms ns : Members) → passing_members ms ns ≡ same_members (seen_members ms) ns
+  members_passing no_members no_members = refl
+  members_passing no_members (member l e ns) = refl
+  members_passing (member k d ms) no_members = rw (members_passing ms no_members) (passing_last (is_mark d) k (seen d) (seen_members ms))
+  members_passing (member k d ms) (member l e ns) =
+      rw (passing_is d e, members_passing ms (member l e ns), members_passing ms ns) (passing_member (is_mark d) k l (seen d) e (seen_members ms) ns)
+
+-- ---- what is shown
+
+pointee_marked : (p c : Data) (P : Pointer) → IsMarked p → pointee p P ≡ Some c → IsMarked c
+pointee_marked p c [] hp is = let e : p ≡ c = cc in subst IsMarked e hp
+pointee_marked p c (t ∷ P) hp is =
+    option_and_then_some _ (segment_of p t) c is (λ s named more. option_and_then_some _ (child s p) c more (λ b stands rest. pointee_marked b c P (child_marked s p b hp stands) rest))
+
+-- what is shown at a pointer is a value
+pub found_value : (p v : Data) (P : Pointer) → IsMarked p → shown (pointee p P) ≡ Some v → IsValue v
+found_value p v P hp is = let h = shown_some (pointee p P) v is in (pointee_marked p v P hp h.0, h.1)

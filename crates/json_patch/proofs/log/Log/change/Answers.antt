@@ -1,0 +1,15 @@
+use Rattle.json_patch.proofs.Common.{refl, view}
+use Rattle.json_patch.proofs.LoggedEdits.{edit_comes, edit_keeps, edit_logs, edit_value}
+use Rattle.json_patch.proofs.log.Log.change.Goals as goal
+
+pub returns-clause-comes : goal.returns-clause-comes
+returns-clause-comes c = edit_comes _ c.args.edit c.args.keep c.args.path _ _ _ _ (view c.args.value) _ c.requires.value c.requires.marked c.log_edit.ensures.logs
+
+pub returns-clause-marked : goal.returns-clause-marked
+returns-clause-marked c = edit_value _ c.args.edit c.args.keep c.args.path _ _ _ _ (view c.args.value) _ c.requires.value c.requires.marked c.log_edit.ensures.logs
+
+pub returns-clause-logs : goal.returns-clause-logs
+returns-clause-logs c = edit_logs _ c.args.edit c.args.keep c.args.path _ _ _ _ (view c.args.value) _ c.requires.value c.requires.marked c.log_edit.ensures.logs c.log_edit.ensures.grows
+
+pub returns-clause-keeps : goal.returns-clause-keeps
+returns-clause-keeps c = edit_keeps _ c.args.edit c.args.keep c.args.path _ _ _ _ (view c.args.value) _ c.requires.value c.requires.marked c.log_edit.ensures.logs

@@ -1,0 +1,139 @@
+-- For private clauses: a log of changes of a marked document, what undoes them, and what the inverse says of them.
+use Rattle.std.specs.Prelude.{◌≡◌, ◌≤◌, ◌+◌, ℕ, List, [], ◌∷◌, ◌++◌, Bool, true, Option, Some, None, Result, Ok, Err, if◌then◌else◌}
+use Rattle.serde_json.specs.Data.{Data}
+use Rattle.serde_json.specs.View.{view}
+use Rattle.serde_json.specs.declared.value.Value.{Value}
+use Rattle.jsonptr.specs.Text.{Pointer, IsProperPrefix}
+use Rattle.jsonptr.specs.Pointers.{tokens_of}
+use Rattle.jsonptr.specs.declared.pointer.Pointer.{Pointer as PointerOf}
+use Rattle.json_patch.specs.Document.{IsDocument}
+use Rattle.json_patch.specs.Exchange.{AreFitting, FindsWhere, made_where, room}
+use Rattle.json_patch.specs.Marked.{IsMarked, is_mark, seen}
+use Rattle.json_patch.specs.MarkedComputed.{marks}
+use Rattle.json_patch.specs.SeenEdits.{operation_at, undo_found}
+use Rattle.json_patch.specs.Operation.{Operation, add, remove, replace, path_of}
+use Rattle.json_patch.specs.InverseComputed.{undo_add}
+use Rattle.json_patch.specs.Attempt.{Excuses}
+use Rattle.json_patch.specs.declared.error.StepFault.{StepFault}
+use Rattle.json_patch.specs.declared.edits.Edit.{Edit}
+use Rattle.json_patch.specs.declared.edits.Edit.TheVariants.{Insert, Take, Swap, Undo}
+use Rattle.json_patch.specs.declared.edits.Found.{Found}
+use Rattle.json_patch.specs.declared.edits.Found.TheVariants.{Nothing, Former, Taken}
+use Rattle.json_patch.specs.declared.log.Change.{Change}
+use Rattle.json_patch.specs.declared.log.Keep.{Keep}
+use Rattle.json_patch.specs.declared.log.Keep.TheVariants.{Inverse, Undo as undo_alone}
+use Rattle.json_patch.specs.declared.log.Kept.{Kept}
+use Rattle.json_patch.specs.declared.log.Log.{Log}
+
+-- ---- what undoes a change
+
+-- the value that comes out of P of q goes back to F, which leaves p
+abbrev pub GoesBack : Option PointerOf → Found → Data → Pointer → Data → Data → Type 0
+GoesBack None found q P r p = r ≡ p
+GoesBack (Some F) found q P r p = IsMarked r × ((f : Found) (w : Data) → FindsWhere (Undo found) q P f w → made_where (Undo Taken) w r (tokens_of F) ≡ Some p)
+
+-- undoing the change of q leaves p
+abbrev pub IsUndone : Change → Data → Data → Type 0
+IsUndone c q p = IsMarked q × ((r : Data) × (made_where (Undo c.found) (view c.value) q (tokens_of c.path) ≡ Some r) × GoesBack c.from c.found q (tokens_of c.path) r p)
+
+-- undoing the changes of q, the last first, leaves p
+abbrev pub LeadsBack : List Change → Data → Data → Type 0
+LeadsBack [] q p = q ≡ p
+LeadsBack (c ∷ log) q p = (r : Data) × LeadsBack log q r × IsUndone c r p
+
+abbrev pub IsRoomyFrom : ℕ → Option PointerOf → Type 0
+IsRoomyFrom n None = Unit {0}
+IsRoomyFrom n (Some F) = AreFitting n (tokens_of F)
+
+-- there is room for the names of the change's places
+abbrev pub IsRoomy : ℕ → Change → Type 0
+IsRoomy n c = AreFitting n (tokens_of c.path) × IsRoomyFrom n c.from
+
+abbrev pub AreRoomy : ℕ → List Change → Type 0
+AreRoomy n [] = Unit {0}
+AreRoomy n (c ∷ log) = IsRoomy n c × AreRoomy n log
+
+-- ---- how many marks the changes left
+
+abbrev pub taken_by : Found → ℕ
+taken_by Taken = 1
+taken_by found = 0
+
+abbrev pub taken_from : Option PointerOf → ℕ
+taken_from None = 0
+taken_from (Some F) = 1
+
+abbrev pub takes : List Change → ℕ
+takes [] = 0
+takes (c ∷ log) = (taken_by c.found + taken_from c.from) + takes log
+
+-- what a change of d to e, or an attempt at it, does to the log
+pub record Logs (olds news : Log) (d e : Data) : Type 0 where
+  pub roomy : AreRoomy (room olds.names) olds.changes.items → AreRoomy (room news.names) news.changes.items
+  pub leads : (p : Data) → LeadsBack olds.changes.items d p → LeadsBack news.changes.items e p
+  pub counts : marks e + takes olds.changes.items ≤ marks d + takes news.changes.items
+
+-- ---- what the inverse says
+
+abbrev pub put_back : Option (Pointer × Value) → List Operation
+put_back None = []
+put_back (Some x) = add x.0 (view x.1) ∷ []
+
+abbrev pub kept_block : Option Kept → Found → Data → List Operation
+kept_block None found w = []
+kept_block (Some k) found w = undo_found k.place found w ∷ put_back k.back
+
+-- the last change's first
+abbrev pub kept_blocks : List Change → List Operation
+kept_blocks [] = []
+kept_blocks (c ∷ log) = kept_blocks log ++ kept_block c.kept c.found (view c.value)
+
+-- these operations are what the log's new end says, if the inverse is kept
+abbrev pub Keeps : Keep → Log → Log → List Operation → Type 0
+Keeps keep olds news ops = keep ≡ Inverse → kept_blocks news.changes.items ≡ ops ++ kept_blocks olds.changes.items
+
+-- the value that such an edit puts in, or leaves in place of what it takes
+abbrev pub IsFor : Edit → Data → Type 0
+IsFor Insert v = IsDocument v
+IsFor Swap v = IsDocument v
+IsFor Take v = IsMarked v × (is_mark v ≡ true)
+IsFor edit v = ⊥
+
+-- where a change that the edit makes of d at P is undone
+abbrev pub place_of : Edit → Data → Pointer → Pointer
+place_of Insert d P = path_of (undo_add d P)
+place_of edit d P = P
+
+abbrev pub IsKeptBack : Option PointerOf → Data → Option (Pointer × Value) → Type 0
+IsKeptBack None v None = Unit {0}
+IsKeptBack (Some F) v (Some x) = (x.0 ≡ tokens_of F) × (view x.1 ≡ seen v)
+IsKeptBack F v x = ⊥
+
+-- what is kept of an edit that is undone at P, with v, which was taken from F if it was
+abbrev pub IsKept : Keep → Pointer → Option PointerOf → Data → Option Kept → Type 0
+IsKept undo_alone P F v k = k ≡ None
+IsKept Inverse P F v None = ⊥
+IsKept Inverse P F v (Some k) = (k.place ≡ P) × IsKeptBack F v k.back
+
+-- the change is the log's new end
+pub record IsLogged (edit : Edit) (keep : Keep) (P : PointerOf) (F : Option PointerOf) (olds news : Log) (d e v : Data) (c : Change) : Type 0 where
+  pub ends : news.changes.items ≡ olds.changes.items ++ c ∷ []
+  pub at : c.path ≡ P
+  pub from : c.from ≡ F
+  pub fits : AreFitting (room news.names) (tokens_of P)
+  pub makes : made_where edit v d (tokens_of P) ≡ Some e
+  pub finds : FindsWhere edit d (tokens_of P) c.found (view c.value)
+  pub kept : IsKept keep (place_of edit (seen d) (tokens_of P)) F v c.kept
+
+-- an edit with v of d leaves e, and is logged; or nothing is done
+abbrev pub LogsEdit : Result (Unit {0}) StepFault → Edit → Keep → PointerOf → Option PointerOf → Log → Log → Data → Data → Data → Data → Type 0
+LogsEdit (Ok x) edit keep P F olds news d e v w = (c : Change) × IsLogged edit keep P F olds news d e v c
+LogsEdit (Err fault) edit keep P F olds news d e v w = Excuses fault (made_where edit v d (tokens_of P)) × (e ≡ d) × (w ≡ v) × (news.changes.items ≡ olds.changes.items)
+
+-- v, which a `move` to P takes from F of d, was taken, which leaves m
+pub record IsTakenFrom (d m : Data) (F P : Pointer) (v : Data) : Type 0 where
+  pub out : IsProperPrefix F P → ⊥
+  pub mark : Data
+  pub marks : IsMarked mark × (is_mark mark ≡ true)
+  pub makes : made_where Take mark d F ≡ Some m
+  pub finds : FindsWhere Take d F Taken v

@@ -1,0 +1,111 @@
+//! Marks: the laws, and edits of marked containers.
+
+ghost use Rattle.std.specs.Prelude.{◌≡◌, ◌≤◌, ℕ, List, [], ◌∷◌, Bool, true, false, not, IfOk, Some, vec_len, option_map};
+ghost use Rattle.serde_json.specs.Data.{Data, Members, put, array, object};
+ghost use Rattle.serde_json.specs.Events.{items_len};
+ghost use Rattle.serde_json.specs.View.{view, items_view, members_view};
+ghost use Rattle.jsonptr.specs.Pointers.{token_of, tokens_left};
+ghost use Rattle.json_patch.specs.Attempt.{Attempts};
+ghost use Rattle.json_patch.specs.ChangeComputed.{after_change, pointee};
+ghost use Rattle.json_patch.specs.Document.{IsDocument};
+ghost use Rattle.json_patch.specs.Operation.{Operation, IsWholeOp, AreWhole};
+ghost use Rattle.json_patch.specs.RunComputed.{after_run, after_step};
+ghost use Rattle.json_patch.specs.SameComputed.{same};
+ghost use Rattle.jsonptr.specs.Text.{Pointer};
+ghost use Rattle.serde_json.specs.declared.value.Value.{Value as ValueOf};
+ghost use Rattle.json_patch.specs.InPlace.{IsUnescaped, NeverShort};
+ghost use Rattle.json_patch.specs.Marked.{is_mark, the_mark, AreMarkedItems, seen, seen_items, seen_members};
+
+use crate::error::{PatchErrorKind, StepFault};
+use jsonptr::{Token, Tokens};
+use serde_json::{Map, Number, Value};
+use std::alloc::Global;
+use std::mem;
+
+/// Whether the value is a mark: a number that isn't whole.
+#[tactic(auto, using(serde_json::specs::declared::value::Value::the_lemmas))]
+pub(crate) fn is_mark(value: &Value) -> bool
+    ensures { result ≡ is_mark (view value.now) }
+{
+    match value {
+        Value::Number(number) => number.is_f64(),
+        _ => false,
+    }
+}
+
+/// A mark.
+#[tactic(auto, using(serde_json::specs::declared::value::Value::the_lemmas))]
+pub(crate) fn mark() -> Value
+    ensures { view result ≡ the_mark }
+{
+    Value::from(0.5)
+}
+
+/// How many items stand before the marks at the end.
+pub(crate) fn live_count(items: &Vec<Value>) -> usize
+    requires { AreMarkedItems (items_view items.now.items) }
+    ensures count { result ≡ items_len (seen_items (items_view items.now.items)) }
+    ensures within { result ≤ vec_len items.now }
+{
+    let Some(last) = items.last() else {
+        return 0;
+    };
+    if !is_mark(last) {
+        return items.len();
+    }
+    items.partition_point(|item| !is_mark(item))
+}
+
+/// Takes the marks out of the value. It takes no memory.
+#[cycle(clear)]
+pub(crate) fn clear(value: &mut Value)
+    ensures { view value.new ≡ seen (view value.old) }
+{
+    match value {
+        Value::Array(items) => clear_items(items),
+        Value::Object(members) => clear_members(members),
+        _ => {}
+    }
+}
+
+#[cycle(clear)]
+fn clear_items(items: &mut Vec<Value>)
+    ensures { items_view items.new.items ≡ seen_items (items_view items.old.items) }
+{
+    let count = first_mark(items);
+    items.truncate(count);
+    for i in 0..count {
+        clear(&mut items[i]);
+    }
+}
+
+#[cycle(clear)]
+fn clear_members(members: &mut Map<String, Value>)
+    ensures { members_view members.new.entries ≡ seen_members (members_view members.old.entries) }
+{
+    members.retain(
+        |_name, member|
+            ensures kept { result ≡ not (is_mark (view member.old)) }
+            ensures cleared { view member.new ≡ seen (view member.old) }
+        {
+            let kept = !is_mark(member);
+            clear(member);
+            kept
+        },
+    );
+}
+
+/// How many items stand before the first mark.
+fn first_mark(items: &Vec<Value>) -> usize
+    ensures count { result ≡ items_len (seen_items (items_view items.now.items)) }
+    ensures within { result ≤ vec_len items.now }
+{
+    let mut count = 0;
+    for item in items {
+        if is_mark(item) {
+            return count;
+        }
+        count += 1;
+    }
+    count
+}
