@@ -8,6 +8,9 @@ ATOMS = [None, True, False, 0, 1, 2, -1, 18446744073709551615, -9223372036854775
          9223372036854775807, 9223372036854775808, "", "x", "text", "~0", "/", "\u00e9\U0001F600", "\u0001"]
 BAD_TOKENS = ["00", "01", "+1", "-1", "1a", " ", "18446744073709551615", "18446744073709551616", "-", ""]
 OPERATIONS = ["add", "add", "remove", "replace", "move", "move", "copy", "test"]
+# of the dense lists, which take away and put in again and again at so many places
+DENSE = ["remove", "remove", "remove", "move", "move", "move", "add", "add", "copy", "test", "replace"]
+PLACES = 4
 LONGEST = 30
 
 
@@ -63,11 +66,26 @@ class Cases:
 
     def operation(self, document):
         name = self.random.choice(OPERATIONS)
+        return self.operation_at(document, name, lambda: self.source(document), lambda: self.target(document))
+
+    def dense_operation(self, document, places):
+        """An operation at one of the places, or at something that stands at one or below."""
+        def source():
+            tokens = self.random.choice(places)
+            try:
+                below, _ = self.way(self.model.found(document, tokens))
+            except Refused:
+                return tokens
+            return tokens + below if self.random.random() < 0.3 else tokens
+
+        return self.operation_at(document, self.random.choice(DENSE), source, source)
+
+    def operation_at(self, document, name, source, target):
         if name == "add":
-            return {"op": name, "path": pointer(self.target(document)), "value": self.value(2)}
+            return {"op": name, "path": pointer(target()), "value": self.value(2)}
         if name in ("move", "copy"):
-            return {"op": name, "from": pointer(self.source(document)), "path": pointer(self.target(document))}
-        tokens = self.source(document)
+            return {"op": name, "from": pointer(source()), "path": pointer(target())}
+        tokens = source()
         if name == "remove":
             return {"op": name, "path": pointer(tokens)}
         if name == "replace":
@@ -83,11 +101,23 @@ class Cases:
     def patch_case(self):
         """A document and a list of up to thirty operations, of which most are accepted."""
         document = self.value()
+        return self.list_on(document, self.random.randrange(LONGEST + 1), 0.1, self.operation)
+
+    def dense_case(self):
+        """The same, dense in `remove` and `move` at few places, so that a list finds again and again
+        what it took away."""
+        document = self.value()
+        places = [self.target(document) for _ in range(PLACES)]
+        tries = self.random.randrange(2 * LONGEST + 1)
+        return self.list_on(document, tries, 0.02, lambda state: self.dense_operation(state, places))
+
+    def list_on(self, document, tries, refused, next_operation):
+        """A list of what is tried; of what would be refused, so large a share is taken."""
         state, operations = copied(document), []
-        for _ in range(self.random.randrange(LONGEST + 1)):
-            operation = self.operation(state)
+        for _ in range(tries):
+            operation = next_operation(state)
             ended, after = self.after(state, operation)
-            if ended and self.random.random() < 0.9:
+            if ended and self.random.random() >= refused:
                 continue
             operations.append(operation)
             if ended and self.random.random() < 0.9:

@@ -188,7 +188,8 @@ def compared(seed, count, others, ours, all_peers):
     cases, tally, done = Cases(seed), Tally(), 0
     while done < count:
         size = min(BATCH, count - done)
-        patches = [cases.patch_case() for _ in range(size)]
+        # half of the lists are dense
+        patches = [cases.dense_case() if place % 2 else cases.patch_case() for place in range(size)]
         batch = Batch(ours, patches, [cases.merge_case() for _ in range(size)])
         judge(tally, batch)
         for peer in all_peers:
