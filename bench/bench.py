@@ -1,17 +1,21 @@
 #!/usr/bin/env python3
 """Times single calls and whole programs beside three other implementations, in turn, and draws a picture.
 
-    bench/bench.py --calls DRIVER --tool TOOL [--rust-calls R --rust-tool S] [--rounds N] [--picture FILE]
+    bench/bench.py --calls DRIVER --tool TOOL [--rust-calls R --rust-tool S] [--rounds N]
+        [--rows WORDS..] [--beside rust|nlohmann|python|none ..] [--picture FILE]
 
 DRIVER is the program of bench/driver.rt.txt, which `diff/build FOLDER json_patch_timing
 bench/driver.rt.txt json_patch_editor` proves and builds; TOOL is json_patch_tool, which `rt run --
 patch < stdin` leaves in its folder out/. R and S are the programs of bench/rust/main.rs and
 diff/rust/main.rs, both round the Rust crate json-patch 5.0.0. nlohmann/json (Debian's
 nlohmann-json3-dev, with g++) and Python's jsonpatch (Debian's python3-jsonpatch) are taken where they
-are installed. In each round each program is called once, one after another; what is printed is the
-ratio of the medians, with the least and the greatest ratio of a round. The picture shows the time of
-one `replace` against the document's size. An edit and its undo by the editor are timed beside the same
-edit through a copy of the document.
+are installed; `--beside` names those that are wanted. The Rust crate keeps `apply_patches` to itself, so
+beside ours stands its `patch`. In each round each program is called once, one after another; what is
+printed is the ratio of the medians, with the least and the greatest ratio of a round. An edit and its
+undo by the editor are timed beside the same edit through a copy of the document. With `--rows` only
+the calls and programs are timed whose line has one of these texts, and nothing else. The picture shows
+the time of one `replace`, and of a list of mixed operations, against the document's size. Two lists that
+are apart are compared, too.
 """
 import argparse
 import json
@@ -44,15 +48,18 @@ class Side:
 
 
 def sides(asked, folder):
+    wanted = lambda other: not asked.beside or other in asked.beside
     modes = {"patch": "patch", "merge": "merge"}
-    found = [Side("here", [asked.calls], modes, [asked.tool, "patch"])]
-    if asked.rust_calls and asked.rust_tool:
-        found.append(Side("json-patch 5.0.0", [asked.rust_calls], modes, [asked.rust_tool, "patch"]))
-    if shutil.which("g++") and os.path.isdir("/usr/include/nlohmann"):
+    ours = {mode: mode for mode in ("patch", "merge", "patch_unsafe", "apply_patches")}
+    found = [Side("here", [asked.calls], ours, [asked.tool, "patch"])]
+    if wanted("rust") and asked.rust_calls and asked.rust_tool:
+        theirs = {**ours, "apply_patches": "patch"}
+        found.append(Side("json-patch 5.0.0", [asked.rust_calls], theirs, [asked.rust_tool, "patch"]))
+    if wanted("nlohmann") and shutil.which("g++") and os.path.isdir("/usr/include/nlohmann"):
         timer = compiled(folder, os.path.join(HERE, "nlohmann.cpp"))
         program = compiled(folder, os.path.join(TOP, "diff", "nlohmann.cpp"))
         found.append(Side("nlohmann/json", [timer], {**modes, "in place": "inplace"}, [program, "patch"]))
-    if subprocess.run([PYTHON, "-c", "import jsonpatch"], capture_output=True).returncode == 0:
+    if wanted("python") and subprocess.run([PYTHON, "-c", "import jsonpatch"], capture_output=True).returncode == 0:
         timer = [PYTHON, os.path.join(HERE, "python_peer.py")]
         program = [PYTHON, os.path.join(TOP, "diff", "python_peer.py")]
         modes = {"patch": "patch", "in place": "inplace"}
@@ -64,11 +71,11 @@ def line_of(case):
     return (json.dumps(case, separators=(",", ":")) + "\n").encode()
 
 
-def call(side, mode, count, line):
+def call(side, mode, count, line, end="accepted"):
     """The nanoseconds of one call."""
-    command = [*side.timer, side.modes[mode], str(count)]
+    command = [*side.timer, side.modes[mode], str(count), end]
     spent = int(subprocess.run(command, input=line, capture_output=True, check=True).stdout)
-    assert spent > 0, f"{side.name}: a call was refused"
+    assert spent > 0, f"{side.name}: a call had the wrong end"
     return spent
 
 
@@ -106,19 +113,29 @@ def report(name, times):
     print("; ".join(told), flush=True)
 
 
+def chosen(asked, name):
+    return not asked.rows or any(words in name for words in asked.rows)
+
+
 def calls(asked, found):
     print("Calls: our median, and its ratio to each other (least and greatest of a round)")
-    for name, mode, count, case in workloads.CALLS:
-        line = line_of(case)
-        able = [side for side in found if mode in side.modes]
+    for what, mode, count, case in workloads.CALLS:
+        name = what if mode == "merge" else f"{mode}: {what}"
+        if not chosen(asked, name):
+            continue
+        line, end = line_of(case), "refused" if what == workloads.REFUSED else "accepted"
+        # the timers of those that have no `patch_unsafe` end where a call is refused
+        able = [side for side in found if mode in side.modes and (end == "accepted" or "patch_unsafe" in side.modes)]
         # a slow peer makes fewer calls
         some = lambda side: max(1, count // 10) if side.timer[0] == PYTHON else count
-        report(name, rounds_of(asked, able, lambda side: call(side, mode, some(side), line)))
+        report(name, rounds_of(asked, able, lambda side: call(side, mode, some(side), line, end)))
 
 
 def programs(asked, found):
     print("Whole programs: reading, patching and writing")
     for name, case in workloads.PROGRAMS:
+        if not chosen(asked, name):
+            continue
         line, written = line_of(case), []
 
         def measure(side):
@@ -132,17 +149,26 @@ def programs(asked, found):
 
 
 def sizes(asked, found):
-    """One replace in documents of several sizes: the median time of each call, by its name."""
+    """In documents of several sizes, the median time of each call, by its name: one replace by each,
+    and 100 mixed operations by ours and the Rust crate's."""
     lines = {}
+
+    def timed(name, side, mode, size, count, line):
+        some = max(1, count // 20) if side.timer[0] == PYTHON else count
+        times = [call(side, mode, some, line) for _ in range(asked.rounds)]
+        lines.setdefault(name, []).append((size, statistics.median(times)))
+
     for size, rows, count in workloads.SIZES:
         line = line_of(workloads.replace_in_the_middle(rows))
         for side in found:
-            for mode in side.modes:
-                if mode != "merge":
-                    some = max(1, count // 20) if side.timer[0] == PYTHON else count
-                    times = [call(side, mode, some, line) for _ in range(asked.rounds)]
-                    name = side.name if mode == "patch" else f"{side.name}, in place"
-                    lines.setdefault(name, []).append((size, statistics.median(times)))
+            timed(side.name, side, "patch", size, count, line)
+            if "in place" in side.modes:
+                timed(f"{side.name}, in place", side, "in place", size, count, line)
+    for size, rows, count in workloads.SIZES[1:]:
+        line = line_of((workloads.rows(rows), workloads.MIXED))
+        for side in found:
+            if "patch_unsafe" in side.modes:
+                timed(f"{side.name}, 100 mixed", side, "patch", size, max(1, count // 20), line)
     for name, points in lines.items():
         print(f"{name}: " + ", ".join(f"{size} B {shown(spent)}" for size, spent in points))
     return lines
@@ -160,6 +186,16 @@ def edits(asked):
         print(f"{size} B: " + ", ".join(told), flush=True)
 
 
+def comparisons(asked):
+    """`are_apart` on two lists that are."""
+    print("Two lists that are apart, compared")
+    side = Side("here", [asked.calls], {"apart": "apart"}, None)
+    for name, count, lists in workloads.APART:
+        line = line_of(lists)
+        times = [call(side, "apart", count, line) for _ in range(asked.rounds)]
+        print(f"{name}: {shown(statistics.median(times))} ({shown(min(times))} to {shown(max(times))})", flush=True)
+
+
 def main():
     words = argparse.ArgumentParser()
     words.add_argument("--calls", required=True)
@@ -167,13 +203,18 @@ def main():
     words.add_argument("--rust-calls")
     words.add_argument("--rust-tool")
     words.add_argument("--rounds", type=int, default=7)
+    words.add_argument("--rows", nargs="+")
+    words.add_argument("--beside", nargs="+", choices=["rust", "nlohmann", "python", "none"])
     words.add_argument("--picture")
     asked = words.parse_args()
     with tempfile.TemporaryDirectory() as folder:
         found = sides(asked, folder)
         calls(asked, found)
         programs(asked, found)
+        if asked.rows:
+            return
         edits(asked)
+        comparisons(asked)
         lines = sizes(asked, found)
         if asked.picture:
             with open(asked.picture, "w", encoding="utf-8") as file:

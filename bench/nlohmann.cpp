@@ -1,7 +1,7 @@
 // Times the calls of nlohmann/json as bench/driver.rt.txt times those here: its arguments are
 // `MODE COUNT`, its input is `[document,patch]`, and it prints the nanoseconds of one call, each made
 // on a fresh copy whose making isn't counted. The modes are `patch`, which answers a new document,
-// `inplace`, which leaves a refused patch part-way, and `merge`.
+// `inplace`, which leaves a refused patch part-way, and `merge`; and those of bench/c_calls.c.
 #include <chrono>
 #include <iostream>
 #include <nlohmann/json.hpp>
@@ -10,11 +10,33 @@
 using nlohmann::json;
 using Clock = std::chrono::steady_clock;
 
+// From the two texts to the new one; or a document that is kept, changed in place by the patch's text.
+long long from_texts(const json& pair, const std::string& mode, long count) {
+    const std::string document = pair[0].dump(), patch = pair[1].dump();
+    json kept = pair[0];
+    std::size_t written = 0;
+    const auto start = Clock::now();
+    for (long i = 0; i < count; ++i) {
+        if (mode == "kept") kept.patch_inplace(json::parse(patch));
+        else {
+            json work = json::parse(document);
+            work.patch_inplace(json::parse(patch));
+            written += work.dump().size();
+        }
+    }
+    const auto spent = std::chrono::nanoseconds(Clock::now() - start).count() / count;
+    return mode == "kept" || written ? spent : 0;
+}
+
 int main(int, char** argv) {
     std::ios::sync_with_stdio(false);
     const std::string mode = argv[1];
     const long count = std::stol(argv[2]);
     const json pair = json::parse(std::cin);
+    if (mode == "texts" || mode == "kept") {
+        std::cout << from_texts(pair, mode, count) << '\n';
+        return 0;
+    }
     const json &document = pair[0], &change = pair[1];
     Clock::duration spent{};
     for (long i = 0; i < count; ++i) {

@@ -3,10 +3,10 @@ import math
 
 WIDTH, HEIGHT = 760, 460
 LEFT, RIGHT, TOP, BOTTOM = 80, 210, 40, 60
-COLOURS = ["#c0392b", "#2c3e50", "#2980b9", "#7fb3d5", "#b9770e", "#e0b46c"]
+COLOURS = ["#c0392b", "#2c3e50", "#2980b9", "#7fb3d5", "#b9770e", "#e0b46c", "#e6a39b", "#95a5a6"]
 SIZES = {3: "1 kB", 4: "10 kB", 5: "100 kB", 6: "1 MB", 7: "10 MB"}
 TIMES = {2: "100 ns", 3: "1 µs", 4: "10 µs", 5: "100 µs", 6: "1 ms", 7: "10 ms", 8: "100 ms", 9: "1 s", 10: "10 s"}
-TITLE = "One replace in a document of this size: time of the call"
+TITLE = "One replace, or 100 mixed operations, in a document of this size: time of the call"
 
 
 def of(lines):

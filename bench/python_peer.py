@@ -1,7 +1,7 @@
 """Times the calls of Python's jsonpatch as bench/driver.rt.txt times those here: its arguments are
 `MODE COUNT`, its input is `[document,patch]`, and it prints the nanoseconds of one call. The modes are
 `patch`, which answers a new document, and `inplace`, which leaves a refused patch part-way and works
-on a fresh copy, whose making isn't counted."""
+on a fresh copy, whose making isn't counted; and those of bench/c_calls.c, in place too."""
 import copy
 import json
 import sys
@@ -11,6 +11,23 @@ import jsonpatch
 
 mode, count = sys.argv[1], int(sys.argv[2])
 document, operations = json.load(sys.stdin)
+
+
+def from_texts():
+    document_text, patch_text = json.dumps(document), json.dumps(operations)
+    start = time.perf_counter_ns()
+    for _ in range(count):
+        work = document if mode == "kept" else json.loads(document_text)
+        made = jsonpatch.JsonPatch.from_string(patch_text).apply(work, in_place=True)
+        if mode == "texts":
+            json.dumps(made)
+    return time.perf_counter_ns() - start
+
+
+if mode in ("texts", "kept"):
+    print(from_texts() // count)
+    sys.exit()
+
 changes = jsonpatch.JsonPatch(operations)
 spent = 0
 for _ in range(count):

@@ -111,6 +111,38 @@ class Cases:
         tries = self.random.randrange(2 * LONGEST + 1)
         return self.list_on(document, tries, 0.02, lambda state: self.dense_operation(state, places))
 
+    def pair_case(self):
+        """A document, and two lists on it that are dense at few places: half of them at children of one
+        parent, the one list's and the other's."""
+        crowded = [self.value() for _ in range(self.random.randrange(2, 5))]
+        named = dict(zip(self.random.sample(NAMES, len(crowded)), crowded))
+        document = self.random.choice([crowded, named])
+        mine = [self.target(document) for _ in range(self.random.randrange(1, 4))]
+        yours = [self.target(document) for _ in range(self.random.randrange(1, 4))]
+        if self.random.random() < 0.5:
+            children = self.children(document)
+            cut = self.random.randrange(1, len(children))
+            mine, yours = children[:cut], children[cut:]
+        return [document, self.list_at(document, mine), self.list_at(document, yours)]
+
+    def children(self, document):
+        """The tokens of the children of a parent that has two or more, or of places below them, in any
+        order."""
+        tokens, found = self.way(document)
+        while not isinstance(found, (dict, list)) or len(found) < 2:
+            tokens = tokens[:-1]
+            found = self.model.found(document, tokens)
+        names = list(found) if isinstance(found, dict) else [str(place) for place in range(len(found))]
+        self.random.shuffle(names)
+        return [tokens + [name] + self.target(self.model.child(found, name)) for name in names]
+
+    def list_at(self, document, places):
+        """A list at the places, of one operation or more."""
+        tries, made = self.random.randrange(1, 9), []
+        while not made:
+            made = self.list_on(document, tries, 0.1, lambda state: self.dense_operation(state, places))[1]
+        return made
+
     def list_on(self, document, tries, refused, next_operation):
         """A list of what is tried; of what would be refused, so large a share is taken."""
         state, operations = copied(document), []

@@ -41,6 +41,11 @@ def tokens_of(text):
     return [part.replace("~1", "/").replace("~0", "~") for part in text.split("/")[1:]]
 
 
+def all_diverge(pointers, others):
+    """Whether none begins one of the others, or is begun by one."""
+    return all(p[: len(q)] != q[: len(p)] for p in pointers for q in others)
+
+
 class Model:
     def place(self, token):
         """The number that a token names, or None."""
@@ -139,9 +144,35 @@ class Model:
                 members[name] = self.merged(members.get(name), change)
         return members
 
+    def reach(self, tokens):
+        """All that an add or a remove there may change."""
+        place = tokens and (tokens[-1] == "-" or self.place(tokens[-1]) is not None)
+        return tokens[:-1] if place else tokens
+
+    def footprint(self, operation):
+        """The pointers of what the operation changes, and of what it only reads."""
+        name, tokens = operation["op"], tokens_of(operation["path"])
+        if name == "test":
+            return [], [tokens]
+        if name == "replace":
+            return [tokens], []
+        if name == "move":
+            return [self.reach(tokens_of(operation["from"])), self.reach(tokens)], []
+        return [self.reach(tokens)], [tokens_of(operation["from"])] if name == "copy" else []
+
+    def are_apart(self, xs, ys):
+        """Whether no operation of the one list changes what one of the other changes or reads."""
+        pairs = [(self.footprint(x), self.footprint(y)) for x in xs for y in ys]
+        return all(
+            all_diverge(changed, changed_there + read_there) and all_diverge(changed_there, read)
+            for (changed, read), (changed_there, read_there) in pairs
+        )
+
     def answer(self, mode, document, changes):
         """The answer that is right: the document, or a refusal with its number, path and kind and with
         what is left of the document. The inverse of a recorded run is no part of it."""
+        if mode == "apart":
+            return ("ok", self.are_apart(document, changes))
         if mode == "merge":
             return ("ok", self.merged(document, changes))
         state = copied(document)

@@ -1,9 +1,10 @@
 #!/usr/bin/env python3
 """Random cases, answered by the crates here and by others, and compared.
 
-    diff/run.py [--seed S] [--cases N] [--ours PROGRAM] [--rust PROGRAM]
+    diff/run.py [--seed S] [--cases N] [--ours PROGRAM] [--modes MODE,..] [--rust PROGRAM]
 
-`--ours` is the program of diff/driver.rt.txt, built by diff/build; `--rust` a program round the Rust crate
+`--ours` is the program of diff/driver.rt.txt, built by diff/build, or diff/c_peer.py, which calls
+the library for C and has the modes patch, record and merge; `--rust` a program round the Rust crate
 json-patch 5.0.0 that answers lines as that driver does (diff/rust/main.rs). nlohmann/json
 (Debian's nlohmann-json3-dev, with g++) and Python's jsonpatch (Debian's python3-jsonpatch) are
 taken where they are installed.
@@ -30,6 +31,7 @@ from model import Model
 
 HERE = os.path.dirname(os.path.abspath(__file__))
 BATCH = 20_000
+MODES = ("patch", "unsafe", "record", "merge")
 MODEL, PATCH_HERE = "diff/model.py", "patch here"
 
 
@@ -146,8 +148,8 @@ class Batch:
     that of `record` is the document or the refusal, and `inverses` has, for each list that was
     accepted, the first document with the pair that is to lead back to it."""
 
-    def __init__(self, ours, patches, merges):
-        self.cases = {"patch": patches, "unsafe": patches, "record": patches, "merge": merges}
+    def __init__(self, ours, modes, patches, merges):
+        self.cases = {mode: merges if mode == "merge" else patches for mode in modes}
         self.lines = {mode: list(map(text, cases)) for mode, cases in self.cases.items()}
         self.told = {mode: list(map(meaning, answers([*ours, mode], lines))) for mode, lines in self.lines.items()}
         self.inverses = []
@@ -169,7 +171,7 @@ def judge(tally, batch):
 
 
 def compare(tally, batch, peer):
-    for mode in peer.modes:
+    for mode in (mode for mode in peer.modes if mode in batch.cases):
         theirs = list(map(meaning, answers([*peer.command, mode], batch.lines[mode])))
         for ours in ("patch", "record") if mode == "patch" else (mode,):
             tally.compare(peer, ours, batch.cases[ours], batch.told[ours], theirs)
@@ -183,14 +185,14 @@ def compare_inverses(tally, batch, peer):
     tally.compare(peer, "inverse", pairs, first, theirs)
 
 
-def compared(seed, count, others, ours, all_peers):
+def compared(seed, count, others, ours, all_peers, modes=MODES):
     """The tally of that many cases; `others` is how many the peers get that don't tell a whole answer."""
     cases, tally, done = Cases(seed), Tally(), 0
     while done < count:
         size = min(BATCH, count - done)
         # half of the lists are dense
         patches = [cases.dense_case() if place % 2 else cases.patch_case() for place in range(size)]
-        batch = Batch(ours, patches, [cases.merge_case() for _ in range(size)])
+        batch = Batch(ours, modes, patches, [cases.merge_case() for _ in range(size)])
         judge(tally, batch)
         for peer in all_peers:
             if peer.tells == 4 or others is None or done < others:
@@ -206,13 +208,15 @@ def main():
     words.add_argument("--cases", type=int, default=2_000)
     words.add_argument("--others", type=int, default=None, help="cases for the peers that are not the Rust crate")
     words.add_argument("--ours", required=True)
+    words.add_argument("--modes", default=",".join(MODES))
     words.add_argument("--rust")
     asked = words.parse_args()
     wrong = tables.faults()
     if wrong:
         sys.exit("\n".join(wrong))
     with tempfile.TemporaryDirectory() as folder:
-        tally = compared(asked.seed, asked.cases, asked.others, [asked.ours], peers(asked.rust, folder))
+        others, modes = peers(asked.rust, folder), asked.modes.split(",")
+        tally = compared(asked.seed, asked.cases, asked.others, [asked.ours], others, modes)
     tally.report()
     sys.exit(1 if tally.faults() else 0)
 

@@ -20,7 +20,7 @@ KINDS = {
     "cannot move the value inside itself": "CannotMoveInsideItself",
 }
 REFUSAL = re.compile(r"operation '/(\d+)' failed at path '(.*)': (.*)")
-ITEM = re.compile(r"^const (\w+): &(?:str|\[Case\]) = ", re.MULTILINE)
+ITEM = re.compile(r"^const (\w+): &(?:str|\[(?:Case|Pair)\]) = ", re.MULTILINE)
 LEXEME = re.compile(
     r'r(?P<hashes>#*)"(?P<raw>.*?)"(?P=hashes)|"(?P<text>(?:\\.|[^"\\])*)"|(?P<word>\w+(?:::\w+)*!?)'
     r"|\s+|//[^\n]*|(?P<mark>[^\s\w])",
@@ -89,15 +89,19 @@ def vectors():
     for path in sorted(glob.glob(VECTORS)):
         with open(path, encoding="utf-8") as file:
             text = file.read()
-        constants = {"None": None}
+        constants = {"None": None, "true": True, "false": False}
         for item in ITEM.finditer(text):
             constants[item[1]] = Source(text[item.end() :], constants).value()
         yield from constants.get("CASES", [])
+        yield from constants.get("PAIRS", [])
 
 
 def rows():
     """Each row of the tables: its mode, its document and patch, and the answer worked by hand."""
     for case in vectors():
+        if "are_apart" in case:
+            yield "apart", json.loads(case["first"]), json.loads(case["second"]), ("ok", case["are_apart"])
+            continue
         given = [json.loads(case["document"]), json.loads(case["patch"])]
         if "merged" in case:
             yield "merge", *given, ("ok", json.loads(case["merged"]))
@@ -130,9 +134,9 @@ def accepted(given, after, inverse):
 
 def faults(model=Model()):
     """What the model answers otherwise, and a table that isn't there."""
-    wrong, read = [], {"ok": 0, "refused": 0, "merge": 0}
+    wrong, read = [], {"ok": 0, "refused": 0, "merge": 0, "apart": 0}
     for mode, document, changes, right in rows():
-        read["merge" if mode == "merge" else right[0]] += 1
+        read[mode if mode in read else right[0]] += 1
         answer = model.answer(mode, document, changes)
         if len(answer) != len(right) or not all(map(same, answer, right)):
             wrong.append(f"diff/model.py, {mode}: {document} with {changes}: {answer}, not {right}")

@@ -1,6 +1,7 @@
 #!/usr/bin/env python3
-"""Asks that diff/run.py passes a driver that is right, and finds out each that is wrong in one way
-(diff/wrong_driver.py), by each comparison that has to see it. It takes half a minute.
+"""Asks that diff/run.py and diff/apart.py pass a driver that is right, and find out each that is wrong
+in one way (diff/wrong_driver.py), by each comparison that has to see it. It takes a minute and
+a half, and half a minute with programs.
 
     diff/try_wrong.py [--cases N] [--ours PROGRAM] [--rust PROGRAM]
 
@@ -13,6 +14,7 @@ import itertools
 import os
 import sys
 
+import apart
 import classes
 import run
 import tables
@@ -33,6 +35,12 @@ TRIALS = [
     ("refuses_all", RECORDED | {(OTHER, "inverse")}),
     ("leaves_null", JUDGED | {(OTHER, mode) for mode in ("patch", "unsafe", "record")}),
     ("loses_value", JUDGED),
+]
+# The same for diff/apart.py.
+PAIR_TRIALS = [
+    ("none", set()),
+    ("all_apart", {apart.DEFINITION, TWIN, OTHER}),
+    ("none_apart", {apart.DEFINITION, "all"}),
 ]
 
 
@@ -62,6 +70,13 @@ def tried(asked, fault, failing, other):
     return None
 
 
+def tried_on_pairs(asked, fault, failing, other):
+    """The same of a trial of diff/apart.py."""
+    ours = driver(fault, [asked.ours] if asked.ours else [])
+    found = set(apart.compared(asked.seed, asked.cases, ours, [apart.here(ours), apart.rust(other)]).faults())
+    return None if found == failing else f"found out by {found}"
+
+
 def nothing_compared():
     """What is wrong with runs in which nothing is compared."""
     other = run.rust_peer(driver("none", []))
@@ -81,8 +96,9 @@ def main():
     if not tables.faults(WrongModel()):
         wrong.append("the tables find no fault in a model that is wrong")
     others = [[asked.rust]] if asked.rust else [driver("none", []), driver("loses_value", [])]
-    for other, (fault, failing) in itertools.product(others, TRIALS):
-        why = tried(asked, fault, failing, other)
+    trials = [(tried, *trial) for trial in TRIALS] + [(tried_on_pairs, *trial) for trial in PAIR_TRIALS]
+    for other, (trial, fault, failing) in itertools.product(others, trials):
+        why = trial(asked, fault, failing, other)
         told = f"{fault}, the other {os.path.basename(other[-1])}"
         print(f"{told}: {why or ('found out' if failing else 'passed')}")
         wrong += [f"{told}: {why}"] if why else []

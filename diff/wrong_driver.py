@@ -57,11 +57,21 @@ def without_moved(case, answer, change):
         return answer
 
 
+def all_apart(mode, case, answer):
+    """Any two lists are apart."""
+    return ("ok", True) if mode == "apart" else answer
+
+
+def none_apart(mode, case, answer):
+    """No two lists are apart."""
+    return ("ok", False) if mode == "apart" else answer
+
+
 def none(mode, case, answer):
     return answer
 
 
-FAULTS = [none, records_nothing, forgets_inverse, refuses_all, leaves_null, loses_value]
+FAULTS = [none, records_nothing, forgets_inverse, refuses_all, leaves_null, loses_value, all_apart, none_apart]
 
 
 def line_of(answer):

@@ -3,7 +3,7 @@ from collections import namedtuple
 
 from patches import (
     ARTICLE, ARTICLE_MERGE, ARTICLE_MERGED, NAMES, NAMES_PATCH, VECTORS,
-    add, compact, indented, move, printed, printed_patch, remove, replace, test,
+    add, compact, copy, indented, move, printed, printed_patch, remove, replace, test,
 )
 
 MEMORY = "out of memory"
@@ -108,6 +108,145 @@ RUNS = {
     ),
 }
 
+# Lists whose later operations meet what earlier ones took away: in what they move, copy, test and
+# displace, and at its very place.
+TAKEN = {
+    "a member removed inside what is moved": Run(
+        [
+            {"a": {"b": 1, "c": 2}, "x": {}},
+            {"a": {"c": 2}, "x": {}},
+            {"x": {"a": {"c": 2}}},
+            {"x": {"a": {"c": 2}}},
+        ],
+        [remove("/a/b"), move("/a", "/x/a"), test("/x/a", {"c": 2})],
+        inverse=[remove("/x/a"), add("/a", {"c": 2}), add("/a/b", 1)],
+    ),
+    "a member removed inside what is copied": Run(
+        [
+            {"a": {"b": 1, "c": [2]}},
+            {"a": {"c": [2]}},
+            {"a": {"c": [2]}, "d": {"c": [2]}},
+            {"a": {"c": [2]}, "d": {"c": [2]}},
+        ],
+        [remove("/a/b"), copy("/a", "/d"), test("", {"a": {"c": [2]}, "d": {"c": [2]}})],
+        inverse=[remove("/d"), add("/a/b", 1)],
+    ),
+    "an item removed inside what is tested": Run(
+        [{"l": [1, 2, 3]}, {"l": [1, 3]}, {"l": [1, 3]}, {"l": [1, 3, 4]}],
+        [remove("/l/1"), test("/l", [1, 3]), add("/l/-", 4)],
+        inverse=[remove("/l/2"), add("/l/1", 2)],
+    ),
+    "members removed inside what is displaced": Run(
+        [
+            {"a": {"b": 1, "c": 2}, "x": [7, "text"]},
+            {"a": {"c": 2}, "x": [7, "text"]},
+            {"a": {"c": 2}, "x": ["text"]},
+            {"a": 5, "x": ["text"]},
+            {"a": 5, "x": 8},
+        ],
+        [remove("/a/b"), remove("/x/0"), replace("/a", 5), add("/x", 8)],
+        inverse=[replace("/x", ["text"]), replace("/a", {"c": 2}), add("/x/0", 7), add("/a/b", 1)],
+    ),
+    "a member removed inside what a move displaces": Run(
+        [{"a": {"b": 1, "c": 2}, "d": "text"}, {"a": {"c": 2}, "d": "text"}, {"a": "text"}],
+        [remove("/a/b"), move("/d", "/a")],
+        inverse=[replace("/a", {"c": 2}), add("/d", "text"), add("/a/b", 1)],
+    ),
+    "an add where a member was removed": Run(
+        [{"a": [1], "b": 2}, {"b": 2}, {"a": 3, "b": 2}, {"b": 2}, {"a": {}, "b": 2}],
+        [remove("/a"), add("/a", 3), remove("/a"), add("/a", {})],
+        inverse=[remove("/a"), add("/a", 3), remove("/a"), add("/a", [1])],
+    ),
+    "a move there and back": Run(
+        [{"a": [1], "b": 2}, {"b": 2, "c": [1]}, {"a": [1], "b": 2}, {"b": 2}],
+        [move("/a", "/c"), move("/c", "/a"), remove("/a")],
+        inverse=[add("/a", [1]), remove("/a"), add("/c", [1]), remove("/c"), add("/a", [1])],
+    ),
+    "items taken away from a list that grows": Run(
+        [
+            {"l": [1, 2, 3], "m": {}},
+            {"l": [2, 3], "m": {"x": 1}},
+            {"l": [2, 3, 4], "m": {"x": 1}},
+            {"l": [5, 2, 3, 4], "m": {"x": 1}},
+            {"l": [5, 3, 4], "m": {"x": 1}},
+            {"l": [3, 4, 5], "m": {"x": 1}},
+        ],
+        [move("/l/0", "/m/x"), add("/l/-", 4), add("/l/0", 5), remove("/l/1"), move("/l/0", "/l/2")],
+        inverse=[
+            remove("/l/2"), add("/l/0", 5), add("/l/1", 2), remove("/l/0"), remove("/l/2"),
+            remove("/m/x"), add("/l/0", 1),
+        ],
+    ),
+    "an item removed inside items that are copied and moved": Run(
+        [
+            [[1, 2], 3],
+            [[2], 3],
+            [[2], 3, [2]],
+            [3, [2], [2]],
+        ],
+        [remove("/0/0"), copy("/0", "/-"), move("/0", "/1")],
+        inverse=[remove("/1"), add("/0", [2]), remove("/2"), add("/0/0", 1)],
+    ),
+    "escaped names": Run(
+        [
+            {"a/b": {"m~n": 1, "o": 2}, "c": {}},
+            {"a/b": {"o": 2}, "c": {}},
+            {"c": {"d/e": {"o": 2}}},
+            {"a/b": {"o": 2}, "c": {"d/e": {"o": 2}}},
+            {"a/b": {"o": 3}, "c": {"d/e": {"o": 2}}},
+            {"a/b": {"o": 3}, "c": {"d/e": {"o": 2}}},
+        ],
+        [
+            remove("/a~1b/m~0n"), move("/a~1b", "/c/d~1e"), copy("/c/d~1e", "/a~1b"),
+            replace("/a~1b/o", 3), test("/c/d~1e", {"o": 2}),
+        ],
+        inverse=[
+            replace("/a~1b/o", 2), remove("/a~1b"), remove("/c/d~1e"), add("/a~1b", {"o": 2}),
+            add("/a~1b/m~0n", 1),
+        ],
+    ),
+    "a failed test after removes and moves": Run(
+        [
+            {"a": {"b": 1, "c": 2}, "l": [1, 2]},
+            {"a": {"c": 2}, "l": [1, 2]},
+            {"a": {"c": 2, "d": 1}, "l": [2]},
+            {"a": {"c": 2, "d": 1}, "e": {"c": 2, "d": 1}, "l": [2]},
+            {"a": {"c": 2, "d": 1}, "e": {"c": 2, "d": 1}, "l": [5]},
+        ],
+        [remove("/a/b"), move("/l/0", "/a/d"), copy("/a", "/e"), replace("/l/0", 5), test("/a/c", 9)],
+        refusal=refusal(4, "/a/c", "value did not match"),
+    ),
+    "a remove of what was moved away, with escaped names": Run(
+        [
+            {"a/b": [1], "m~n": {"x": 1}},
+            {"a/b": [1], "m~n": {}},
+            {"m~n": {"y/z": [1]}},
+            {"c~d": 3, "m~n": {"y/z": [1]}},
+            {"m~n": {"y/z": [1]}},
+        ],
+        [
+            remove("/m~0n/x"), move("/a~1b", "/m~0n/y~1z"), add("/c~0d", 3), remove("/c~0d"),
+            remove("/a~1b"),
+        ],
+        refusal=refusal(4, "/a~1b", NOT_FOUND),
+    ),
+    "a move below what was removed": Run(
+        [{"a": {"b": {}}, "c": 2}, {"a": {}, "c": 2}],
+        [remove("/a/b"), move("/c", "/a/b/x")],
+        refusal=refusal(1, "/a/b/x", NOT_FOUND),
+    ),
+    "a move of what was removed": Run(
+        [{"a": [1], "b": 2}, {"b": 2}, {"b": 2}],
+        [remove("/a"), test("", {"b": 2}), move("/a", "/b")],
+        refusal=refusal(2, "/b", '"from" path is invalid'),
+    ),
+    "an item past those that are left": Run(
+        [[1, 2, 3], [1, 2], [1]],
+        [remove("/2"), remove("/1"), replace("/1", 5)],
+        refusal=refusal(2, "/1", NOT_FOUND),
+    ),
+}
+
 IN_PLACE = {
     "an add and a move": Run(
         [{"a": 1}, {"a": 1, "b": 2}, {"b": 2, "c": 1}],
@@ -193,20 +332,33 @@ def pointer_calls():
         )
 
 
+# Lists at whose end marks may be left that don't stand where their values were taken from: they are
+# followed, and where memory for that is short a walk finds them. So a refused request may be answered
+# as if it hadn't been refused.
+FOLLOWED = {
+    "a member moved before its parent",
+    "a member removed inside what is moved",
+    "an item removed inside items that are copied and moved",
+    "escaped names",
+}
+
+
 def run_calls():
     """`patch` and `apply_patches` leave the document as it was; `patch_unsafe` leaves a state."""
-    for name, run in RUNS.items():
+    for name, run in {**RUNS, **TAKEN}.items():
         first, last = run.states[0], run.states[-1]
         if run.refusal:
             patched = recorded = left(run.refusal, first)
         else:
             patched, recorded = left("done", last), left(printed_patch(run.inverse), last)
         unchanged = [left(MEMORY, first)]
-        yield Call(f"patch: {name}", run.arguments("patch"), patched, unchanged)
-        yield Call(f"apply_patches: {name}", run.arguments("apply_patches"), recorded, unchanged)
-    for name, run in {**RUNS, **IN_PLACE}.items():
+        followed = name in FOLLOWED
+        yield Call(f"patch: {name}", run.arguments("patch"), patched, unchanged + [patched] * followed)
+        arguments = run.arguments("apply_patches")
+        yield Call(f"apply_patches: {name}", arguments, recorded, unchanged + [recorded] * followed)
+    for name, run in {**RUNS, **TAKEN, **IN_PLACE}.items():
         answer = left(run.refusal or "done", run.states[-1])
-        short = [left(MEMORY, state) for state in run.states]
+        short = [left(MEMORY, state) for state in run.states] + [answer] * (name in FOLLOWED)
         yield Call(f"patch_unsafe: {name}", run.arguments("patch_unsafe"), answer, short)
 
 
@@ -320,6 +472,19 @@ def vector_calls():
         answer = left(indented(document), text)
         yield Call("pretty", ["pretty", text], answer, [left(MEMORY, text)])
         yield text_call("a document", "document_from_str", document, text)
+    # What says no document or no patch is no answer either where memory is short.
+    for call, text, why in (
+        ("document_from_str", '{"a":[1,2', "text is not JSON: EOF while parsing at line 1 column 9"),
+        ("document_from_str", '{"a":["text",1.5]}', "document holds a number that is not whole"),
+        ("patch_from_str", '[{"op":"add"', "text is not JSON: EOF while parsing at line 1 column 12"),
+        ("patch_from_str", '{"op":"add"}', "patch is not a list"),
+        (
+            "patch_from_str",
+            '[{"op":"remove","path":"/a"},{"op":"add","path":"/b"}]',
+            """operation '/1': member "value" is missing""",
+        ),
+    ):
+        yield Call(f"from_str: no {call.partition('_')[0]}", [call, text], left(why, text), [left(MEMORY, text)])
 
 
 def tool_runs():
@@ -371,7 +536,7 @@ def large_calls():
     for name, first, operations, last, fewer_than in (
         ("below a member", document, [add("/x/b", 2)], {**members, "x": {"b": 2}}, 64),
         ("in an item", items, [add("/500/x/b", 2)], changed, 64),
-        ("below a member, on a copy", filled, [remove("/x/a"), remove("/x/b")], document, 64),
+        ("of two below a member", filled, [remove("/x/a"), remove("/x/b")], document, 16),
         ("beside members", members, [add("/x", 2)], set_to_2, 16),
         ("of a member", document, [replace("/x", 2)], set_to_2, 16),
         ("of a member", document, [remove("/x")], members, 1),
@@ -380,10 +545,21 @@ def large_calls():
         line = f"patch: {operations[0]['op']} {name}, of 1000"
         arguments = ["patch", compact(first), compact(operations)]
         yield Bound(line, arguments, left("done", compact(last)), fewer_than)
+    # Neither copies what its places share, in each of the calls; `inverse` is what the last answers.
+    renamed = {name: text for name, text in members.items() if name != "m500"}
+    for operation, last, inverse in (
+        (move("/m500", "/y"), {**renamed, "y": "abcdefghij"}, [remove("/y"), add("/m500", "abcdefghij")]),
+        (remove("/m500"), renamed, [add("/m500", "abcdefghij")]),
+    ):
+        for call in ("patch", "patch_unsafe", "apply_patches"):
+            told = printed_patch(inverse) if call == "apply_patches" else "done"
+            line = f"{call}: {operation['op']} of a member, of 1000"
+            arguments = [call, compact(members), compact([operation])]
+            yield Bound(line, arguments, left(told, compact(last)), 16)
     removes = [remove("/x/a"), remove("/x/b")]
     yield Bound(
-        "apply_patches: remove below a member, on a copy, of 1000",
+        "apply_patches: remove of two below a member, of 1000",
         ["apply_patches", compact(filled), compact(removes)],
         left(printed_patch([add("/x/b", 2), add("/x/a", 1)]), compact(document)),
-        64,
+        16,
     )

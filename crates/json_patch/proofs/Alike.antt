@@ -1,5 +1,9 @@
 -- Documents that look alike everywhere are equal.
-use Rattle.json_patch.proofs.Common.{common_steps, ◌≡◌, ℕ, suc, List, [], ◌∷◌, Option, Ordering, Less, Equal, Greater, nat_cmp, refl, sym, ap, option_and_then, rules, arith, slice_cmp, Data, null, boolean, number, string, array, object, Items, no_items, item, Members, no_members, member, get_member, IsDocument, AreDocuments, AreMembers, IsBelowMembers, Segment, key, place, look, sight, sight_of, value_at, Sight}
+use Rattle.json_patch.proofs.Common.{common_steps, ◌≡◌, ℕ, suc, List, [], ◌∷◌, Option, Ordering, Less, Equal, Greater}
+use Rattle.json_patch.proofs.Common.{nat_cmp, refl, sym, ap, option_and_then, rules, arith, slice_cmp, Data, null}
+use Rattle.json_patch.proofs.Common.{boolean, number, string, array, object, Items, no_items, item, Members, no_members}
+use Rattle.json_patch.proofs.Common.{member, get_member, IsDocument, AreDocuments, AreMembers, IsBelowMembers, Segment}
+use Rattle.json_patch.proofs.Common.{key, place, look, sight, sight_of, value_at, Sight}
 use Rattle.json_patch.proofs.Members.{tied_same, less_back, below_more, below_absent, found_first}
 
 pub something : (d : Data) → sight_of d ≡ Sight.nothing → ⊥

@@ -1,5 +1,7 @@
 -- What `after_change` leaves, at every location.
-use Rattle.json_patch.proofs.Common.{◌≡◌, ℕ, List, [], ◌∷◌, ◌++◌, ⊎_elim, Option, Some, option_and_then, refl, sym, ap, ◌∙◌, subst, rules, option_and_then_some, Data, IsDocument, Segment, child, look, sight, value_at, Resolves, segment_of, set_child, after_change}
+use Rattle.json_patch.proofs.Common.{◌≡◌, ℕ, List, [], ◌∷◌, ◌++◌, ⊎_elim, Option, Some, option_and_then, refl, sym, ap}
+use Rattle.json_patch.proofs.Common.{◌∙◌, subst, rules, option_and_then_some, Data, IsDocument, Segment, child, look}
+use Rattle.json_patch.proofs.Common.{sight, value_at, Resolves, segment_of, set_child, after_change}
 use Rattle.json_patch.proofs.Members.{child_document, child_set, child_set_other, sight_set, set_document, step_cases}
 use Rattle.json_patch.proofs.Places.{IsApart}
 use Rattle.json_patch.proofs.Locations.{option_map_some, names_step}

@@ -1,6 +1,12 @@
 -- Two changes of a document at pointers that diverge commute, and neither is seen at the other's pointer.
-use Rattle.json_patch.proofs.Common.{◌≡◌, ℕ, zero, suc, List, ◌∷◌, ◌++◌, Option, Some, None, option_map, option_and_then, refl, sym, ap, ap₂, ◌∙◌, subst, rules, ⊎_elim, option_and_then_some, IfSome, Data, Items, no_items, item, object, array, IsDocument, Segment, key, place, child, sight_of, Sight, segment_of, set_child, set_item, without, pointee, after_change, after_replace, get_member-put, get_item, place_of, place_is_token, Pointer}
-use Rattle.json_patch.proofs.Members.{child_set_other, sight_set, set_document, step_cases, get_without, get_without_other, without_members, child_document}
+use Rattle.json_patch.proofs.Common.{◌≡◌, ℕ, zero, suc, List, ◌∷◌, ◌++◌, Option, Some, None, option_map}
+use Rattle.json_patch.proofs.Common.{option_and_then, refl, sym, ap, ap₂, ◌∙◌, subst, rules, ⊎_elim}
+use Rattle.json_patch.proofs.Common.{option_and_then_some, IfSome, Data, Items, no_items, item, object, array}
+use Rattle.json_patch.proofs.Common.{IsDocument, Segment, key, place, child, sight_of, Sight, segment_of, set_child}
+use Rattle.json_patch.proofs.Common.{set_item, without, pointee, after_change, after_replace, get_member-put, get_item}
+use Rattle.json_patch.proofs.Common.{place_of, place_is_token, Pointer}
+use Rattle.json_patch.proofs.Members.{child_set_other, sight_set, set_document, step_cases, get_without}
+use Rattle.json_patch.proofs.Members.{get_without_other, without_members, child_document}
 use Rattle.json_patch.proofs.BlocksLeadBack.{one_level, step_of_set, found_document}
 use Rattle.json_patch.proofs.Locations.{option_map_some}
 use Rattle.json_patch.proofs.StepOutcomes.{altered_walks}
@@ -216,9 +222,6 @@ local_found t u F f other d m R fa =
 
 altered_found : (f : Data → Option Data) (d : Data) (S : Pointer) (p : Data) → pointee d S ≡ Some p → after_change f d S ≡ option_and_then (λ q. after_replace d S q) (f p)
 altered_found f d S p at = altered_walks f d S ∙ ap (option_and_then (λ p. option_and_then (λ q. after_replace d S q) (f p))) at
-
-altered_nowhere : (f : Data → Option Data) (d : Data) (S : Pointer) → pointee d S ≡ None → after_change f d S ≡ None
-altered_nowhere f d S at = altered_walks f d S ∙ ap (option_and_then (λ p. option_and_then (λ q. after_replace d S q) (f p))) at
 
 -- f changes what stands at S, and m is left
 record MadeAt (f : Data → Option Data) (d : Data) (S : Pointer) (m : Data) : Type 0 where

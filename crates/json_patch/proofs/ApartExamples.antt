@@ -1,5 +1,7 @@
 -- Pointers that diverge are not enough where a list grows.
-use Rattle.json_patch.proofs.Common.{◌≡◌, [], ◌∷◌, ◌++◌, ap, Bool, true, false, bytes_eq, sym, ◌∙◌, IsDocument, IsWholeOp, path_of, Accepts, Ok, Err, Data, array, item, no_items, null, refl, Operation, add, replace, InvalidPointer, fault, after_run, next_token, Pointer}
+use Rattle.json_patch.proofs.Common.{◌≡◌, [], ◌∷◌, ◌++◌, ap, Bool, true, false, bytes_eq, sym, ◌∙◌, IsDocument}
+use Rattle.json_patch.proofs.Common.{IsWholeOp, path_of, Accepts, Ok, Err, Data, array, item, no_items, null, refl}
+use Rattle.json_patch.proofs.Common.{Operation, add, replace, InvalidPointer, fault, after_run, next_token, Pointer}
 use Rattle.jsonptr.specs.Places.{place_of}
 use Rattle.json_patch.specs.Apart.{Diverge}
 use Rattle.json_patch.proofs.Runs.{accepts_ran, ran_accepts}

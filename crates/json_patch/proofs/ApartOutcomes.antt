@@ -1,5 +1,10 @@
 -- Which changes act at or below a pointer, and pointers that diverge.
-use Rattle.json_patch.proofs.Common.{◌≡◌, ℕ, List, [], ◌∷◌, ◌++◌, append_assoc, append-nil, append_cancel_left, Option, Some, None, option_map, option_and_then, refl, sym, ap, ◌∙◌, subst, rules, IfSome, Bool, true, false, bytes_eq, if◌then◌else◌, bytes_eq-Decides, is_some, Data, object, array, IsDocument, Segment, key, child, segment_of, set_child, after_change, after_add, after_remove, after_replace, put_in, take_from, front_of, last_of, place_of, without, next_token, Pointer, IsPrefix}
+use Rattle.json_patch.proofs.Common.{◌≡◌, ℕ, List, [], ◌∷◌, ◌++◌, append_assoc, append-nil, append_cancel_left, Option}
+use Rattle.json_patch.proofs.Common.{Some, None, option_map, option_and_then, refl, sym, ap, ◌∙◌, subst, rules, IfSome}
+use Rattle.json_patch.proofs.Common.{Bool, true, false, bytes_eq, if◌then◌else◌, bytes_eq-Decides, is_some, Data}
+use Rattle.json_patch.proofs.Common.{object, array, IsDocument, Segment, key, child, segment_of, set_child}
+use Rattle.json_patch.proofs.Common.{after_change, after_add, after_remove, after_replace, put_in, take_from, front_of}
+use Rattle.json_patch.proofs.Common.{last_of, place_of, without, next_token, Pointer, IsPrefix}
 use Rattle.std.specs.Prelude.{◌||◌}
 use Rattle.json_patch.specs.Apart.{may_be_place, reach, Diverge, DivergesFrom}
 use Rattle.json_patch.proofs.Locations.{option_map_some, split_whole, split_is}

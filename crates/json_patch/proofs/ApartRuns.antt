@@ -1,13 +1,23 @@
 -- Operations that are apart commute, and lists of them.
-use Rattle.json_patch.proofs.Common.{arith, ◌≡◌, ◌↔◌, ℕ, ◌+◌, zero, suc, length, List, [], ◌∷◌, ◌++◌, Option, Some, None, Result, Ok, Err, refl, sym, ap, ◌∙◌, subst, rules, Bool, true, false, if◌then◌else◌, Data, IsDocument, pointee, after_add, after_remove, after_replace, Pointer, Operation, add, remove, replace, move, copy, test, IsWholeOp, AreWhole, PatchErrorKind, TestFailed, InvalidPointer, InvalidFromPointer, CannotMoveInsideItself, begins, or_refused, after_move, after_copy, after_test, after_step, same, Outcome, Leaves, fault, one_later, then_run, after_run, Accepts, RefusesAt}
+use Rattle.json_patch.proofs.Common.{arith, ◌≡◌, ◌↔◌, ℕ, ◌+◌, zero, suc, length, List, [], ◌∷◌, ◌++◌, Option, Some}
+use Rattle.json_patch.proofs.Common.{None, Result, Ok, Err, refl, sym, ap, ◌∙◌, subst, rules, Bool, true, false}
+use Rattle.json_patch.proofs.Common.{if◌then◌else◌, Data, IsDocument, pointee, after_add, after_remove, after_replace}
+use Rattle.json_patch.proofs.Common.{Pointer, Operation, add, remove, replace, move, copy, test, IsWholeOp, AreWhole}
+use Rattle.json_patch.proofs.Common.{PatchErrorKind, TestFailed, InvalidPointer, InvalidFromPointer}
+use Rattle.json_patch.proofs.Common.{CannotMoveInsideItself, begins, or_refused, after_move, after_copy, after_test}
+use Rattle.json_patch.proofs.Common.{after_step, same, Outcome, Leaves, fault, one_later, then_run, after_run, Accepts}
+use Rattle.json_patch.proofs.Common.{RefusesAt}
 use Rattle.json_patch.specs.RunComputed.{Fault}
-use Rattle.json_patch.specs.Apart.{Diverge, reach, changed_by, read_by, DivergesFrom, AllDiverge, IsApart, IsApartFrom, AreApart}
+use Rattle.json_patch.specs.Apart.{Diverge, reach, changed_by, read_by, DivergesFrom, AllDiverge, IsApart, IsApartFrom}
+use Rattle.json_patch.specs.Apart.{AreApart}
 use Rattle.json_patch.proofs.Changes.{removed_is, added_exact, removed_exact, replaced_exact}
 use Rattle.json_patch.proofs.StepOutcomes.{leaves_document, stepped_leaves, or_ok, stands_document, removed_document}
-use Rattle.json_patch.proofs.Runs.{accepts_document, accepts_joined, accepts_split, accepts_ran, ran_accepts, refuses_ran, ran_refuses, refuses_second}
+use Rattle.json_patch.proofs.Runs.{accepts_document, accepts_joined, accepts_split, accepts_ran, ran_accepts}
+use Rattle.json_patch.proofs.Runs.{refuses_ran, ran_refuses, refuses_second}
 use Rattle.json_patch.proofs.BlocksLeadBack.{found_document}
 use Rattle.json_patch.proofs.ApartChanges.{Acts, Cross, acts_cross, acts_found}
-use Rattle.json_patch.proofs.ApartOutcomes.{add_acts, remove_acts, replace_acts, fork, reach_begins, diverge_longer, diverges_longer}
+use Rattle.json_patch.proofs.ApartOutcomes.{add_acts, remove_acts, replace_acts, fork, reach_begins, diverge_longer}
+use Rattle.json_patch.proofs.ApartOutcomes.{diverges_longer}
 
 -- ---- the two orders of two parts of a run
 
@@ -360,7 +370,7 @@ module _ (d : Data) (xs ys : List Operation) (hd : IsDocument d) (hx : AreWhole 
 
 -- ---- apart is so both ways
 
-all_back : (Ps Qs : List Pointer) → AllDiverge Ps Qs → AllDiverge Qs Ps
+pub all_back : (Ps Qs : List Pointer) → AllDiverge Ps Qs → AllDiverge Qs Ps
 all_back [] Qs h = diverges_nil Qs
 all_back (P ∷ Ps) Qs h = diverges_cons P Qs Ps h.0 (all_back Ps Qs h.1)
 

@@ -1,16 +1,23 @@
 -- What undoes a list is apart from what the list is apart from.
-use Rattle.json_patch.proofs.Common.{◌≡◌, ℕ, List, [], ◌∷◌, ◌++◌, ⊎_elim, Option, Some, None, refl, sym, ap, ◌∙◌, subst, rules, Bool, true, bytes_eq, bytes_eq-Decides, if◌then◌else◌, Data, Items, array, object, IsDocument, Segment, place, Aims, pointee, put_in, after_add, front_of, last_of, place_of, next_token, Pointer, IsPrefix, Operation, add, remove, replace, move, copy, test, IsWholeOp, AreWhole, Leaves, Accepts, IsInverse, block, inverse, undo_in, undo_add, undo_at, settled_token}
+use Rattle.json_patch.proofs.Common.{◌≡◌, ℕ, List, [], ◌∷◌, ◌++◌, ⊎_elim, Option, Some, None, refl, sym, ap, ◌∙◌, subst}
+use Rattle.json_patch.proofs.Common.{rules, Bool, true, bytes_eq, bytes_eq-Decides, if◌then◌else◌, Data, Items, array}
+use Rattle.json_patch.proofs.Common.{object, IsDocument, Segment, place, Aims, pointee, put_in, after_add, front_of}
+use Rattle.json_patch.proofs.Common.{last_of, place_of, next_token, Pointer, IsPrefix, Operation, add, remove, replace}
+use Rattle.json_patch.proofs.Common.{move, copy, test, IsWholeOp, AreWhole, Leaves, Accepts, IsAccepted, IsInverse}
+use Rattle.json_patch.proofs.Common.{block, inverse, undo_in, undo_add, undo_at, settled_token}
 use Rattle.std.specs.Prelude.{◌||◌}
-use Rattle.json_patch.specs.Apart.{may_be_place, reach, changed_by, read_by, DivergesFrom, AllDiverge, IsApart, IsApartFrom, AreApart}
+use Rattle.json_patch.specs.Apart.{may_be_place, reach, changed_by, read_by, DivergesFrom, AllDiverge, IsApart}
+use Rattle.json_patch.specs.Apart.{IsApartFrom, AreApart}
 use Rattle.json_patch.proofs.Changes.{added_exact, removed_exact}
 use Rattle.json_patch.proofs.Locations.{resolves_found}
 use Rattle.json_patch.proofs.Alterations.{IsAltered, altered_is}
 use Rattle.json_patch.proofs.Slots.{PutsIn, put_in_puts}
-use Rattle.json_patch.proofs.StepOutcomes.{front_append, last_append, leaves_document, stands_found, stands_document, removed_document}
-use Rattle.json_patch.proofs.Runs.{accepts_document}
+use Rattle.json_patch.proofs.StepOutcomes.{front_append, last_append, leaves_document, stands_found, stands_document}
+use Rattle.json_patch.proofs.StepOutcomes.{removed_document}
+use Rattle.json_patch.proofs.Runs.{accepted, accepts_document, accepts_ran}
 use Rattle.json_patch.proofs.Blocks.{inverse_step, inverse_whole, inverse_back, inverse_only, settled}
 use Rattle.json_patch.proofs.ApartOutcomes.{itself, reach_begins, reach_whole, diverges_longer}
-use Rattle.json_patch.proofs.ApartRuns.{both_ways}
+use Rattle.json_patch.proofs.ApartRuns.{both_ways, lists_back}
 
 -- ---- z changes one pointer alone, at or below P, and reads nothing
 
@@ -114,6 +121,9 @@ joined_apart : (ws zs ys : List Operation) → AreApart ws ys → AreApart zs ys
 joined_apart [] zs ys h g = g
 joined_apart (w ∷ ws) zs ys h g = (h.0, joined_apart ws zs ys h.1 g)
 
+pub apart_joined : (xs ys zs : List Operation) → AreApart xs ys → AreApart xs zs → AreApart xs (ys ++ zs)
+apart_joined xs ys zs h g = lists_back (ys ++ zs) xs (joined_apart ys zs xs (lists_back xs ys h) (lists_back xs zs g))
+
 pub inverse_apart : (d : Data) (xs ys : List Operation) (m : Data) → IsDocument d → AreWhole xs → Accepts d xs m → AreApart xs ys → AreApart (inverse d xs) ys
 inverse_apart d [] ys m hd hv h a = tt
 inverse_apart d (x ∷ xs) ys m hd hv h a =
@@ -122,9 +132,11 @@ inverse_apart d (x ∷ xs) ys m hd hv h a =
 
 -- after xs and then ys, the inverse of xs is accepted, and leads to the end of ys alone
 pub undo_keeps : (d : Data) (xs ys I : List Operation) (m e : Data) → IsDocument d → AreWhole xs → AreWhole ys → AreApart xs ys → IsInverse d xs I → Accepts d xs m → Accepts m ys e
-    → (n : Data) × Accepts d ys n × Accepts e I n
+    → (n : Data) × Accepts d ys n × IsAccepted e I n
 undo_keeps d xs ys I m e hd hx hy a inv h g =
-    let is : I ≡ inverse d xs = inverse_only d xs I hd hx inv in
-    let c : (n : Data) × Accepts d ys n × Accepts e (inverse d xs) n =
-    both_ways m (inverse d xs) ys (accepts_document d xs m hd hx h) (inverse_whole d xs m hd hx h) hy (inverse_apart d xs ys m hd hx h a) d e (inverse_back d xs m hd hx h) g in
-    (c.0, c.1, subst (λ J. Accepts e J c.0) (sym is) c.2)
+    let J : List Operation = inverse d xs in
+    let hm : IsDocument m = accepts_document d xs m hd hx h in
+    let he : IsDocument e = accepts_document m ys e hm hy g in
+    let w : AreWhole J = inverse_whole d xs m hd hx h in
+    let c : (n : Data) × Accepts d ys n × Accepts e J n = both_ways m J ys hm w hy (inverse_apart d xs ys m hd hx h a) d e (inverse_back d xs m hd hx h) g in
+    (c.0, c.1, subst (λ I. IsAccepted e I c.0) (sym (inverse_only d xs I hd hx inv)) (accepted e J he w c.0 (accepts_ran e J c.0 he w c.2)))

@@ -1,11 +1,22 @@
 -- The blocks and the inverse that are computed are those that the definitions name, and no others are.
-use Rattle.json_patch.proofs.Common.{◌≡◌, ◌≤◌, ◌*◌, ℕ, List, [], ◌∷◌, ◌++◌, length, length-append, append_assoc, append-nil, Option, Some, Ok, refl, sym, ap, ◌∙◌, arith, rules, subst, Data, Pointer, IsDocument, Operation, add, remove, replace, move, copy, test, IsWholeOp, AreWhole, InvalidPointer, Leaves, Accepts, pointee, after_remove, or_refused, after_step, after_run, undo_in, undo_add, with_left, block, inverse, inl, inr, ⊎_elim, bytes_eq, None, array, object, Items, place_of, next_token, Segment, key, place, Aims, after_add, front_of, last_of, put_in, settled_token, undo_at, place_is_token, ◌↔◌, Err, look, Resolves, IsReplaced, PatchErrorKind, Refuses, RefusesAt, fault, TakesBack, UndoesAdd, IsBlock, IsInverse}
+use Rattle.json_patch.proofs.Common.{◌≡◌, ◌≤◌, ◌*◌, ℕ, List, [], ◌∷◌, ◌++◌, length, length-append, append_assoc}
+use Rattle.json_patch.proofs.Common.{append-nil, Option, Some, Ok, refl, sym, ap, ◌∙◌, arith, rules, subst, Data}
+use Rattle.json_patch.proofs.Common.{Pointer, IsDocument, Operation, add, remove, replace, move, copy, test, IsWholeOp}
+use Rattle.json_patch.proofs.Common.{AreWhole, InvalidPointer, Leaves, Accepts, pointee, after_remove, or_refused}
+use Rattle.json_patch.proofs.Common.{after_step, after_run, undo_in, undo_add, with_left, block, inverse, inl, inr}
+use Rattle.json_patch.proofs.Common.{⊎_elim, bytes_eq, None, array, object, Items, place_of, next_token, Segment, key}
+use Rattle.json_patch.proofs.Common.{place, Aims, after_add, front_of, last_of, put_in, settled_token, undo_at}
+use Rattle.json_patch.proofs.Common.{place_is_token, ◌↔◌, Err, look, Resolves, IsReplaced, PatchErrorKind, Refuses}
+use Rattle.json_patch.proofs.Common.{RefusesAt, fault, TakesBack, UndoesAdd, IsBlock, IsInverse}
 use Rattle.json_patch.proofs.Changes.{added_exact, removed_exact, replaced_exact}
 use Rattle.json_patch.proofs.Locations.{resolves_found, found_resolves, split_whole, split_is, resolves_same}
 use Rattle.json_patch.proofs.Alterations.{IsAltered, altered_is}
 use Rattle.json_patch.proofs.Slots.{PutsIn, put_in_puts}
-use Rattle.json_patch.proofs.StepOutcomes.{stands_found, stands_document, removed_document, leaves_stepped, leaves_document, found_never, never_found, stepped_leaves, refuses_stepped, stepped_refuses}
-use Rattle.json_patch.proofs.Runs.{ran_accepts, accepts_document, accepts_joined, accepts_ran, refuses_ran, ran_refuses, accepts_split}
+use Rattle.json_patch.proofs.StepOutcomes.{stands_found, stands_document, removed_document, leaves_stepped}
+use Rattle.json_patch.proofs.StepOutcomes.{leaves_document, found_never, never_found, stepped_leaves, refuses_stepped}
+use Rattle.json_patch.proofs.StepOutcomes.{stepped_refuses}
+use Rattle.json_patch.proofs.Runs.{ran_accepts, accepts_document, accepts_joined, accepts_ran, refuses_ran, ran_refuses}
+use Rattle.json_patch.proofs.Runs.{accepts_split}
 use Rattle.json_patch.proofs.BlocksLeadBack.{found_document, undo_added, undo_removed, undo_replaced, settled_place}
 
 -- ---- the inverse of an accepted list leads back, through every state

@@ -1,7 +1,18 @@
 -- Each operation's block gives back the document before it.
-use Rattle.json_patch.proofs.Common.{◌≡◌, ℕ, zero, suc, ◌≤◌, List, [], ◌∷◌, inl, ⊎_elim, Some, None, option_and_then, refl, sym, ap, ◌∙◌, arith, rules, option_map, Data, array, object, Items, item, Members, put, get_member, get_item, get_member-put, get_member-put_other, place_of, IsDocument, AreMembers, Segment, key, place, child, look, sight, sight_of, value_at, Names, segment_of, set_child, drop_child, insert_item, remove_item, without, pointee, put_in, take_from, ◌++◌, Bool, bytes_eq, if◌then◌else◌, Option, Ok, subst, option_and_then_some, bytes_eq-Decides, Pointer, next_token, decimal_token, Resolves, Aims, InvalidPointer, slot_of, after_change, after_add, after_remove, after_replace, front_of, last_of, or_refused, after_step, settled_token, undo_at, undo_in, undo_add, place_is_token, next_is_no_place, items_len}
+use Rattle.json_patch.proofs.Common.{◌≡◌, ℕ, zero, suc, ◌≤◌, List, [], ◌∷◌, inl, ⊎_elim, Some, None, option_and_then}
+use Rattle.json_patch.proofs.Common.{refl, sym, ap, ◌∙◌, arith, rules, option_map, Data, array, object, Items, item}
+use Rattle.json_patch.proofs.Common.{Members, put, get_member, get_item, get_member-put, get_member-put_other, place_of}
+use Rattle.json_patch.proofs.Common.{IsDocument, AreMembers, Segment, key, place, child, look, sight, sight_of}
+use Rattle.json_patch.proofs.Common.{value_at, Names, segment_of, set_child, drop_child, insert_item, remove_item}
+use Rattle.json_patch.proofs.Common.{without, pointee, put_in, take_from, ◌++◌, Bool, bytes_eq, if◌then◌else◌, Option}
+use Rattle.json_patch.proofs.Common.{Ok, subst, option_and_then_some, bytes_eq-Decides, Pointer, next_token}
+use Rattle.json_patch.proofs.Common.{decimal_token, Resolves, Aims, InvalidPointer, slot_of, after_change, after_add}
+use Rattle.json_patch.proofs.Common.{after_remove, after_replace, front_of, last_of, or_refused, after_step}
+use Rattle.json_patch.proofs.Common.{settled_token, undo_at, undo_in, undo_add, place_is_token, next_is_no_place}
+use Rattle.json_patch.proofs.Common.{items_len}
 use Rattle.json_patch.proofs.Changes.{TakesIn, take_from_takes, drop_document}
-use Rattle.json_patch.proofs.Members.{put_members, without_members, get_without, get_without_other, get_insert, child_document, child_set, child_set_other, sight_set, set_document, step_cases}
+use Rattle.json_patch.proofs.Members.{put_members, without_members, get_without, get_without_other, get_insert}
+use Rattle.json_patch.proofs.Members.{child_document, child_set, child_set_other, sight_set, set_document, step_cases}
 use Rattle.json_patch.proofs.Alike.{alike}
 use Rattle.json_patch.proofs.Locations.{option_map_some, resolves_document, split_whole, found_resolves, resolves_found}
 use Rattle.json_patch.proofs.Alterations.{IsAltered, altered_is}

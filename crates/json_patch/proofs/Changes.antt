@@ -1,10 +1,17 @@
 -- What add, remove and replace leave: one document, where they are defined, and it is what is computed.
-use Rattle.json_patch.proofs.Common.{common_steps, ◌≡◌, ℕ, zero, suc, ◌<◌, ◌≤◌, List, [], ◌∷◌, ◌++◌, ⊎_elim, Some, None, sym, ◌∙◌, subst, arith, rules, Data, IsDocument, Segment, key, place, look, Resolves, Aims, HasTarget, IsBeside, ShiftsUp, PutsAt, IsAdded, front_of, last_of, put_in, after_add, ap, option_and_then_some, array, object, Items, Members, child, Names, TakesAt, IsRemoved, segment_of, drop_child, take_from, after_remove, remove_item, without, refl, SetsAt, IsReplaced, after_replace, Option, cases_eq}
+use Rattle.json_patch.proofs.Common.{common_steps, ◌≡◌, ℕ, zero, suc, ◌<◌, ◌≤◌, List, [], ◌∷◌, ◌++◌, ⊎_elim, Some, None}
+use Rattle.json_patch.proofs.Common.{sym, ◌∙◌, subst, arith, rules, Data, IsDocument, Segment, key, place, look}
+use Rattle.json_patch.proofs.Common.{Resolves, Aims, HasTarget, IsBeside, ShiftsUp, PutsAt, IsAdded, front_of, last_of}
+use Rattle.json_patch.proofs.Common.{put_in, after_add, ap, option_and_then_some, array, object, Items, Members, child}
+use Rattle.json_patch.proofs.Common.{Names, TakesAt, IsRemoved, segment_of, drop_child, take_from, after_remove}
+use Rattle.json_patch.proofs.Common.{remove_item, without, refl, SetsAt, IsReplaced, after_replace, Option, cases_eq}
 use Rattle.std.specs.Prelude.{◌↔◌}
-use Rattle.json_patch.proofs.Members.{get_without, get_without_other, without_members, get_remove_later, get_remove_before, remove_items}
+use Rattle.json_patch.proofs.Members.{get_without, get_without_other, without_members, get_remove_later}
+use Rattle.json_patch.proofs.Members.{get_remove_before, remove_items}
 use Rattle.json_patch.proofs.Alike.{alike}
 use Rattle.json_patch.proofs.Places.{IsUnder, IsApart, IsMoved, under_cases, moved_cases, beside_inside}
-use Rattle.json_patch.proofs.Locations.{resolves_same, split_whole, split_is, option_map_some, resolves_document, Ends, ends, ended, last_same, no_end}
+use Rattle.json_patch.proofs.Locations.{resolves_same, split_whole, split_is, option_map_some, resolves_document, Ends}
+use Rattle.json_patch.proofs.Locations.{ends, ended, last_same, no_end}
 use Rattle.json_patch.proofs.Alterations.{Grafts, IsAltered, altered_is, altered_some}
 use Rattle.json_patch.proofs.Slots.{PutsIn, put_in_puts, aims_put, aims_same, below, not_from}
 

@@ -1,11 +1,18 @@
 -- One change in a container, and on the way down to it.
-use Rattle.json_patch.proofs.Common.{◌≡◌, Option, None, Result, rules, IsErr, IsErrAnd, Data, Attempts, PatchErrorKind, InvalidPointer, StepFault, ℕ, ◌<◌, ◌≤◌, List, [], ◌∷◌, length, set, get_or, Vec, vec_len, Some, option_map, option_and_then, String, Global, string_bytes, refl, sym, ap, ◌∙◌, arith, lookup, set_value, remove_entry, array, object, view, items_view, members_view, Value, Entry, view-lookup, get_item_within, get_item_past, items_len-items_view, members_view-insert_entry, place_of, Segment, key, place, child, slot_in, segment_of, put_in, take_from, set_child, drop_child, pointee, after_change, ◌≢◌, Bool, true, false, bytes_eq, MatchResult, bytes_eq-Decides, next_is_no_place, next_token, IfOk, BTreeMap, Array, Object, view-Array, view-Object, Pointer, Refused, insert, insert_entry, string_cmp, nat_tests, Displaces, DisplacesAt, Displaced}
+use Rattle.json_patch.proofs.Common.{◌≡◌, Option, None, Result, rules, IsErr, IsErrAnd, Data, Attempts, PatchErrorKind}
+use Rattle.json_patch.proofs.Common.{InvalidPointer, StepFault, ℕ, ◌<◌, ◌≤◌, List, [], ◌∷◌, length, set, get_or, Vec}
+use Rattle.json_patch.proofs.Common.{vec_len, Some, option_map, option_and_then, String, Global, refl, sym, ap, ◌∙◌}
+use Rattle.json_patch.proofs.Common.{arith, lookup, set_value, array, object, view, items_view, members_view, Value}
+use Rattle.json_patch.proofs.Common.{Entry, view-lookup, get_item_within, get_item_past, place_of, Segment, key, place}
+use Rattle.json_patch.proofs.Common.{child, slot_in, segment_of, take_from, set_child, pointee, after_change, ◌≢◌, Bool}
+use Rattle.json_patch.proofs.Common.{true, false, bytes_eq, MatchResult, bytes_eq-Decides, next_is_no_place, next_token}
+use Rattle.json_patch.proofs.Common.{BTreeMap, Array, Object, view-Array, view-Object, Pointer, Refused, nat_tests}
 use Rattle.std.specs.List.{remove}
 use Rattle.jsonptr.specs.Indexes.{IsIndexText, place_in}
 use Rattle.jsonptr.specs.declared.index.Index.{Index}
 use Rattle.std.specs.Vec.{with_item}
-use Rattle.json_patch.specs.declared.walk.Edit.{Edit}
-use Rattle.json_patch.proofs.Writes.{is_named, AreInOrder, items_view-set, items_view-insert, items_view-remove, members_view-remove_entry, members_view-set_value, items_view-set_same, members_view-set_same}
+use Rattle.json_patch.proofs.Writes.{is_named, AreInOrder, items_view-set, items_view-remove, members_view-set_value}
+use Rattle.json_patch.proofs.Writes.{items_view-set_same, members_view-set_same}
 
 -- ---- attempts at a change, by how they end
 
@@ -65,51 +72,14 @@ found_no_member t es o none is = no_member t es o (λ s. option_and_then (λ c. 
 
 -- ---- lists
 
-same_len : (m : Vec Value Global) (len : ℕ) → len ≡ vec_len m → length m.items ≡ len
-same_len m len e = omega arith
-
-pub inserts_item : (t : List ℕ) (m : Vec Value Global) (len i : ℕ) (v : Value) → len ≡ vec_len m → (i ≤ len) × (slot_in t len ≡ Some i) → put_in (view v) t (array (items_view m.items)) ≡ Some (array (items_view (insert m.items i v)))
-inserts_item t m len i v e at = rw (items_len-items_view m.items, same_len m len e, at.1) (ap (λ ds. Some (array ds)) (sym (items_view-insert m.items i v (omega arith))))
-
-pub inserts_nowhere : (t : List ℕ) (m : Vec Value Global) (len : ℕ) (d : Data) → len ≡ vec_len m → slot_in t len ≡ None → put_in d t (array (items_view m.items)) ≡ None
-inserts_nowhere t m len d e none = rw (items_len-items_view m.items, same_len m len e, none)
-
 pub takes_item : (t : List ℕ) (m : Vec Value Global) (len i : ℕ) (v : Value) → len ≡ vec_len m → IsItem t len i → v ≡ get_or m.items i v → take_from t (array (items_view m.items)) ≡ Some (array (items_view (remove m.items i)))
 takes_item t m len i v e at is = rw (at.1, item_child t m len i v e at is) (ap (λ ds. Some (array ds)) (sym (items_view-remove m.items i (omega arith))))
-
-pub takes_no_item : (t : List ℕ) (m : Vec Value Global) (len : ℕ) → len ≡ vec_len m → IsNoItem t len → take_from t (array (items_view m.items)) ≡ None
-takes_no_item t m len e past = no_item t m len (λ s. option_map (λ c. drop_child s (array (items_view m.items))) (child s (array (items_view m.items)))) (λ s h. takes_none (array (items_view m.items)) (λ r c. drop_child r (array (items_view m.items))) s h) e past
 
 pub swaps_item : (t : List ℕ) (m : Vec Value Global) (len i : ℕ) (v w x : Value) → len ≡ vec_len m → IsItem t len i → x ≡ get_or m.items i x → w ≡ v
     → after_change (λ c. Some (view v)) (array (items_view m.items)) (t ∷ []) ≡ Some (array (items_view (set m.items i w)))
 swaps_item t m len i v w x e at is same = rw (at.1, item_child t m len i x e at is, ← same) (ap (λ ds. Some (array ds)) (sym (items_view-set m.items i w)))
 
-pub swaps_no_item : (t : List ℕ) (m : Vec Value Global) (len : ℕ) (d : Data) → len ≡ vec_len m → IsNoItem t len → after_change (λ c. Some d) (array (items_view m.items)) (t ∷ []) ≡ None
-swaps_no_item t m len d e past = no_item t m len (λ s. option_and_then (λ c. Some (set_child s d (array (items_view m.items)))) (child s (array (items_view m.items)))) (λ s h. goes_none (array (items_view m.items)) (λ r c. Some (set_child r d (array (items_view m.items)))) s h) e past
-
 -- ---- maps
-
-pub inserts_member : (t : List ℕ) (es new : List Entry) (k : String Global) (v : Value) → string_bytes k ≡ t → new ≡ insert_entry string_cmp es k v → put_in (view v) t (object (members_view es)) ≡ Some (object (members_view new))
-inserts_member t es new k v name is = rw (is, members_view-insert_entry es k v, name)
-
-pub takes_member : (t : List ℕ) (es new : List Entry) (o : Option Value) (v : Value) → o ≡ Some v → o ≡ lookup (is_named t) es → new ≡ remove_entry (is_named t) es → take_from t (object (members_view es)) ≡ Some (object (members_view new))
-takes_member t es new o v some got is = rw (member_child t es o v some got, is) (ap (λ ms. Some (object ms)) (sym (members_view-remove_entry t es)))
-
-pub takes_no_member : (t : List ℕ) (es : List Entry) (o : Option Value) → o ≡ None → o ≡ lookup (is_named t) es → take_from t (object (members_view es)) ≡ None
-takes_no_member t es o none got = no_member t es o (λ s. option_map (λ c. drop_child s (object (members_view es))) (child s (object (members_view es)))) (λ s h. takes_none (object (members_view es)) (λ r c. drop_child r (object (members_view es))) s h) none got
-
-pub swaps_member : (t : List ℕ) (es new : List Entry) (o : Option Value) (x v w : Value) → AreInOrder es → o ≡ Some x → o ≡ lookup (is_named t) es → new ≡ set_value (is_named t) es w → w ≡ v
-    → after_change (λ c. Some (view v)) (object (members_view es)) (t ∷ []) ≡ Some (object (members_view new))
-swaps_member t es new o x v w order some got is same = search (rules, member_child, members_view-set_value)
-
-pub swaps_no_member : (t : List ℕ) (es : List Entry) (o : Option Value) (d : Data) → o ≡ None → o ≡ lookup (is_named t) es → after_change (λ c. Some d) (object (members_view es)) (t ∷ []) ≡ None
-swaps_no_member t es o d none got = no_member t es o (λ s. option_and_then (λ c. Some (set_child s d (object (members_view es)))) (child s (object (members_view es)))) (λ s h. goes_none (object (members_view es)) (λ r c. Some (set_child r d (object (members_view es)))) s h) none got
-
-pub found_key : (t : List ℕ) (k : String Global) (es : List Entry) (o : Option Value) (v : Value) → string_bytes k ≡ t → o ≡ Some v → o ≡ lookup (is_named (string_bytes k)) es → pointee (object (members_view es)) (t ∷ []) ≡ Some (view v)
-found_key t k es o v name some is = found_member t es o v some (is ∙ ap (λ n. lookup (is_named n) es) name)
-
-pub found_no_key : (t : List ℕ) (k : String Global) (es : List Entry) (o : Option Value) → string_bytes k ≡ t → o ≡ None → o ≡ lookup (is_named (string_bytes k)) es → pointee (object (members_view es)) (t ∷ []) ≡ None
-found_no_key t k es o name none is = found_no_member t es o none (is ∙ ap (λ n. lookup (is_named n) es) name)
 
 -- ---- the item that a token names, and the place at which it puts a new one, by the index that is read of it
 
@@ -178,17 +148,7 @@ found_at_item t P rest old m len i v way o e at is = search (rules, view-Array, 
 pub found_at_member : (t : List ℕ) (P rest : Pointer) (old : Value) (m : BTreeMap (String Global) Value) (v : Value) → P ≡ t ∷ rest → old ≡ Object m → Some v ≡ lookup (is_named t) m.entries → pointee (view old) P ≡ pointee (view v) rest
 found_at_member t P rest old m v way o is = search (rules, view-Object, member_child)
 
-pub displaces_below : (r : Result Displaced StepFault) (edit : Edit) (d c : Data) (P rest : Pointer) (last : List ℕ) → pointee d P ≡ pointee c rest → IfOk r (DisplacesAt edit c rest last) → IfOk r (DisplacesAt edit d P last)
-displaces_below r edit d c P rest last same h = search rules
-
 -- ---- an edit of the members
-
-pub attempts_at_members : {T : Type 0} (r : Result T StepFault) (f : Data → Option Data) (old new : Value) (m n : BTreeMap (String Global) Value) → old ≡ Object m → new ≡ Object n
-    → Attempts r (f (object (members_view m.entries))) (object (members_view m.entries)) (object (members_view n.entries)) → Attempts r (f (view old)) (view old) (view new)
-attempts_at_members r f old new m n o p h = rw (o, p, view-Object m, view-Object n) h
-
-pub displaces_at_members : (r : Result Displaced StepFault) (edit : Edit) (t : List ℕ) (old : Value) (m : BTreeMap (String Global) Value) → old ≡ Object m → IfOk r (Displaces edit t (object (members_view m.entries))) → IfOk r (Displaces edit t (view old))
-displaces_at_members r edit t old m o h = rw (o, view-Object m) h
 
 -- ---- where nothing stands
 

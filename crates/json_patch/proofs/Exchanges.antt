@@ -1,21 +1,36 @@
 -- Edits of a marked container that holds values, and the names that they need.
-use Rattle.json_patch.proofs.Common.{◌≡◌, ◌≤◌, ◌<◌, ◌-◌, ℕ, zero, suc, take, get_or, List, [], ◌∷◌, length, inl, inr, arith, rules, Pointer, Option, Some, None, refl, sym, ap, ◌∙◌, put, array, object, view, items_view, members_view, vec_len, Vec, Global, String, string_bytes, Value, Entry, lookup, insert_entry, string_cmp, remove_entry, set_value, Bool, true, false, not, if◌then◌else◌, option_map, get_member, get_item, option_and_then, view-lookup, without, Data, pointee, remove_item, set_item, set_child, drop_child, slot_in, set, ◌++◌, Result, Ok, Err, Attempts, after_change, BTreeMap, Array, Object, view-Object, IsErr, IsErrAnd, PatchErrorKind, InvalidPointer, StepFault, Refused, members_view-insert_entry}
+use Rattle.json_patch.proofs.Common.{◌≡◌, ◌≤◌, ◌<◌, ◌-◌, ℕ, zero, suc, take, get_or, List, [], ◌∷◌, length, inl, inr}
+use Rattle.json_patch.proofs.Common.{arith, rules, Pointer, Option, Some, None, refl, sym, ap, ◌∙◌, put, array, object}
+use Rattle.json_patch.proofs.Common.{view, items_view, members_view, vec_len, Vec, Global, String, string_bytes, Value}
+use Rattle.json_patch.proofs.Common.{Entry, lookup, insert_entry, string_cmp, remove_entry, set_value, Bool, true}
+use Rattle.json_patch.proofs.Common.{false, not, if◌then◌else◌, option_map, get_member, get_item, option_and_then}
+use Rattle.json_patch.proofs.Common.{view-lookup, without, Data, pointee, remove_item, set_item, set_child, drop_child}
+use Rattle.json_patch.proofs.Common.{slot_in, set, ◌++◌, Result, Ok, Err, Attempts, after_change, BTreeMap, Array}
+use Rattle.json_patch.proofs.Common.{Object, view-Object, IsErr, IsErrAnd, PatchErrorKind, InvalidPointer, StepFault}
+use Rattle.json_patch.proofs.Common.{Refused, members_view-insert_entry}
 use Rattle.std.specs.List.{remove}
 use Rattle.std.specs.Vec.{with_item}
 use Rattle.json_patch.specs.declared.edits.Edit.{Edit}
 use Rattle.json_patch.specs.declared.edits.Edit.TheVariants.{Take, Swap, Remove, Clear, Undo}
 use Rattle.json_patch.specs.declared.edits.Found.{Found}
 use Rattle.json_patch.specs.declared.edits.Found.TheVariants.{Nothing, Former, Taken}
-use Rattle.json_patch.specs.Marked.{is_mark, seen, pop_item, push_item, mark_child, at_child, undo_slot, take_marked, swap_marked}
+use Rattle.json_patch.specs.Marked.{is_mark, seen, pop_item, push_item, mark_child, at_child, undo_slot, take_marked}
+use Rattle.json_patch.specs.Marked.{swap_marked}
 use Rattle.json_patch.proofs.Marked.{at_view}
-use Rattle.json_patch.proofs.MarkedContainers.{live, view_pop, view_push, at_item_shown, found_item_shown, at_item, removes_inserted, undo_slot_is}
-use Rattle.json_patch.proofs.Containers.{IsItem, IsNoItem, found_member, found_no_member, found_item, found_at_member, found_at_item, walks_to_member, walks_to_item, walks_to_no_member, walks_to_no_item, next_within}
-use Rattle.json_patch.proofs.Writes.{is_named, AreInOrder, items_view-set, items_view-remove, members_view-remove_entry, members_view-set_value, members_view-set_same}
+use Rattle.json_patch.proofs.MarkedContainers.{live, view_pop, view_push, at_item_shown, found_item_shown, at_item}
+use Rattle.json_patch.proofs.MarkedContainers.{removes_inserted, undo_slot_is}
+use Rattle.json_patch.proofs.Containers.{IsItem, IsNoItem, found_member, found_no_member, found_item, found_at_member}
+use Rattle.json_patch.proofs.Containers.{found_at_item, walks_to_member, walks_to_item, walks_to_no_member}
+use Rattle.json_patch.proofs.Containers.{walks_to_no_item, next_within}
+use Rattle.json_patch.proofs.Writes.{is_named, AreInOrder, items_view-set, items_view-remove, members_view-remove_entry}
+use Rattle.json_patch.proofs.Writes.{members_view-set_value, members_view-set_same}
 use Rattle.json_patch.proofs.Locations.{split_is}
 use Rattle.std.proofs.Common.{length-append}
 use Rattle.jsonptr.specs.Text.{encoded, text_of}
-use Rattle.json_patch.specs.InPlace.{AreUnescaped}
-use Rattle.json_patch.specs.Exchange.{Fits, AreFitting, made_where, FindsWhere, last_item, if_mark, IsRemoving, is_removable, IsSwapping, is_swappable, swapped, sweep_child, sweep_in, remove_marked, made, Finds, FindsAt, Exchanges, ExchangesIn}
+use Rattle.json_patch.specs.NoMemory.{AreUnescaped}
+use Rattle.json_patch.specs.Exchange.{Fits, AreFitting, made_where, FindsWhere, last_item, if_mark, IsRemoving}
+use Rattle.json_patch.specs.Exchange.{is_removable, IsSwapping, is_swappable, swapped, sweep_child, sweep_in}
+use Rattle.json_patch.specs.Exchange.{remove_marked, made, Finds, FindsAt, Exchanges, ExchangesIn}
 
 pub unescaped_fit : (n : ℕ) (P : Pointer) → AreUnescaped P → AreFitting n P
 unescaped_fit n [] h = tt

@@ -1,6 +1,8 @@
 -- A document has no float, and a value with none that a program holds is a document: what a map's order and a number's
 -- range give.
-use Rattle.json_patch.proofs.Common.{◌≡◌, List, ◌∷◌, false, refl, ◌∙◌, subst, rules, Data, array, object, Items, no_items, item, Members, no_members, member, view, members_view, Entry, IsDocument, AreDocuments, AreMembers, has_float, items_have_float, members_have_float}
+use Rattle.json_patch.proofs.Common.{◌≡◌, List, ◌∷◌, false, refl, ◌∙◌, subst, rules, Data, array, object, Items}
+use Rattle.json_patch.proofs.Common.{no_items, item, Members, no_members, member, view, members_view, Entry, IsDocument}
+use Rattle.json_patch.proofs.Common.{AreDocuments, AreMembers, has_float, items_have_float, members_have_float}
 use Rattle.std.specs.List.Sorted.{IsStrictlySortedBy}
 use Rattle.json_patch.proofs.Writes.{AreInOrder, below}
 

@@ -1,5 +1,6 @@
 -- The reach of a pointer as the program finds it: by its last token.
-use Rattle.std.proofs.Common.{◌≡◌, ◌<◌, ◌≤◌, ℕ, List, [], ◌∷◌, ◌++◌, length, get_or, Option, Some, None, refl, sym, ap, ◌∙◌, ⊎_elim, Bool, true, false, not, bytes_eq, if◌then◌else◌, arith, ◌==◌}
+use Rattle.std.proofs.Common.{◌≡◌, ◌<◌, ◌≤◌, ℕ, List, [], ◌∷◌, ◌++◌, length, get_or, Option, Some, None, refl, sym, ap}
+use Rattle.std.proofs.Common.{◌∙◌, ⊎_elim, Bool, true, false, not, bytes_eq, if◌then◌else◌, arith, ◌==◌}
 use Rattle.std.specs.Prelude.{◌||◌, ◌^◌, is_some}
 use Rattle.std.specs.Int.{IsInRange}
 use Rattle.std.specs.Str.{all_ascii_digits}

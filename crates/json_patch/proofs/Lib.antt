@@ -45,4 +45,6 @@ pub mod Shown
 pub mod Exchanges
 pub mod Logged
 pub mod LoggedEdits
+pub mod LoggedRuns
 pub mod Footprints
+pub mod Filters

@@ -1,12 +1,25 @@
 -- What stands below the shared tokens, and how it changes.
-use Rattle.json_patch.proofs.Common.{common_steps, ◌≡◌, ⊎_elim, ℕ, List, [], ◌∷◌, ◌++◌, append_assoc, length, drop, Bool, if◌then◌else◌, Option, Some, None, option_map, option_and_then, Result, Ok, Err, refl, sym, ap, ◌∙◌, subst, rules, arith, option_and_then_some, bytes_eq-Decides, Data, Pointer, IsProperPrefix, IsDocument, Segment, child, Resolves, Operation, remove, replace, move, IsWholeOp, AreWhole, PatchErrorKind, TestFailed, InvalidPointer, CannotMoveInsideItself, segment_of, set_child, pointee, after_change, after_add, after_remove, after_replace, front_of, last_of, put_in, take_from, begins, or_refused, after_move, after_copy, after_test, after_step, Outcome, fault, one_later, then_run, after_run, strip, strip_all, ◌↔◌, StandsAt, IsReplaced, Leaves, Refuses, Accepts, RefusesAt, ap₂, map-append, add, undo_in, undo_add, with_found, with_left, block, inverse, extend, extend_all, IsWithin, AreWithin, IsInverse}
+use Rattle.json_patch.proofs.Common.{common_steps, ◌≡◌, ⊎_elim, ℕ, List, [], ◌∷◌, ◌++◌, append_assoc, length, drop}
+use Rattle.json_patch.proofs.Common.{Bool, if◌then◌else◌, Option, Some, None, option_map, option_and_then, Result, Ok}
+use Rattle.json_patch.proofs.Common.{Err, refl, sym, ap, ◌∙◌, subst, rules, arith, option_and_then_some}
+use Rattle.json_patch.proofs.Common.{bytes_eq-Decides, Data, Pointer, IsProperPrefix, IsDocument, Segment, child}
+use Rattle.json_patch.proofs.Common.{Resolves, Operation, remove, replace, move, IsWholeOp, AreWhole, PatchErrorKind}
+use Rattle.json_patch.proofs.Common.{TestFailed, InvalidPointer, CannotMoveInsideItself, segment_of, set_child, pointee}
+use Rattle.json_patch.proofs.Common.{after_change, after_add, after_remove, after_replace, front_of, last_of, put_in}
+use Rattle.json_patch.proofs.Common.{take_from, begins, or_refused, after_move, after_copy, after_test, after_step}
+use Rattle.json_patch.proofs.Common.{Outcome, fault, one_later, then_run, after_run, strip, strip_all, ◌↔◌, StandsAt}
+use Rattle.json_patch.proofs.Common.{IsReplaced, Leaves, Refuses, Accepts, RefusesAt, ap₂, map-append, add, undo_in}
+use Rattle.json_patch.proofs.Common.{undo_add, with_found, with_left, block, inverse, extend, extend_all, IsWithin}
+use Rattle.json_patch.proofs.Common.{AreWithin, IsInverse}
 use Rattle.json_patch.proofs.Changes.{added_is, IsAdded_document, removed_is, replaced_is, replaced_exact}
 use Rattle.json_patch.proofs.Members.{child_document, child_set, child_set_other, sight_set, set_document, step_cases}
 use Rattle.json_patch.proofs.Locations.{option_map_some, split_whole, found_resolves, names_step}
 use Rattle.json_patch.proofs.Alterations.{altered_some}
-use Rattle.json_patch.proofs.StepOutcomes.{altered_walks, leaves_document, stepped_leaves, stands_found, stands_document, leaves_stepped, refuses_stepped, stepped_refuses}
+use Rattle.json_patch.proofs.StepOutcomes.{altered_walks, leaves_document, stepped_leaves, stands_found}
+use Rattle.json_patch.proofs.StepOutcomes.{stands_document, leaves_stepped, refuses_stepped, stepped_refuses}
 use Rattle.json_patch.proofs.Runs.{accepts_ran, ran_accepts, refuses_ran, ran_refuses, accepts_document}
-use Rattle.json_patch.proofs.BlocksLeadBack.{one_level, step_of_set, altered_append, found_append, added_at, removed_at, found_document}
+use Rattle.json_patch.proofs.BlocksLeadBack.{one_level, step_of_set, altered_append, found_append, added_at, removed_at}
+use Rattle.json_patch.proofs.BlocksLeadBack.{found_document}
 use Rattle.json_patch.proofs.Blocks.{inverse_is, inverse_only, inverse_accepted}
 use Rattle.json_patch.proofs.Parents.{undo_add_in}
 

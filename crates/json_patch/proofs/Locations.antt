@@ -1,5 +1,8 @@
 -- Steps, pointers and their locations.
-use Rattle.json_patch.proofs.Common.{common_steps, ◌≡◌, ℕ, List, [], ◌∷◌, ◌++◌, Option, Some, option_map, refl, ap, rules, arith, Data, IsDocument, Segment, child, Names, Resolves, segment_of, front_of, last_of, IfNone, IfSome, option_and_then_some, value_at, StandsAt, Never, pointee}
+use Rattle.json_patch.proofs.Common.{common_steps, ◌≡◌, ℕ, List, [], ◌∷◌, ◌++◌, Option, Some, option_map, refl, ap}
+use Rattle.json_patch.proofs.Common.{rules, arith, Data, IsDocument, Segment, child, Names, Resolves, segment_of}
+use Rattle.json_patch.proofs.Common.{front_of, last_of, IfNone, IfSome, option_and_then_some, value_at, StandsAt, Never}
+use Rattle.json_patch.proofs.Common.{pointee}
 use Rattle.std.specs.Prelude.{◌↔◌}
 use Rattle.json_patch.proofs.Members.{child_document}
 

@@ -1,7 +1,8 @@
 -- A log of changes, undone from its end.
-use Rattle.json_patch.proofs.Common.{◌≡◌, ◌++◌, ◌≤◌, ℕ, List, [], ◌∷◌, Bool, true, false, Option, Some, None, Result, Ok, Err, refl, sym, ap, ◌∙◌, subst, rules, Data, view, Pointer, StepFault, Refused, is_err}
-use Rattle.json_patch.specs.Exchange.{Exchanges, FindsWhere, made_where}
-use Rattle.json_patch.specs.InPlace.{NeverShort}
+use Rattle.json_patch.proofs.Common.{◌≡◌, ◌++◌, ◌≤◌, ℕ, List, [], ◌∷◌, false, Option, Some, None, Result, Ok, Err, refl}
+use Rattle.json_patch.proofs.Common.{sym, subst, Data, StepFault, Refused, is_err}
+use Rattle.json_patch.specs.Exchange.{Exchanges}
+use Rattle.json_patch.specs.NoMemory.{NeverShort}
 use Rattle.json_patch.proofs.Exchanges.{fitting_more}
 use Rattle.jsonptr.specs.Pointers.{tokens_of}
 use Rattle.jsonptr.specs.declared.pointer.Pointer.{Pointer as PointerOf}

@@ -1,17 +1,23 @@
 -- A logged edit of a marked document: what it comes to, what undoes it, and what the inverse says of it.
-use Rattle.json_patch.proofs.Common.{◌≡◌, ◌++◌, ◌+◌, ◌≤◌, ℕ, List, [], ◌∷◌, Bool, true, false, Option, Some, None, Result, Ok, Err, refl, sym, ap, ◌∙◌, subst, rules, arith, append_assoc, Data, null, boolean, number, string, array, object, Items, no_items, item, Members, no_members, member, view, Pointer, StepFault, Refused, PatchErrorKind, InvalidPointer, Attempts, ComesTo, IsDocument, AreDocuments, AreMembers, IfOk, Value, after_add}
+use Rattle.json_patch.proofs.Common.{◌≡◌, ◌++◌, ◌+◌, ◌≤◌, ℕ, List, [], ◌∷◌, Option, Some, None, Result, Ok, Err, refl}
+use Rattle.json_patch.proofs.Common.{sym, ap, ◌∙◌, subst, rules, arith, append_assoc, Data, array, object, Items}
+use Rattle.json_patch.proofs.Common.{no_items, item, Members, no_members, member, view, Pointer, StepFault, Refused}
+use Rattle.json_patch.proofs.Common.{PatchErrorKind, InvalidPointer, Attempts, ComesTo, IsDocument, AreDocuments}
+use Rattle.json_patch.proofs.Common.{AreMembers, IfOk, Value, after_add}
 use Rattle.jsonptr.specs.Pointers.{tokens_of}
 use Rattle.jsonptr.specs.declared.pointer.Pointer.{Pointer as PointerOf}
 use Rattle.json_patch.specs.ChangeComputed.{pointee, after_remove, last_of}
-use Rattle.json_patch.specs.Edits.{place_to_undo}
 use Rattle.json_patch.specs.Exchange.{AreFitting, Exchanges, Finds, FindsWhere, made_where, room}
 use Rattle.json_patch.specs.InverseComputed.{block, undo_add}
-use Rattle.json_patch.specs.Logged.{AreRoomy, GoesBack, IsFor, IsKept, IsKeptBack, IsLogged, IsRoomy, IsRoomyFrom, IsTakenFrom, IsUndone, Keeps, LeadsBack, Logs, LogsEdit, kept_block, kept_blocks, place_of, put_back, taken_by, taken_from, takes}
-use Rattle.json_patch.specs.Marked.{IsMarked, IsSeen, IsValue, is_mark, seen, the_mark}
+use Rattle.json_patch.specs.Logged.{IsFor, IsKept, IsKeptBack, IsLogged, IsRoomy, IsTakenFrom, IsUndone, Keeps, Logs}
+use Rattle.json_patch.specs.Logged.{LogsEdit, kept_block, kept_blocks, place_of, put_back, takes, taken, held, LogsAs}
+use Rattle.json_patch.specs.Logged.{Counts, lasting}
+use Rattle.json_patch.specs.Marked.{IsMarked, IsValue, seen, the_mark}
 use Rattle.json_patch.specs.MarkedComputed.{marks, marks_items, marks_members}
-use Rattle.json_patch.specs.Operation.{Operation, add, remove, replace, move, path_of}
-use Rattle.json_patch.specs.RunComputed.{after_step, after_move, begins, or_refused}
-use Rattle.json_patch.specs.SeenEdits.{IsReversible, Suits, found_marks, operation_at, put_marks, seen_where, undo_found}
+use Rattle.json_patch.specs.Operation.{Operation, add, move, path_of}
+use Rattle.json_patch.specs.RunComputed.{after_step, or_refused}
+use Rattle.json_patch.specs.SeenEdits.{IsReversible, Suits, place_to_undo, found_marks, operation_at, put_marks}
+use Rattle.json_patch.specs.SeenEdits.{seen_where, undo_found}
 use Rattle.json_patch.specs.declared.edits.Edit.{Edit}
 use Rattle.json_patch.specs.declared.edits.Edit.TheVariants.{Insert, Take, Swap, Undo}
 use Rattle.json_patch.specs.declared.edits.Found.{Found}
@@ -19,11 +25,10 @@ use Rattle.json_patch.specs.declared.edits.Found.TheVariants.{Nothing, Former, T
 use Rattle.json_patch.specs.declared.error.StepFault.TheVariants.{Memory}
 use Rattle.json_patch.specs.declared.log.Change.{Change}
 use Rattle.json_patch.specs.declared.log.Keep.{Keep}
-use Rattle.json_patch.specs.declared.log.Keep.TheVariants.{Inverse}
+use Rattle.json_patch.specs.declared.log.Keep.TheVariants.{Inverse, Undo as undo_alone, Nothing as keep_nothing}
 use Rattle.json_patch.specs.declared.log.Kept.{Kept}
 use Rattle.json_patch.specs.declared.log.Log.{Log}
 use Rattle.json_patch.proofs.Logged.{leads_pushed, roomy_more, roomy_pushed}
-use Rattle.json_patch.proofs.MarkedChanges.{corr_some}
 use Rattle.json_patch.proofs.MarkedCounts.{one_mark, where_counts}
 use Rattle.json_patch.proofs.MarkedEdits.{attempt_seen, exchange_seen, put_comes_out, where_back, where_seen}
 use Rattle.json_patch.proofs.MarkedRuns.{document_seen, document_value}
@@ -34,7 +39,7 @@ use Rattle.jsonptr.specs.Text.{IsProperPrefix}
 -- ---- a document's values
 
 mutual
-  document_marks : (d : Data) → IsDocument d → marks d ≡ 0
+  pub document_marks : (d : Data) → IsDocument d → marks d ≡ 0
   document_marks (array ds) h = documents_marks ds h
   document_marks (object ms) h = members_marks ms h
   document_marks d h = search rules
@@ -79,11 +84,15 @@ edit_left (Err fault) edit keep P F olds news d e v w h = (h.0, h.1)
 
 -- ---- the log with one change more
 
-takes_pushed : (log : List Change) (c : Change) → takes (log ++ c ∷ []) ≡ takes log + (taken_by c.found + taken_from c.from)
+takes_pushed : (log : List Change) (c : Change) → takes (log ++ c ∷ []) ≡ takes log + taken c.found c.from
 takes_pushed [] c = omega arith
-takes_pushed (b ∷ log) c = let more : takes (log ++ c ∷ []) ≡ takes log + (taken_by c.found + taken_from c.from) = takes_pushed log c in omega arith
+takes_pushed (b ∷ log) c = let more : takes (log ++ c ∷ []) ≡ takes log + taken c.found c.from = takes_pushed log c in omega arith
 
-blocks_pushed : (log : List Change) (c : Change) → kept_blocks (log ++ c ∷ []) ≡ kept_block c.kept c.found (view c.value) ++ kept_blocks log
+held_pushed : (log : List Change) (c : Change) → held (log ++ c ∷ []) ≡ held log + found_marks c.found (view c.value)
+held_pushed [] c = omega arith
+held_pushed (b ∷ log) c = let more : held (log ++ c ∷ []) ≡ held log + found_marks c.found (view c.value) = held_pushed log c in omega arith
+
+pub blocks_pushed : (log : List Change) (c : Change) → kept_blocks (log ++ c ∷ []) ≡ kept_block c.kept c.found (view c.value) ++ kept_blocks log
 blocks_pushed [] c = search rules
 blocks_pushed (b ∷ log) c = ap (λ x. x ++ kept_block b.kept b.found (view b.value)) (blocks_pushed log c) ∙ append_assoc (kept_block c.kept c.found (view c.value)) (kept_blocks log) (kept_block b.kept b.found (view b.value))
 
@@ -104,11 +113,11 @@ logs_earlier first olds news d e grows same l = record {
 }
 
 logs_one : (olds news : Log) (c : Change) (d e : Data) → room olds.names ≤ room news.names → news.changes.items ≡ olds.changes.items ++ c ∷ [] → IsRoomy (room news.names) c → IsUndone c e d
-    → marks e ≤ marks d + (taken_by c.found + taken_from c.from) → Logs olds news d e
+    → marks e + found_marks c.found (view c.value) ≤ marks d + taken c.found c.from → Logs olds news d e
 logs_one olds news c d e grows ends fits undone counted = record {
   roomy = λ h. rw ends (roomy_pushed _ olds.changes.items c (roomy_more _ _ olds.changes.items grows h) fits);
   leads = λ p h. rw ends (leads_pushed olds.changes.items c e d p undone h);
-  counts = rw ends (omega (arith, takes_pushed olds.changes.items c));
+  counts = rw ends (omega (arith, takes_pushed olds.changes.items c, held_pushed olds.changes.items c));
 }
 
 -- ---- what the inverse says
@@ -146,17 +155,17 @@ took : (v d e : Data) (P : Pointer) (found : Found) (w : Data) → FindsWhere Ta
 took v d e [] found w finds made = cc
 took v d e (t ∷ P) found w finds made = took_at (last_of t P) finds.0 found w finds.2
 
-puts : (edit : Edit) (v d e : Data) (P : Pointer) (found : Found) (w : Data) → IsFor edit v → FindsWhere edit d P found w → made_where edit v d P ≡ Some e → put_marks edit v ≤ taken_by found
+puts : (edit : Edit) (v d e : Data) (P : Pointer) (found : Found) (w : Data) → IsFor edit v → FindsWhere edit d P found w → made_where edit v d P ≡ Some e → put_marks edit v ≤ taken found None
 puts Insert v d e P found w hv finds made = rw (document_marks v hv) (omega arith)
 puts Swap v d e P found w hv finds made = rw (document_marks v hv) (omega arith)
 puts Take v d e P found w hv finds made = rw (one_mark v hv.1, took v d e P found w finds made) (omega arith)
 puts edit v d e P found w hv finds made = absurd hv
 
 -- a `remove` leaves a mark, and what puts a value in leaves none
-edit_counts : (edit : Edit) (v d e : Data) (P : Pointer) (found : Found) (w : Data) → IsFor edit v → IsMarked d → FindsWhere edit d P found w → made_where edit v d P ≡ Some e → marks e ≤ marks d + (taken_by found + 0)
+edit_counts : (edit : Edit) (v d e : Data) (P : Pointer) (found : Found) (w : Data) → IsFor edit v → IsMarked d → FindsWhere edit d P found w → made_where edit v d P ≡ Some e → marks e + found_marks found w ≤ marks d + taken found None
 edit_counts edit v d e P found w hv hd finds made =
     let counted : marks e + found_marks found w ≡ marks d + put_marks edit v = where_counts edit v d e P found w (suits edit v hv) hd finds made in
-    let put : put_marks edit v ≤ taken_by found = puts edit v d e P found w hv finds made in
+    let put : put_marks edit v ≤ taken found None = puts edit v d e P found w hv finds made in
     omega arith
 
 module _ (r : Result (Unit {0}) StepFault) (edit : Edit) (keep : Keep) (P : PointerOf) (olds news : Log) (d e v w : Data) (hv : IsFor edit v) (hd : IsValue d) (h : LogsEdit r edit keep P None olds news d e v w) where
@@ -179,7 +188,7 @@ module _ (r : Result (Unit {0}) StepFault) (edit : Edit) (keep : Keep) (P : Poin
       undone_at : (c : Change) → IsLogged edit keep P None olds news d e v c → IsUndone c e d
       undone_at c l = rw (l.at, l.from) (edit_value.0, (d, where_back edit v d e (tokens_of P) c.found (view c.value) (reverses edit v hv) hd.0 l.finds l.makes, refl))
 
-      counted : (c : Change) → IsLogged edit keep P None olds news d e v c → marks e ≤ marks d + (taken_by c.found + taken_from c.from)
+      counted : (c : Change) → IsLogged edit keep P None olds news d e v c → marks e + found_marks c.found (view c.value) ≤ marks d + taken c.found c.from
       counted c l = rw l.from (edit_counts edit v d e (tokens_of P) c.found (view c.value) hv hd.0 l.finds l.makes)
 
       by_result : (r : Result (Unit {0}) StepFault) → LogsEdit r edit keep P None olds news d e v w → Logs olds news d e
@@ -194,7 +203,61 @@ module _ (r : Result (Unit {0}) StepFault) (edit : Edit) (keep : Keep) (P : Poin
           (edit_undoes edit v v d e (tokens_of P) g.0.found (view g.0.value) (suits edit v hv) hd g.1.finds g.1.makes ∙ ap (λ Q. undo_found Q g.0.found (view g.0.value) ∷ []) (sym (place_same edit (seen d) (tokens_of P) v)))
       by_result (Err fault) g = tt
 
+-- ---- what isn't undone
+
+pub logs_as : (r : Result (Unit {0}) StepFault) (keep : Keep) (olds news : Log) (d e : Data) → Logs olds news d e → LogsAs r keep olds news d e
+logs_as (Ok x) keep_nothing olds news d e l = l.counts
+logs_as r keep olds news d e l = search rules
+
+pub logs_kept : (r : Result (Unit {0}) StepFault) (keep : Keep) (olds news : Log) (d e : Data) → (keep ≡ keep_nothing → ⊥) → LogsAs r keep olds news d e → Logs olds news d e
+logs_kept (Ok x) keep_nothing olds news d e kept l = absurd (kept refl)
+logs_kept r keep olds news d e kept l = search rules
+
+pub logs_counts : (r : Result (Unit {0}) StepFault) (keep : Keep) (olds news : Log) (d e : Data) → LogsAs r keep olds news d e → Counts olds news d e
+logs_counts (Ok x) keep_nothing olds news d e l = l
+logs_counts (Ok x) Inverse olds news d e l = l.counts
+logs_counts (Ok x) undo_alone olds news d e l = l.counts
+logs_counts (Err fault) keep olds news d e l = l.counts
+
+lasting_suits : (edit : Edit) (v : Data) → IsFor edit v → Suits (lasting edit) v
+lasting_suits Insert v h = document_value v h
+lasting_suits Swap v h = document_value v h
+lasting_suits Take v h = tt
+lasting_suits edit v h = absurd h
+
+lasting_seen : (edit : Edit) (v d : Data) (P : Pointer) → seen_where (lasting edit) v d P ≡ seen_where edit v d P
+lasting_seen Take v d P = refl
+lasting_seen edit v d P = search rules
+
+lasting_puts : (edit : Edit) (v : Data) → IsFor edit v → put_marks (lasting edit) v ≡ 0
+lasting_puts Insert v h = document_marks v h
+lasting_puts Swap v h = document_marks v h
+lasting_puts Take v h = refl
+lasting_puts edit v h = absurd h
+
+module _ (r : Result Found StepFault) (edit : Edit) (P : Pointer) (d e v w : Data) (hv : IsFor edit v) (hd : IsValue d) (h : Exchanges r (made_where (lasting edit) v d P) (FindsWhere (lasting edit) d P) d e v w) where
+  lasting_left : Attempts r (seen_where edit (seen v) (seen d) P) (seen d) (seen e) × IsValue e
+  lasting_left =
+      let left = exchange_seen r (lasting edit) v d e w P (lasting_suits edit v hv) hd h in
+      (subst (λ o. Attempts r o (seen d) (seen e)) (lasting_seen edit (seen v) (seen d) P) left.0, left.1)
+
+  pub lasting_comes : ComesTo r (after_step (seen d) (operation_at edit P v)) (seen e)
+  lasting_comes = subst (λ x. ComesTo r x (seen e)) (step_of edit v (seen d) P hv) (comes_of r _ (seen d) (seen e) lasting_left.0)
+
+  pub lasting_value : IsValue e
+  lasting_value = lasting_left.1
+
+pub lasting_counts : (edit : Edit) (found : Found) (P : Pointer) (olds news : Log) (d e v w : Data) → IsFor edit v → IsValue d → Exchanges (Ok found) (made_where (lasting edit) v d P) (FindsWhere (lasting edit) d P) d e v w → news.changes.items ≡ olds.changes.items → Counts olds news d e
+lasting_counts edit found P olds news d e v w hv hd h same =
+    let counted : marks e + found_marks found w ≡ marks d + put_marks (lasting edit) v = where_counts (lasting edit) v d e P found w (lasting_suits edit v hv) hd.0 h.1 h.0 in
+    let none : put_marks (lasting edit) v ≡ 0 = lasting_puts edit v hv in
+    rw same (omega arith)
+
 -- ---- a `move`
+
+taken_source : (found : Found) (F : PointerOf) → taken found (Some F) ≡ 1
+taken_source Taken F = refl
+taken_source found F = search rules
 
 pub moves : {T : Type 0} (r : Result T StepFault) (d m e v : Data) (F P : Pointer) → (IsProperPrefix F P → ⊥) → after_remove d F ≡ Some m → pointee d F ≡ Some v → Attempts r (after_add m P v) m e → ComesTo r (after_step d (move F P)) e
 moves r d m e v F P out gone stood h = search (rules, not_begins)
@@ -242,11 +305,12 @@ module _ (d m v : Data) (F : PointerOf) (P : PointerOf) (hd : IsValue d) (t : Is
           ),
         )
 
-    counted_move : marks e ≤ marks d + (taken_by h.0.found + 1)
+    counted_move : marks e + found_marks h.0.found (view h.0.value) ≤ marks d + taken h.0.found (Some F)
     counted_move =
         let put : marks e + found_marks h.0.found (view h.0.value) ≡ marks m + marks v = where_counts Insert v m e (tokens_of P) h.0.found (view h.0.value) stood.1 left.1.0 h.1.finds h.1.makes in
         let took : marks m + marks v ≡ marks d + marks t.mark = where_counts Take t.mark d m (tokens_of F) Taken v t.marks hd.0 t.finds t.makes in
         let one : marks t.mark ≡ 1 = one_mark t.mark t.marks.1 in
+        let here : taken h.0.found (Some F) ≡ 1 = taken_source h.0.found F in
         omega arith
 
     pub move_logs : room olds.names ≤ room news.names → AreFitting (room news.names) (tokens_of F) → Logs olds news d e

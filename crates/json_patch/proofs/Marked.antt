@@ -1,9 +1,19 @@
 -- Edits of a marked container, as they are seen.
-use Rattle.json_patch.proofs.Common.{◌≡◌, view, Value, items_view, length, get_or, get_item_within, items_len-items_view, ◌-◌, ℕ, zero, suc, ◌<◌, ◌≤◌, List, Bool, true, false, if◌then◌else◌, Option, Some, None, option_map, Ordering, Less, Equal, Greater, refl, sym, ap, ◌∙◌, subst, arith, rules, slice_cmp, nat_cmp, match_ordering, Data, array, object, Items, no_items, item, Members, no_members, member, put, get_member, get_item, items_len, IsBelowMembers, Segment, key, place, child, segment_of, set_child, drop_child, insert_item, remove_item, set_item, without, ⊎_elim, cases_lt, not}
-use Rattle.json_patch.proofs.Members.{on_order, tied, tied_same, below_more, below_absent, below_put, below_without, less_back}
+use Rattle.json_patch.proofs.Common.{◌≡◌, view, Value, items_view, length, get_or, get_item_within}
+use Rattle.json_patch.proofs.Common.{items_len-items_view, ◌-◌, ℕ, zero, suc, ◌<◌, ◌≤◌, List, Bool, true, false}
+use Rattle.json_patch.proofs.Common.{if◌then◌else◌, Option, Some, None, option_map, Ordering, Less, Equal, Greater}
+use Rattle.json_patch.proofs.Common.{refl, sym, ap, ◌∙◌, subst, arith, rules, slice_cmp, nat_cmp, match_ordering, Data}
+use Rattle.json_patch.proofs.Common.{array, object, Items, no_items, item, Members, no_members, member, put, get_member}
+use Rattle.json_patch.proofs.Common.{get_item, items_len, IsBelowMembers, Segment, key, place, child, segment_of}
+use Rattle.json_patch.proofs.Common.{set_child, drop_child, insert_item, remove_item, set_item, without, ⊎_elim}
+use Rattle.json_patch.proofs.Common.{cases_lt, not}
+use Rattle.json_patch.proofs.Members.{on_order, tied, tied_same, below_more, below_absent, below_put, below_without}
+use Rattle.json_patch.proofs.Members.{less_back}
 use Rattle.std.specs.List.{AllWithin}
 use Rattle.std.specs.List.Sorted.{IsPartitionPoint, IsPartitionedBy}
-use Rattle.json_patch.specs.Marked.{is_mark, shown, member_unless, item_unless, seen, seen_items, seen_members, AreMarks, IsMarked, AreMarkedItems, AreMarkedMembers, push_item, pop_item, mark_child}
+use Rattle.json_patch.specs.Marked.{is_mark, shown, member_unless, item_unless, seen, seen_items, seen_members}
+use Rattle.json_patch.specs.Marked.{AreMarks, IsMarked, AreMarkedItems, AreMarkedMembers, push_item, pop_item}
+use Rattle.json_patch.specs.Marked.{mark_child}
 
 -- ---- members
 

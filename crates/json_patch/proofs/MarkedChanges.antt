@@ -1,5 +1,10 @@
 -- A change of a marked document, as it is seen, and what undoes it.
-use Rattle.json_patch.proofs.Common.{◌≡◌, ℕ, zero, suc, ◌≤◌, List, [], ◌∷◌, Bool, true, false, if◌then◌else◌, Option, Some, None, option_map, option_and_then, option_and_then_some, refl, sym, ap, ◌∙◌, subst, arith, rules, Data, array, object, Items, no_items, item, Members, put, get_member, get_item, items_len, get_member-put, Segment, key, place, child, segment_of, set_child, drop_child, insert_item, remove_item, set_item, slot_in, slot_of, put_in, take_from, after_change, pointee, Pointer, place_of}
+use Rattle.json_patch.proofs.Common.{◌≡◌, ℕ, zero, suc, ◌≤◌, List, [], ◌∷◌, Bool, true, false, if◌then◌else◌, Option}
+use Rattle.json_patch.proofs.Common.{Some, None, option_map, option_and_then, option_and_then_some, refl, sym, ap, ◌∙◌}
+use Rattle.json_patch.proofs.Common.{subst, arith, rules, Data, array, object, Items, no_items, item, Members, put}
+use Rattle.json_patch.proofs.Common.{get_member, get_item, items_len, get_member-put, Segment, key, place, child}
+use Rattle.json_patch.proofs.Common.{segment_of, set_child, drop_child, insert_item, remove_item, set_item, slot_in}
+use Rattle.json_patch.proofs.Common.{slot_of, put_in, take_from, after_change, pointee, Pointer, place_of}
 use Rattle.json_patch.specs.declared.edits.Edit.{Edit}
 use Rattle.json_patch.specs.declared.edits.Edit.TheVariants.{Insert, Take, Remove, Swap, Undo, Clear}
 use Rattle.json_patch.specs.declared.edits.Found.{Found}
@@ -8,8 +13,12 @@ use Rattle.json_patch.proofs.Locations.{option_map_some}
 use Rattle.json_patch.proofs.Members.{child_set, get_insert}
 use Rattle.json_patch.proofs.Slots.{slot_aims, aims_within}
 use Rattle.json_patch.proofs.BlocksLeadBack.{set_altered, step_of_set, within_removed, insert_remove, remove_insert}
-use Rattle.json_patch.proofs.Marked.{live_within, child_seen, child_marked, segment_seen, set_seen, set_marked, mark_seen, mark_marked, drop_seen, drop_marked, seen_put, put_marked, seen_insert, insert_items_marked, put_back, without_put, pop_push}
-use Rattle.json_patch.specs.Marked.{is_mark, shown, seen, seen_items, seen_members, IsMarked, IsSeen, IsValue, push_item, mark_child, at_shown, insert_marked, take_marked, swap_marked, at_child, undo_slot, Corresponds}
+use Rattle.json_patch.proofs.Marked.{live_within, child_seen, child_marked, segment_seen, set_seen, set_marked}
+use Rattle.json_patch.proofs.Marked.{mark_seen, mark_marked, drop_seen, drop_marked, seen_put, put_marked, seen_insert}
+use Rattle.json_patch.proofs.Marked.{insert_items_marked, put_back, without_put, pop_push}
+use Rattle.json_patch.specs.Marked.{is_mark, shown, seen, seen_items, seen_members, IsMarked, IsSeen, IsValue}
+use Rattle.json_patch.specs.Marked.{push_item, mark_child, at_shown, insert_marked, take_marked, swap_marked, at_child}
+use Rattle.json_patch.specs.Marked.{undo_slot, Corresponds}
 use Rattle.json_patch.specs.Exchange.{made, remove_marked, undone, clear_in, Finds}
 use Rattle.json_patch.specs.SeenEdits.{Suits, IsReversible, seen_made}
 

@@ -1,12 +1,20 @@
 -- An edit of a marked container that holds values.
-use Rattle.json_patch.proofs.Common.{◌≡◌, ℕ, zero, suc, ◌<◌, ◌≤◌, ◌-◌, ◌+◌, ◌++◌, List, [], ◌∷◌, take, cond, not, string_bytes, length, if◌then◌else◌, set, get_or, insert, Bool, true, false, Option, Some, None, option_map, option_and_then, refl, sym, ap, ◌∙◌, arith, rules, Data, array, object, Items, no_items, item, Members, get_item, items_len, view, items_view, members_view, Value, Entry, Vec, vec_len, lookup, Global, place_of, Segment, key, place, child, remove_item, insert_item, set_item, slot_in, BTreeMap, String, Array, Object, view-Array, view-Object, pointee}
+use Rattle.json_patch.proofs.Common.{◌≡◌, ℕ, zero, suc, ◌<◌, ◌≤◌, ◌-◌, ◌+◌, ◌++◌, List, [], ◌∷◌, take, cond, not}
+use Rattle.json_patch.proofs.Common.{string_bytes, length, if◌then◌else◌, set, get_or, insert, Bool, true, false}
+use Rattle.json_patch.proofs.Common.{Option, Some, None, option_map, option_and_then, refl, sym, ap, ◌∙◌, arith, rules}
+use Rattle.json_patch.proofs.Common.{Data, array, object, Items, no_items, item, Members, get_item, items_len, view}
+use Rattle.json_patch.proofs.Common.{items_view, members_view, Value, Entry, Vec, vec_len, lookup, Global, place_of}
+use Rattle.json_patch.proofs.Common.{Segment, key, place, child, remove_item, insert_item, set_item, slot_in, BTreeMap}
+use Rattle.json_patch.proofs.Common.{String, Array, Object, view-Array, view-Object, pointee}
 use Rattle.std.specs.List.{remove}
 use Rattle.serde_json.specs.Data.{depth, items_depth, members_depth}
 use Rattle.std.specs.Map.Calls.{RetainsPairs}
 use Rattle.json_patch.proofs.Containers.{no_item, takes_none, IsItem, IsNoItem, member_child, item_child, found_here}
 use Rattle.json_patch.proofs.Writes.{is_named, items_view-set, items_view-insert, items_view-remove}
 use Rattle.json_patch.proofs.Marked.{get_seen_item, at_view, child_marked}
-use Rattle.json_patch.specs.Marked.{clear_upto, seen_members, member_unless, at_child, restore_child, undo_slot, pop_item, IsMarked, is_mark, shown, item_unless, seen, seen_items, AreMarkedItems, push_item, at_shown, insert_marked}
+use Rattle.json_patch.specs.Marked.{clear_upto, seen_members, member_unless, at_child, restore_child, undo_slot}
+use Rattle.json_patch.specs.Marked.{pop_item, IsMarked, is_mark, shown, item_unless, seen, seen_items, AreMarkedItems}
+use Rattle.json_patch.specs.Marked.{push_item, at_shown, insert_marked}
 
 -- how many items stand before the marks
 abbrev pub live : Vec Value Global → ℕ

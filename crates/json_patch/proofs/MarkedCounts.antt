@@ -1,5 +1,11 @@
 -- How many marks there are.
-use Rattle.json_patch.proofs.Common.{◌≡◌, ◌+◌, ℕ, zero, suc, Bool, true, false, List, [], ◌∷◌, Option, Some, None, option_and_then, option_and_then_some, Ordering, Less, Equal, Greater, match_ordering, slice_cmp, nat_cmp, refl, sym, ap, ◌∙◌, subst, arith, rules, Data, number, array, object, Items, no_items, item, Members, no_members, member, put, without, get_member, get_item, items_len, Segment, key, place, child, segment_of, set_child, drop_child, insert_item, remove_item, set_item, slot_in, after_change, pointee, Pointer, IsBelowMembers, front_of, last_of}
+use Rattle.json_patch.proofs.Common.{◌≡◌, ◌+◌, ℕ, zero, suc, Bool, true, false, List, [], ◌∷◌, Option, Some, None}
+use Rattle.json_patch.proofs.Common.{option_and_then, option_and_then_some, Ordering, Less, Equal, Greater}
+use Rattle.json_patch.proofs.Common.{match_ordering, slice_cmp, nat_cmp, refl, sym, ap, ◌∙◌, subst, arith, rules, Data}
+use Rattle.json_patch.proofs.Common.{number, array, object, Items, no_items, item, Members, no_members, member, put}
+use Rattle.json_patch.proofs.Common.{without, get_member, get_item, items_len, Segment, key, place, child, segment_of}
+use Rattle.json_patch.proofs.Common.{set_child, drop_child, insert_item, remove_item, set_item, slot_in, after_change}
+use Rattle.json_patch.proofs.Common.{pointee, Pointer, IsBelowMembers, front_of, last_of}
 use Rattle.json_patch.specs.declared.edits.Edit.{Edit}
 use Rattle.json_patch.specs.declared.edits.Edit.TheVariants.{Insert, Take, Remove, Swap, Clear, Sweep}
 use Rattle.json_patch.specs.declared.edits.Found.{Found}
@@ -10,7 +16,8 @@ use Rattle.json_patch.proofs.Marked.{child_marked, shown_some}
 use Rattle.json_patch.proofs.MarkedChanges.{shown_there, stands_at, none_at}
 use Rattle.json_patch.proofs.MarkedUnseen.{if_marked, push_last, sweeps_there}
 use Rattle.json_patch.proofs.BlocksLeadBack.{found_append}
-use Rattle.json_patch.specs.Marked.{is_mark, item_unless, member_unless, seen, seen_items, seen_members, IsMarked, AreMarkedMembers, push_item, pop_item, mark_child}
+use Rattle.json_patch.specs.Marked.{is_mark, item_unless, member_unless, seen, seen_items, seen_members, IsMarked}
+use Rattle.json_patch.specs.Marked.{AreMarkedMembers, push_item, pop_item, mark_child}
 use Rattle.json_patch.specs.MarkedComputed.{marks, marks_items, marks_members}
 use Rattle.json_patch.specs.Exchange.{made, made_where, Finds, FindsWhere, clear_in, last_item, sweep_in, sweep_child}
 use Rattle.json_patch.specs.SeenEdits.{Suits, put_marks, found_marks}
@@ -206,5 +213,3 @@ mutual
       let here : marks d ≡ 0 = omega arith in
       let later : marks_members ms ≡ 0 = omega arith in
       rw (none_marks d here, unmarked_seen d here, unmarked_members ms later) refl
-
-pub ruleset laws_of_counts = (where_counts, clear_counts, sweep_counts, unmarked_seen)

@@ -1,5 +1,7 @@
 -- Edits of a marked document where a pointer leads: what is seen of them, and what undoes them.
-use Rattle.json_patch.proofs.Common.{◌≡◌, ℕ, List, [], ◌∷◌, false, Option, Some, None, option_and_then_some, Result, Ok, Err, refl, sym, ap, ◌∙◌, subst, rules, Data, child, segment_of, pointee, after_change, front_of, last_of, Pointer, Attempts, StepFault, Refused, NeverShort}
+use Rattle.json_patch.proofs.Common.{◌≡◌, ℕ, List, [], ◌∷◌, false, Option, Some, option_and_then_some, Result, Ok, Err}
+use Rattle.json_patch.proofs.Common.{refl, sym, ap, ◌∙◌, subst, rules, Data, child, segment_of, pointee, after_change}
+use Rattle.json_patch.proofs.Common.{front_of, last_of, Pointer, Attempts, StepFault, Refused}
 use Rattle.json_patch.specs.declared.error.StepFault.TheVariants.{Memory}
 use Rattle.json_patch.specs.declared.edits.Edit.{Edit}
 use Rattle.json_patch.specs.declared.edits.Edit.TheVariants.{Insert, Take, Remove, Swap, Undo, Clear, Sweep}
@@ -10,7 +12,8 @@ use Rattle.json_patch.proofs.Locations.{option_map_some, split_whole}
 use Rattle.json_patch.proofs.Members.{child_set}
 use Rattle.json_patch.proofs.Parents.{replaced_in}
 use Rattle.json_patch.proofs.BlocksLeadBack.{step_of_set}
-use Rattle.json_patch.proofs.MarkedChanges.{Mirrors, change_seen, change_back, corr_some, corr_none, seen_as, made_seen, made_mark, made_back, put_comes_back}
+use Rattle.json_patch.proofs.MarkedChanges.{Mirrors, change_seen, change_back, corr_some, corr_none, seen_as, made_seen}
+use Rattle.json_patch.proofs.MarkedChanges.{made_mark, made_back, put_comes_back}
 use Rattle.json_patch.proofs.MarkedUnseen.{change_unseen, made_unseen, swept}
 use Rattle.json_patch.specs.Marked.{is_mark, seen, IsMarked, IsSeen, IsValue, Corresponds}
 use Rattle.json_patch.specs.Exchange.{made, made_where, Finds, FindsWhere, Exchanges}
@@ -94,11 +97,3 @@ exchange_seen r edit v p q w P hv hp h = attempt_seen r (made_where edit v p P) 
 pub exchange_unseen : (r : Result Found StepFault) (edit : Edit) (v p q w : Data) (P : Pointer) → IsUnseen edit → IsValue p → Exchanges r (made_where edit v p P) (FindsWhere edit p P) p q v w → IsSeen q (seen p)
 exchange_unseen (Ok found) edit v p q w P he hp h = where_unseen edit v p q P he hp h.0
 exchange_unseen (Err fault) edit v p q w P he hp h = subst (λ x. IsSeen x (seen p)) (sym h.1) (seen_as p (seen p) hp.0 hp.1 refl)
-
--- one that can be made, and isn't short of memory, is made, as undoing is by `where_back`
-pub exchange_made : (r : Result Found StepFault) (wanted : Option Data) (F : Found → Data → Type 0) (d e v w x : Data) → wanted ≡ Some x → NeverShort r → Exchanges r wanted F d e v w → (found : Found) × (r ≡ Ok found) × F found w × (e ≡ x)
-exchange_made (Ok found) wanted F d e v w x is short h = (found, refl, h.1, (let both : ◌≡◌ {A = Option Data} (Some e) (Some x) = sym h.0 ∙ is in cc))
-exchange_made (Err (Refused kind)) wanted F d e v w x is short h = let both : ◌≡◌ {A = Option Data} None (Some x) = sym h.0.1 ∙ is in cc
-exchange_made (Err (Memory f)) wanted F d e v w x is short h = absurd short
-
-pub ruleset laws_of_edits = (where_seen, where_unseen, where_back, put_comes_out, exchange_seen, exchange_unseen, exchange_made)

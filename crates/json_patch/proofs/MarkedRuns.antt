@@ -1,8 +1,10 @@
 -- What is seen of a marked document.
-use Rattle.json_patch.proofs.Common.{◌≡◌, ◌&&◌, ℕ, List, [], ◌∷◌, Bool, false, not, bytes_eq, if◌then◌else◌, Some, option_and_then_some, segment_of, child, refl, ap, subst, rules, Data, array, object, Items, no_items, item, Members, no_members, member, pointee, Pointer, IsDocument, AreDocuments, AreMembers, same, same_items, same_members}
+use Rattle.json_patch.proofs.Common.{◌≡◌, [], ◌∷◌, false, Some, option_and_then_some, segment_of, child, refl, ap}
+use Rattle.json_patch.proofs.Common.{subst, rules, Data, array, object, Items, no_items, item, Members, no_members}
+use Rattle.json_patch.proofs.Common.{member, pointee, Pointer, IsDocument, AreDocuments, AreMembers}
 use Rattle.json_patch.proofs.Marked.{shown_some, child_marked}
-use Rattle.json_patch.specs.Marked.{is_mark, shown, item_unless, member_unless, seen, seen_items, seen_members, IsMarked, AreMarkedItems, AreMarkedMembers, IsValue}
-use Rattle.json_patch.specs.MarkedComputed.{same_passing, passing_items, passing_members}
+use Rattle.json_patch.specs.Marked.{is_mark, shown, seen, seen_items, seen_members, IsMarked, AreMarkedItems}
+use Rattle.json_patch.specs.Marked.{AreMarkedMembers, IsValue}
 
 -- ---- documents have no marks
 
@@ -41,37 +43,6 @@ pub document_value : (v : Data) → IsDocument v → IsValue v
 document_value v h = (document_marked v h, document_is v h)
 
 -- ---- equality
-
-passing_ends : (b : Bool) (d : Data) (ds : Items) → b ≡ same_items (item_unless b d ds) no_items
-passing_ends b d ds = search rules
-
-passing_item : (b : Bool) (d e : Data) (ds es : Items) → (not b && (same d e && same_items ds es)) ≡ same_items (item_unless b d ds) (item e es)
-passing_item b d e ds es = search rules
-
-passing_last : (b : Bool) (k : List ℕ) (d : Data) (ms : Members) → (b && same_members ms no_members) ≡ same_members (member_unless b k d ms) no_members
-passing_last b k d ms = search rules
-
-passing_member : (b : Bool) (k l : List ℕ) (d e : Data) (ms ns : Members) → (if b then same_members ms (member l e ns) else (bytes_eq k l && (same d e && same_members ms ns))) ≡ same_members (member_unless b k d ms) (member l e ns)
-passing_member b k l d e ms ns = search rules
-
-mutual
-  pub passing_is : (p d : Data) → same_passing p d ≡ same (seen p) d
-  passing_is (array ds) (array es) = items_passing ds es
-  passing_is (object ms) (object ns) = members_passing ms ns
-  passing_is p d = refl
-
-  items_passing : (ds es : Items) → passing_items ds es ≡ same_items (seen_items ds) es
-  items_passing no_items no_items = refl
-  items_passing no_items (item e es) = refl
-  items_passing (item d ds) no_items = passing_ends (is_mark d) (seen d) (seen_items ds)
-  items_passing (item d ds) (item e es) = rw (passing_is d e, items_passing ds es) (passing_item (is_mark d) (seen d) e (seen_items ds) es)
-
-  members_passing : (ms ns : Members) → passing_members ms ns ≡ same_members (seen_members ms) ns
-  members_passing no_members no_members = refl
-  members_passing no_members (member l e ns) = refl
-  members_passing (member k d ms) no_members = rw (members_passing ms no_members) (passing_last (is_mark d) k (seen d) (seen_members ms))
-  members_passing (member k d ms) (member l e ns) =
-      rw (passing_is d e, members_passing ms (member l e ns), members_passing ms ns) (passing_member (is_mark d) k l (seen d) e (seen_members ms) ns)
 
 -- ---- what is shown
 

@@ -1,5 +1,8 @@
 -- What undoes an operation on what is seen, by what its edits found in a marked document.
-use Rattle.json_patch.proofs.Common.{◌≡◌, ℕ, false, Segment, segment_of, List, [], ◌∷◌, ◌++◌, Option, Some, None, option_map, option_and_then, refl, sym, ap, ◌∙◌, subst, rules, Data, array, object, child, pointee, drop_child, set_child, after_remove, front_of, last_of, Pointer, move, add, path_of, undo_in, undo_add, undo_at, block}
+use Rattle.json_patch.proofs.Common.{◌≡◌, ℕ, false, Segment, segment_of, List, [], ◌∷◌, ◌++◌, Option, Some, None}
+use Rattle.json_patch.proofs.Common.{option_map, option_and_then, refl, sym, ap, ◌∙◌, subst, rules, Data, array, object}
+use Rattle.json_patch.proofs.Common.{child, pointee, drop_child, set_child, after_remove, front_of, last_of, Pointer}
+use Rattle.json_patch.proofs.Common.{move, add, path_of, undo_in, undo_add, undo_at, block}
 use Rattle.json_patch.specs.declared.edits.Edit.{Edit}
 use Rattle.json_patch.specs.declared.edits.Edit.TheVariants.{Insert, Take, Remove, Swap}
 use Rattle.json_patch.specs.declared.edits.Found.{Found}
@@ -100,5 +103,3 @@ move_undoes edit v p q F P found f w u he hv hp finds is puts =
     let there = found_there edit v p q F found w (takes_value edit he) hp finds is in
     let left = taken_seen edit v p q F he hv hp is in
     rw (there.0, left.0) (ap (λ o. o ∷ add F (seen w) ∷ []) (insert_undoes q P f u left.1 puts))
-
-pub ruleset laws_of_undos = (found_there, insert_undoes, edit_undoes, move_undoes)

@@ -1,12 +1,19 @@
 -- Changes of a marked document that aren't seen.
-use Rattle.json_patch.proofs.Common.{◌≡◌, ℕ, zero, suc, List, [], ◌∷◌, Bool, true, false, if◌then◌else◌, Option, Some, None, option_and_then_some, Ordering, Less, Equal, Greater, match_ordering, slice_cmp, nat_cmp, refl, sym, ap, ◌∙◌, subst, rules, Data, array, object, Items, no_items, item, Members, no_members, member, put, without, get_member, get_item, Segment, child, segment_of, set_child, set_item, after_change, Pointer, IsBelowMembers}
+use Rattle.json_patch.proofs.Common.{◌≡◌, ℕ, zero, suc, List, [], ◌∷◌, Bool, true, false, if◌then◌else◌, Option, Some}
+use Rattle.json_patch.proofs.Common.{None, option_and_then_some, Ordering, Less, Equal, Greater, match_ordering}
+use Rattle.json_patch.proofs.Common.{slice_cmp, nat_cmp, refl, sym, ap, ◌∙◌, subst, rules, Data, array, object, Items}
+use Rattle.json_patch.proofs.Common.{no_items, item, Members, no_members, member, put, without, get_member, get_item}
+use Rattle.json_patch.proofs.Common.{Segment, child, segment_of, set_child, set_item, after_change, Pointer}
+use Rattle.json_patch.proofs.Common.{IsBelowMembers}
 use Rattle.json_patch.specs.declared.edits.Edit.{Edit}
 use Rattle.json_patch.specs.declared.edits.Edit.TheVariants.{Clear, Sweep}
 use Rattle.json_patch.proofs.Locations.{option_map_some}
 use Rattle.json_patch.proofs.Members.{below_absent, below_more}
-use Rattle.json_patch.proofs.Marked.{child_marked, shown_some, set_marked, set_seen, seen_push, seen_again, seen_marked, mark_of_seen, pop_items_marked, without_marked}
+use Rattle.json_patch.proofs.Marked.{child_marked, shown_some, set_marked, set_seen, seen_push, seen_again, seen_marked}
+use Rattle.json_patch.proofs.Marked.{mark_of_seen, pop_items_marked, without_marked}
 use Rattle.json_patch.proofs.MarkedChanges.{seen_as, stays_set, shown_is, shown_there, change_mark}
-use Rattle.json_patch.specs.Marked.{is_mark, shown, member_unless, seen, seen_items, seen_members, IsMarked, AreMarkedMembers, IsSeen, IsValue, push_item, pop_item}
+use Rattle.json_patch.specs.Marked.{is_mark, shown, member_unless, seen, seen_items, seen_members, IsMarked}
+use Rattle.json_patch.specs.Marked.{AreMarkedMembers, IsSeen, IsValue, push_item, pop_item}
 use Rattle.json_patch.specs.Exchange.{made, clear_in, if_mark, last_item, sweep_child, sweep_in}
 use Rattle.json_patch.specs.SeenEdits.{IsUnseen}
 

@@ -1,12 +1,25 @@
 -- A merge but for its removals, what takes it back, and the removals.
-use Rattle.json_patch.proofs.Common.{◌≡◌, ◌≢◌, ℕ, List, ◌∷◌, ⊎_elim, Option, Some, None, string_bytes, sym, ap, ◌∙◌, subst, rules, lookup, remove_entry, set_value, Data, Members, member, put, get_member, view, members_view, Value, Entry, get_member-put, get_member-put_other, IsDocument, AreMembers, without, Vec, BTreeMap, String, Global, Result, Ok, Err, IsOk, Bool, true, false, is_some, suc, ◌+◌, arith, [], ◌++◌, map, option_map, unwrap_or, Ordering, nat_cmp, refl, map-append, slice_cmp, null, object, no_members, get, as_null, as_object, Object, the_lemmas, members_view-insert_entry, view-lookup, view-Object, sight_of, key, IsFilled, IsFilledMember, by_key, stays, left, fills, Fills, FillsAt, Logs, IsPrunedMember, ArePruned, with_member, former_value, restore_members, members_before, ⊤, AllocError, insert_entry, match_ordering, Sight, Prunes, IsMerged, members_of, Filled, Replaced, Nothing, fold-Former}
+use Rattle.json_patch.proofs.Common.{◌≡◌, ◌≢◌, ℕ, List, ◌∷◌, ⊎_elim, Option, Some, None, string_bytes, sym, ap, ◌∙◌}
+use Rattle.json_patch.proofs.Common.{subst, rules, lookup, remove_entry, set_value, Data, Members, member, put}
+use Rattle.json_patch.proofs.Common.{get_member, view, members_view, Value, Entry, get_member-put, get_member-put_other}
+use Rattle.json_patch.proofs.Common.{IsDocument, AreMembers, without, Vec, BTreeMap, String, Global, Result, Ok, Err}
+use Rattle.json_patch.proofs.Common.{IsOk, Bool, true, false, is_some, suc, ◌+◌, arith, [], ◌++◌, map, option_map}
+use Rattle.json_patch.proofs.Common.{unwrap_or, Ordering, nat_cmp, refl, map-append, slice_cmp, null, object}
+use Rattle.json_patch.proofs.Common.{no_members, get, as_null, as_object, Object, the_lemmas, members_view-insert_entry}
+use Rattle.json_patch.proofs.Common.{view-lookup, view-Object, sight_of, key, IsFilled, IsFilledMember, by_key, stays}
+use Rattle.json_patch.proofs.Common.{left, fills, Fills, FillsAt, Logs, IsPrunedMember, ArePruned, with_member}
+use Rattle.json_patch.proofs.Common.{former_value, restore_members, members_before, ⊤, AllocError, insert_entry}
+use Rattle.json_patch.proofs.Common.{match_ordering, Sight, Prunes, IsMerged, members_of, Filled, Replaced, Nothing}
+use Rattle.json_patch.proofs.Common.{fold-Former}
 use Rattle.std.proofs.Common.{string_cmp, IsErr}
 use Rattle.json_patch.specs.Filled.{replaces}
 use Rattle.std.specs.Borrow.{Bor}
 use Rattle.json_patch.specs.declared.merging.Former.{Former, the_lemmas as of_formers}
 use Rattle.json_patch.specs.declared.merging.Former.TheOpen.{Former-F}
-use Rattle.json_patch.proofs.Members.{below_absent, found_first, skips, put_members, without_members, get_without, get_without_other, member_document}
-use Rattle.json_patch.proofs.Writes.{is_named, AreInOrder, members_view-remove_entry, members_view-set_value, members_view-set_same}
+use Rattle.json_patch.proofs.Members.{below_absent, found_first, skips, put_members, without_members, get_without}
+use Rattle.json_patch.proofs.Members.{get_without_other, member_document}
+use Rattle.json_patch.proofs.Writes.{is_named, AreInOrder, members_view-remove_entry, members_view-set_value}
+use Rattle.json_patch.proofs.Writes.{members_view-set_same}
 use Rattle.json_patch.proofs.BlocksLeadBack.{set_back, without_put}
 use Rattle.json_patch.proofs.Merges.{name_cases}
 use Rattle.json_patch.specs.Merged as m

@@ -1,7 +1,13 @@
 -- What is computed for a merge patch is what it leaves, and that alone.
-use Rattle.json_patch.proofs.Common.{◌≡◌, ◌≢◌, ◌↔◌, ◌⊎◌, inl, inr, ⊎_elim, ℕ, List, Option, Some, None, unwrap_or, refl, sym, ap, ◌∙◌, subst, rules, Data, null, boolean, number, string, array, object, Members, no_members, member, put, get, get_member, get_member-put, get_member-put_other, IsDocument, AreMembers, Segment, key, child, sight_of, without, Sight, IsMerged, replaces, IsMergedMember, goes, merges, members_of, after_merge, members_after_merge}
+use Rattle.json_patch.proofs.Common.{◌≡◌, ◌≢◌, ◌↔◌, ◌⊎◌, inl, inr, ⊎_elim, ℕ, List, Option, Some, None, unwrap_or, refl}
+use Rattle.json_patch.proofs.Common.{sym, ap, ◌∙◌, subst, rules, Data, null, boolean, number, string, array, object}
+use Rattle.json_patch.proofs.Common.{Members, no_members, member, put, get, get_member, get_member-put}
+use Rattle.json_patch.proofs.Common.{get_member-put_other, IsDocument, AreMembers, Segment, key, child, sight_of}
+use Rattle.json_patch.proofs.Common.{without, Sight, IsMerged, replaces, IsMergedMember, goes, merges, members_of}
+use Rattle.json_patch.proofs.Common.{after_merge, members_after_merge}
 use Rattle.json_patch.specs.Merged.{by_key, stays}
-use Rattle.json_patch.proofs.Members.{put_members, without_members, member_document, get_without, get_without_other, below_absent, found_first, skips, child_document, step_cases}
+use Rattle.json_patch.proofs.Members.{put_members, without_members, member_document, get_without, get_without_other}
+use Rattle.json_patch.proofs.Members.{below_absent, found_first, skips, child_document, step_cases}
 use Rattle.json_patch.proofs.BlocksLeadBack.{one_level}
 
 -- ---- what is computed, one member of the patch after another

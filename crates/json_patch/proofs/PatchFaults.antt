@@ -1,5 +1,14 @@
 -- The faults of an operation value, in their order.
-use Rattle.json_patch.proofs.Common.{◌≡◌, ℕ, List, [], ◌∷◌, ◌⊎◌, Option, Some, None, refl, sym, ap, ◌∙◌, subst, inl, inr, ⊎_elim, codes, rules, Data, string, array, object, Items, no_items, item, Members, no_members, member, get, Pointer, text_of, IsDocument, AreDocuments, AreMembers, IsBelowMembers, IsObject, Lacks, HasNoText, HasNoPointer, HasNoDocument, IsFieldFault, NoneBelow, IsFirst, rank, ◌<◌, zero, suc, ◌++◌, take, length, get_or, arith, Result, view, items_view, Value, Operation, AreWhole, operation_of, operations, IfUnreadAlone, OfKind, ReadsItems, ReadsOperation, ReadsPatch, RefusesItem, RefusesFields, RefusesOperation, name_of, field_names, PatchOperation, HasAnyFrom, IsPointerAt, ReadKind, BadFrom, BadPath, pointer_or_fault, pointer_has_no_fault, one_fault}
+use Rattle.json_patch.proofs.Common.{◌≡◌, ℕ, List, [], ◌∷◌, ◌⊎◌, Option, Some, None, refl, sym, ap, ◌∙◌, subst, inl}
+use Rattle.json_patch.proofs.Common.{inr, ⊎_elim, codes, rules, Data, string, array, object, Items, no_items, item}
+use Rattle.json_patch.proofs.Common.{Members, no_members, member, get, Pointer, text_of, IsDocument, AreDocuments}
+use Rattle.json_patch.proofs.Common.{AreMembers, IsBelowMembers, IsObject, Lacks, HasNoText, HasNoPointer}
+use Rattle.json_patch.proofs.Common.{HasNoDocument, IsFieldFault, NoneBelow, IsFirst, rank, ◌<◌, zero, suc, ◌++◌, take}
+use Rattle.json_patch.proofs.Common.{length, get_or, arith, Result, view, items_view, Value, Operation, AreWhole}
+use Rattle.json_patch.proofs.Common.{operation_of, operations, IfUnreadAlone, OfKind, ReadsItems, ReadsOperation}
+use Rattle.json_patch.proofs.Common.{ReadsPatch, RefusesItem, RefusesFields, RefusesOperation, name_of, field_names}
+use Rattle.json_patch.proofs.Common.{PatchOperation, HasAnyFrom, IsPointerAt, ReadKind, BadFrom, BadPath}
+use Rattle.json_patch.proofs.Common.{pointer_or_fault, pointer_has_no_fault, one_fault}
 use Rattle.jsonptr.specs.Faults.{IsFault}
 use Rattle.jsonptr.specs.declared.ParseError.{ParseError}
 use Rattle.std.specs.Prelude.{IsErrAnd}

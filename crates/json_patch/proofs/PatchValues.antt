@@ -1,8 +1,20 @@
 -- A value reads as one patch, or is refused with one number and kind; what is written reads back.
-use Rattle.json_patch.proofs.Common.{◌≡◌, ℕ, zero, suc, List, [], ◌∷◌, map, ◌⊎◌, Option, Some, None, refl, sym, ◌∙◌, inl, inr, ⊎_elim, codes, Bool, false, true≢false, rules, subst, bytes_eq-Decides, Data, null, string, array, Items, no_items, item, get, items_of, Pointer, text_of, IsDocument, AreDocuments, Operation, add, remove, replace, move, copy, test, IsWholeOp, AreWhole, name_of, field_names, ReadsFields, ReadsOperation, ReadsItems, ReadsPatch, IsObject, IsOneOf, IsFieldFault, IsOperationFault, RefusesFields, RefusesOperation, RefusesItem, written_value, written_fields, written_patch, HasAnyFrom, ReadKind, NotAList, NotAnObject, MissingOp, OpNotText, UnknownOp, MissingFrom, FromNotText, BadFrom, MissingPath, PathNotText, BadPath, MissingValue, ValueNotWhole, one_pointer}
+use Rattle.json_patch.proofs.Common.{◌≡◌, ℕ, zero, suc, List, [], ◌∷◌, map, ◌⊎◌, Option, Some, None, refl, sym, ◌∙◌}
+use Rattle.json_patch.proofs.Common.{inl, inr, ⊎_elim, codes, Bool, false, true≢false, rules, subst, bytes_eq-Decides}
+use Rattle.json_patch.proofs.Common.{Data, null, string, array, Items, no_items, item, get, items_of, Pointer, text_of}
+use Rattle.json_patch.proofs.Common.{IsDocument, AreDocuments, Operation, add, remove, replace, move, copy, test}
+use Rattle.json_patch.proofs.Common.{IsWholeOp, AreWhole, name_of, field_names, ReadsFields, ReadsOperation, ReadsItems}
+use Rattle.json_patch.proofs.Common.{ReadsPatch, IsObject, IsOneOf, IsFieldFault, IsOperationFault, RefusesFields}
+use Rattle.json_patch.proofs.Common.{RefusesOperation, RefusesItem, written_value, written_fields, written_patch}
+use Rattle.json_patch.proofs.Common.{HasAnyFrom, ReadKind, NotAList, NotAnObject, MissingOp, OpNotText, UnknownOp}
+use Rattle.json_patch.proofs.Common.{MissingFrom, FromNotText, BadFrom, MissingPath, PathNotText, BadPath, MissingValue}
+use Rattle.json_patch.proofs.Common.{ValueNotWhole, one_pointer}
 use Rattle.std.specs.Str.{bytes_eq}
-use Rattle.json_patch.specs.ReadLaws.{IsRead, HasReadFault, IsReadAlone, HasReadFaultAlone, IsReadLike, HasReadFaultLike}
-use Rattle.json_patch.proofs.PatchFaults.{Text, pointer, lacks, no_text, no_pointer, text_at, Held, document, lacks_it, no_document, held_at, object_or_not, found_lacks, found_text, found_pointer, found_document, no_pointer_one, past_from, first_one, past_path}
+use Rattle.json_patch.specs.ReadLaws.{IsRead, HasReadFault, IsReadAlone, HasReadFaultAlone, IsReadLike}
+use Rattle.json_patch.specs.ReadLaws.{HasReadFaultLike}
+use Rattle.json_patch.proofs.PatchFaults.{Text, pointer, lacks, no_text, no_pointer, text_at, Held, document, lacks_it}
+use Rattle.json_patch.proofs.PatchFaults.{no_document, held_at, object_or_not, found_lacks, found_text, found_pointer}
+use Rattle.json_patch.proofs.PatchFaults.{found_document, no_pointer_one, past_from, first_one, past_path}
 
 -- ---- what is read
 

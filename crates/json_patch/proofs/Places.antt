@@ -1,5 +1,6 @@
 -- Locations under and beside another.
-use Rattle.json_patch.proofs.Common.{◌≡◌, ℕ, ◌<◌, ◌≤◌, List, [], ◌∷◌, ◌++◌, ◌⊎◌, inl, inr, ⊎_elim, refl, ap, arith, rules, append_cancel_left, Segment, key, place, IsBeside, cases_lt}
+use Rattle.json_patch.proofs.Common.{◌≡◌, ℕ, ◌<◌, ◌≤◌, List, [], ◌∷◌, ◌++◌, ◌⊎◌, inl, inr, ⊎_elim, refl, ap, arith}
+use Rattle.json_patch.proofs.Common.{rules, append_cancel_left, Segment, key, place, IsBeside, cases_lt}
 use Rattle.json_patch.proofs.Members.{step_cases}
 
 abbrev pub IsUnder : List Segment → List Segment → Type 0

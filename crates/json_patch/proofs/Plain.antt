@@ -1,5 +1,11 @@
 -- An inverse holds `add`, `remove` and `replace` alone, and no `-` for a place in a list.
-use Rattle.json_patch.proofs.Common.{◌≡◌, ℕ, List, [], ◌∷◌, ◌++◌, append_assoc, Option, Some, None, option_and_then, Ok, refl, sym, ap, ◌∙◌, subst, rules, option_and_then_some, Data, array, Items, Pointer, next_token, IsDocument, child, Operation, add, remove, replace, move, copy, test, IsWholeOp, AreWhole, Leaves, Accepts, segment_of, set_child, take_from, pointee, after_change, after_remove, front_of, last_of, after_step, undo_at, undo_in, undo_add, block, inverse, next_is_no_place, NamesNoNext, IsPlain, ArePlain, IsInverse}
+use Rattle.json_patch.proofs.Common.{◌≡◌, ℕ, List, [], ◌∷◌, ◌++◌, append_assoc, Option, Some, None, option_and_then, Ok}
+use Rattle.json_patch.proofs.Common.{refl, sym, ap, ◌∙◌, subst, rules, option_and_then_some, Data, array, Items}
+use Rattle.json_patch.proofs.Common.{Pointer, next_token, IsDocument, child, Operation, add, remove, replace, move}
+use Rattle.json_patch.proofs.Common.{copy, test, IsWholeOp, AreWhole, Leaves, Accepts, segment_of, set_child, take_from}
+use Rattle.json_patch.proofs.Common.{pointee, after_change, after_remove, front_of, last_of, after_step, undo_at}
+use Rattle.json_patch.proofs.Common.{undo_in, undo_add, block, inverse, next_is_no_place, NamesNoNext, IsPlain}
+use Rattle.json_patch.proofs.Common.{ArePlain, IsInverse}
 use Rattle.json_patch.proofs.Blocks.{inverse_only, block_back, block_whole, inverse_back, inverse_step, inverse_whole}
 use Rattle.json_patch.proofs.Members.{child_set}
 use Rattle.json_patch.proofs.Changes.{added_exact, removed_exact}
@@ -7,7 +13,8 @@ use Rattle.json_patch.proofs.BlocksLeadBack.{step_of_set, found_append, undo_add
 use Rattle.json_patch.proofs.Parents.{removed_in}
 use Rattle.json_patch.proofs.Locations.{option_map_some, split_whole}
 use Rattle.json_patch.proofs.Runs.{accepted, accepts_document, accepts_ran}
-use Rattle.json_patch.proofs.StepOutcomes.{leaves_document, leaves_stepped, removed_document, stands_document, stands_found}
+use Rattle.json_patch.proofs.StepOutcomes.{leaves_document, leaves_stepped, removed_document, stands_document}
+use Rattle.json_patch.proofs.StepOutcomes.{stands_found}
 
 -- ---- what stands at a pointer after a change
 

@@ -1,6 +1,10 @@
 -- A run ends exactly where it is computed to end; joined lists.
-use Rattle.json_patch.proofs.Common.{common_steps, ◌≡◌, ◌+◌, inl, inr, ℕ, suc, List, [], ◌∷◌, ◌++◌, length, Result, Ok, Err, refl, sym, ap, ◌∙◌, subst, arith, rules, Data, IsDocument, Operation, test, IsWholeOp, AreWhole, PatchErrorKind, Accepts, RefusesAt, IsAccepted, IsRefused, Ends, AreTests, Outcome, fault, one_later, then_run, after_step, after_run}
-use Rattle.json_patch.proofs.StepOutcomes.{leaves_stepped, refuses_stepped, stepped_leaves, stepped_refuses, leaves_document}
+use Rattle.json_patch.proofs.Common.{common_steps, ◌≡◌, ◌+◌, inl, inr, ℕ, suc, List, [], ◌∷◌, ◌++◌, length, Result, Ok}
+use Rattle.json_patch.proofs.Common.{Err, refl, sym, ap, ◌∙◌, subst, arith, rules, Data, IsDocument, Operation, test}
+use Rattle.json_patch.proofs.Common.{IsWholeOp, AreWhole, PatchErrorKind, Accepts, RefusesAt, IsAccepted, IsRefused}
+use Rattle.json_patch.proofs.Common.{Ends, AreTests, Outcome, fault, one_later, then_run, after_step, after_run}
+use Rattle.json_patch.proofs.StepOutcomes.{leaves_stepped, refuses_stepped, stepped_leaves, stepped_refuses}
+use Rattle.json_patch.proofs.StepOutcomes.{leaves_document}
 
 pub accepts_ran : (d : Data) (ops : List Operation) (e : Data) → IsDocument d → AreWhole ops → Accepts d ops e → after_run d ops ≡ Ok e
 accepts_ran d [] e hd hv h = ap Ok h

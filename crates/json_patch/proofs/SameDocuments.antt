@@ -1,6 +1,12 @@
 -- On documents equality is `≡`, and what a comparison answers is what it says.
-use Rattle.json_patch.proofs.Common.{◌≡◌, ◌↔◌, IsTrue, List, [], ◌∷◌, Bool, true, Option, Some, IfSome, sym, ap, subst, rules, pointwise, Data, array, object, Items, item, Members, member, IsDocument, AreDocuments, AreMembers, Operation, Parts, parts_of, operation_of, operations, IsWholeOp, AreWhole, PatchOperation, ℕ, Ordering, Equal, nat_cmp, refl, slice_cmp, no_members, get_member, IsBelowMembers, Decides, on, Decides-and, Decides-at, Decides-like, same, same_parts, same_operation}
-use Rattle.json_patch.specs.Same.{AreSame, AreSameItems, AreSameMembers, AreSameAt, AreSameParts, AreSameOperations, AreSameLists, AreInOrder}
+use Rattle.json_patch.proofs.Common.{◌≡◌, ◌↔◌, IsTrue, List, [], ◌∷◌, Bool, true, Option, Some, IfSome, sym, ap, subst}
+use Rattle.json_patch.proofs.Common.{rules, pointwise, Data, array, object, Items, item, Members, member, IsDocument}
+use Rattle.json_patch.proofs.Common.{AreDocuments, AreMembers, Operation, Parts, parts_of, operation_of, operations}
+use Rattle.json_patch.proofs.Common.{IsWholeOp, AreWhole, PatchOperation, ℕ, Ordering, Equal, nat_cmp, refl, slice_cmp}
+use Rattle.json_patch.proofs.Common.{no_members, get_member, IsBelowMembers, Decides, on, Decides-and, Decides-at}
+use Rattle.json_patch.proofs.Common.{Decides-like, same, same_parts, same_operation}
+use Rattle.json_patch.specs.Same.{AreSame, AreSameItems, AreSameMembers, AreSameAt, AreSameParts, AreSameOperations}
+use Rattle.json_patch.specs.Same.{AreSameLists, AreInOrder}
 use Rattle.json_patch.specs.SameLaws.{AreSame-refl, AreSame-sym, AreSame-trans, same-Decides, parts-refl, parts-Decides}
 use Rattle.json_patch.proofs.Members.{tied_same, less_back, below_more, below_absent, found_first}
 

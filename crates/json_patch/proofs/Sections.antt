@@ -1,5 +1,8 @@
 -- A list of operations below a pointer changes nothing elsewhere.
-use Rattle.json_patch.proofs.Common.{◌≡◌, List, [], ◌∷◌, ◌++◌, Option, Some, None, refl, sym, ap, ◌∙◌, subst, append_assoc, Data, Pointer, IsPrefix, IsProperPrefix, IsDocument, Segment, look, Resolves, StandsAt, HasTarget, IsAdded, Operation, add, remove, replace, move, copy, test, AreWhole, Leaves, Accepts, IsReplaced, IsWithin, AreWithin, pointee}
+use Rattle.json_patch.proofs.Common.{◌≡◌, List, [], ◌∷◌, ◌++◌, Option, Some, None, refl, sym, ap, ◌∙◌, subst}
+use Rattle.json_patch.proofs.Common.{append_assoc, Data, Pointer, IsPrefix, IsProperPrefix, IsDocument, Segment, look}
+use Rattle.json_patch.proofs.Common.{Resolves, StandsAt, HasTarget, IsAdded, Operation, add, remove, replace, move}
+use Rattle.json_patch.proofs.Common.{copy, test, AreWhole, Leaves, Accepts, IsReplaced, IsWithin, AreWithin, pointee}
 use Rattle.json_patch.specs.Shared.{KeepsElsewhere}
 use Rattle.json_patch.proofs.Locality.{runs_alike}
 use Rattle.json_patch.proofs.Locations.{found_resolves, resolves_found, split_is}

@@ -1,5 +1,11 @@
 -- The tokens that a list shares are those that are computed.
-use Rattle.json_patch.proofs.Common.{common_steps, ◌≡◌, ◌↔◌, ◌+◌, ◌<◌, ◌≤◌, ℕ, suc, List, [], ◌∷◌, ◌++◌, length, drop, add-one, arith, append_assoc, append-nil, Bool, true, bytes_eq, if◌then◌else◌, Option, Some, None, IfNone, refl, sym, ap, ◌∙◌, subst, rules, bytes_eq-Decides, Pointer, IsPrefix, IsProperPrefix, IsLongestShared, Operation, add, remove, replace, move, copy, test, operation_of, operations, path_of, from_of, PatchOperation, front_of, last_of, common_prefix, all_pointers, parents_of, shared_of, shared_tokens, IsLongest, IsWithin, AreWithin, IsNotEmpty, IsShared}
+use Rattle.json_patch.proofs.Common.{common_steps, ◌≡◌, ◌↔◌, ◌+◌, ◌<◌, ◌≤◌, ℕ, suc, List, [], ◌∷◌, ◌++◌, length, drop}
+use Rattle.json_patch.proofs.Common.{add-one, arith, append_assoc, append-nil, Bool, true, bytes_eq, if◌then◌else◌}
+use Rattle.json_patch.proofs.Common.{Option, Some, None, IfNone, refl, sym, ap, ◌∙◌, subst, rules, bytes_eq-Decides}
+use Rattle.json_patch.proofs.Common.{Pointer, IsPrefix, IsProperPrefix, IsLongestShared, Operation, add, remove}
+use Rattle.json_patch.proofs.Common.{replace, move, copy, test, operation_of, operations, path_of, from_of}
+use Rattle.json_patch.proofs.Common.{PatchOperation, front_of, last_of, common_prefix, all_pointers, parents_of}
+use Rattle.json_patch.proofs.Common.{shared_of, shared_tokens, IsLongest, IsWithin, AreWithin, IsNotEmpty, IsShared}
 use Rattle.json_patch.proofs.ProgramRuns.{IsAt}
 use Rattle.json_patch.proofs.Locations.{split_whole, split_is}
 

@@ -1,5 +1,6 @@
 -- What is found in a marked document.
-use Rattle.json_patch.proofs.Common.{◌≡◌, Option, Some, None, option_map, refl, sym, ap, ◌∙◌, rules, Data, pointee, Pointer}
+use Rattle.json_patch.proofs.Common.{◌≡◌, Option, Some, None, option_map, refl, sym, ap, ◌∙◌, rules, Data, pointee}
+use Rattle.json_patch.proofs.Common.{Pointer}
 use Rattle.json_patch.proofs.MarkedChanges.{found_seen}
 use Rattle.json_patch.proofs.MarkedRuns.{found_value}
 use Rattle.json_patch.specs.Marked.{IsValue, seen, shown}

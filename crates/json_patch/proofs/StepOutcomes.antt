@@ -1,6 +1,15 @@
 -- An operation leaves, or is refused for, exactly what is computed.
-use Rattle.json_patch.proofs.Common.{◌≡◌, ℕ, List, [], ◌∷◌, ◌++◌, Option, Some, option_map, option_and_then, refl, ap, rules, Data, Segment, child, segment_of, set_child, pointee, after_change, after_replace, front_of, last_of, ◌&&◌, Bool, true, false, bytes_eq, if◌then◌else◌, None, Ok, Err, sym, ◌∙◌, subst, bytes_eq-Decides, Pointer, IsProperPrefix, IsDocument, IsAdded, IsRemoved, IsReplaced, Operation, add, remove, replace, move, copy, test, IsWholeOp, PatchErrorKind, TestFailed, InvalidFromPointer, InvalidPointer, CannotMoveInsideItself, StandsAt, Never, Leaves, Refuses, after_add, after_remove, begins, or_refused, after_move, after_copy, after_test, after_step, same}
-use Rattle.json_patch.proofs.Changes.{added_is, added_none, IsAdded_document, removed_is, removed_none, replaced_is, replaced_none, added_exact, removed_exact, replaced_exact}
+use Rattle.json_patch.proofs.Common.{◌≡◌, ℕ, List, [], ◌∷◌, ◌++◌, Option, Some, option_map, option_and_then, refl, ap}
+use Rattle.json_patch.proofs.Common.{rules, Data, Segment, child, segment_of, set_child, pointee, after_change}
+use Rattle.json_patch.proofs.Common.{after_replace, front_of, last_of, ◌&&◌, Bool, true, false, bytes_eq, if◌then◌else◌}
+use Rattle.json_patch.proofs.Common.{None, Ok, Err, sym, ◌∙◌, subst, bytes_eq-Decides, Pointer, IsProperPrefix}
+use Rattle.json_patch.proofs.Common.{IsDocument, IsAdded, IsRemoved, IsReplaced, Operation, add, remove, replace, move}
+use Rattle.json_patch.proofs.Common.{copy, test, IsWholeOp, PatchErrorKind, TestFailed, InvalidFromPointer}
+use Rattle.json_patch.proofs.Common.{InvalidPointer, CannotMoveInsideItself, StandsAt, Never, Leaves, Refuses}
+use Rattle.json_patch.proofs.Common.{after_add, after_remove, begins, or_refused, after_move, after_copy, after_test}
+use Rattle.json_patch.proofs.Common.{after_step, same}
+use Rattle.json_patch.proofs.Changes.{added_is, added_none, IsAdded_document, removed_is, removed_none, replaced_is}
+use Rattle.json_patch.proofs.Changes.{replaced_none, added_exact, removed_exact, replaced_exact}
 use Rattle.json_patch.proofs.Locations.{resolves_document, found_resolves, resolves_found}
 use Rattle.json_patch.proofs.SameDocuments.{same-is, same-refl}
 

@@ -1,5 +1,12 @@
 -- What is written for characters, values and operations.
-use Rattle.json_patch.proofs.Common.{common_steps, ◌≡◌, ◌≢◌, ℕ, zero, suc, ◌<◌, ◌/◌, ◌%◌, ◌^◌, ◌-◌, ◌&&◌, Bool, true, false, List, [], ◌∷◌, ◌++◌, Option, Some, option_map, codes, bytes_eq, chars, flat_map, encode_utf8, IsUtf8, length, append_assoc, append-nil, refl, sym, ◌∙◌, arith, rules, bytes_eq-Decides, Data, string, Items, item, no_items, Members, member, no_members, Pointer, text_of, Parts, field_if, pointer_text, character_text, quote, value_text, printed_items, printed_members, fields_text, parts_text, leading_text, trailing_text, and_parts, chars-nil, chars_past_char, format_spec}
+use Rattle.json_patch.proofs.Common.{common_steps, ◌≡◌, ◌≢◌, ℕ, zero, suc, ◌<◌, ◌/◌, ◌%◌, ◌^◌, ◌-◌, ◌&&◌, Bool, true}
+use Rattle.json_patch.proofs.Common.{false, List, [], ◌∷◌, ◌++◌, Option, Some, option_map, codes, bytes_eq, chars}
+use Rattle.json_patch.proofs.Common.{flat_map, encode_utf8, IsUtf8, length, append_assoc, append-nil, refl, sym, ◌∙◌}
+use Rattle.json_patch.proofs.Common.{arith, rules, bytes_eq-Decides, Data, string, Items, item, no_items, Members}
+use Rattle.json_patch.proofs.Common.{member, no_members, Pointer, text_of, Parts, field_if, pointer_text}
+use Rattle.json_patch.proofs.Common.{character_text, quote, value_text, printed_items, printed_members, fields_text}
+use Rattle.json_patch.proofs.Common.{parts_text, leading_text, trailing_text, and_parts, chars-nil, chars_past_char}
+use Rattle.json_patch.proofs.Common.{format_spec}
 use Rattle.std.specs.Char.{digit_char}
 use Rattle.std.specs.Fmt.{digits, padded_integral, char_count}
 

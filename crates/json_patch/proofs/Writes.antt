@@ -1,5 +1,11 @@
 -- What a write to a list or a map of values leaves of its view.
-use Rattle.json_patch.proofs.Common.{◌≡◌, ℕ, suc, ◌<◌, ◌≤◌, List, [], ◌∷◌, length, set, Option, Some, Bool, slice_index_or, Ordering, Less, String, Global, cond, is_eq, string_bytes, nat_cmp, refl, ap, arith, rules, slice_cmp, lookup, set_value, remove_entry, keys_of, item, Members, member, put, view, items_view, members_view, Value, Entry, members_view-insert_entry, view-lookup, IsBelowMembers, insert_item, remove_item, set_item, without, insert, AllByRecursion, insert_entry, is_at, match_ordering, string_cmp}
+use Rattle.json_patch.proofs.Common.{◌≡◌, ℕ, suc, ◌<◌, ◌≤◌, List, [], ◌∷◌, length, set, Option, Some, Bool}
+use Rattle.json_patch.proofs.Common.{slice_index_or, Ordering, Less, String, Global, cond, is_eq, string_bytes, nat_cmp}
+use Rattle.json_patch.proofs.Common.{refl, ap, arith, rules, slice_cmp, lookup, set_value, remove_entry, keys_of, item}
+use Rattle.json_patch.proofs.Common.{Members, member, put, view, items_view, members_view, Value, Entry}
+use Rattle.json_patch.proofs.Common.{members_view-insert_entry, view-lookup, IsBelowMembers, insert_item, remove_item}
+use Rattle.json_patch.proofs.Common.{set_item, without, insert, AllByRecursion, insert_entry, is_at, match_ordering}
+use Rattle.json_patch.proofs.Common.{string_cmp}
 use Rattle.std.specs.List.{remove}
 use Rattle.std.specs.List.Sorted.{IsStrictlySortedBy}
 use Rattle.json_patch.proofs.Members.{below_absent, below_more}

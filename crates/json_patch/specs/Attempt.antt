@@ -1,10 +1,6 @@
 -- For private clauses: what an attempt at a change leaves.
 use Rattle.std.specs.Prelude.{◌≡◌, Option, Some, None, Result, Ok, Err}
 use Rattle.serde_json.specs.Data.{Data}
-use Rattle.serde_json.specs.View.{view}
-use Rattle.serde_json.specs.declared.value.Value.{Value}
-use Rattle.jsonptr.specs.Text.{Pointer, IsProperPrefix}
-use Rattle.json_patch.specs.ChangeComputed.{pointee, after_remove}
 use Rattle.json_patch.specs.declared.error.PatchErrorKind.{PatchErrorKind}
 use Rattle.json_patch.specs.declared.error.PatchErrorKind.TheVariants.{InvalidPointer}
 use Rattle.json_patch.specs.declared.error.StepFault.{StepFault}
@@ -29,7 +25,3 @@ FailsAs (Memory e) wanted = Unit {0}
 abbrev pub ComesTo : {T : Type 0} → Result T StepFault → Result Data PatchErrorKind → Data → Type 0
 ComesTo (Ok x) wanted new = wanted ≡ Ok new
 ComesTo (Err fault) wanted new = FailsAs fault wanted
-
--- a `move` from F to P can take the value out of `old`: that leaves `new`
-abbrev pub TakesOut : Data → Data → Pointer → Pointer → Value → Type 0
-TakesOut old new F P v = (IsProperPrefix F P → ⊥) × (after_remove old F ≡ Some new) × (pointee old F ≡ Some (view v))

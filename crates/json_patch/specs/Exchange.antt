@@ -1,5 +1,6 @@
 -- For private clauses: what an edit makes of a marked document, with the value of its caller, and what it finds for it.
-use Rattle.std.specs.Prelude.{◌≡◌, ◌≤◌, ◌⊎◌, ℕ, Bool, true, false, not, List, [], ◌∷◌, Option, Some, None, option_map, option_and_then, unwrap_or, if◌then◌else◌, length, Result, Ok, Err}
+use Rattle.std.specs.Prelude.{◌≡◌, ◌≤◌, ◌⊎◌, ℕ, Bool, true, false, not, List, [], ◌∷◌, Option, Some, None, option_map}
+use Rattle.std.specs.Prelude.{option_and_then, unwrap_or, if◌then◌else◌, length, Result, Ok, Err}
 use Rattle.std.specs.String.{string_bytes, string_capacity}
 use Rattle.serde_json.specs.Data.{Data, array, object, Items, no_items, item}
 use Rattle.serde_json.specs.Events.{items_len}
@@ -7,9 +8,11 @@ use Rattle.serde_json.specs.Find.{get_member, get_item}
 use Rattle.json_patch.specs.Document.{Segment, child}
 use Rattle.jsonptr.specs.Text.{Pointer, encoded}
 use Rattle.json_patch.specs.Attempt.{Excuses}
-use Rattle.json_patch.specs.ChangeComputed.{segment_of, without, remove_item, set_child, drop_child, after_change, pointee, front_of, last_of}
-use Rattle.json_patch.specs.InPlace.{IsUnescaped}
-use Rattle.json_patch.specs.Marked.{is_mark, shown, seen, seen_items, at_shown, at_child, pop_item, restore_child, undo_slot, insert_marked, take_marked, swap_marked}
+use Rattle.json_patch.specs.ChangeComputed.{without, remove_item, set_child, drop_child, after_change, pointee}
+use Rattle.json_patch.specs.ChangeComputed.{front_of, last_of}
+use Rattle.json_patch.specs.NoMemory.{IsUnescaped}
+use Rattle.json_patch.specs.Marked.{is_mark, seen, seen_items, at_shown, at_child, pop_item, restore_child, undo_slot}
+use Rattle.json_patch.specs.Marked.{insert_marked, take_marked, swap_marked}
 use Rattle.json_patch.specs.declared.error.StepFault.{StepFault}
 use Rattle.json_patch.specs.declared.edits.Edit.{Edit}
 use Rattle.json_patch.specs.declared.edits.Edit.TheVariants.{Insert, Take, Remove, Swap, Undo, Clear, Sweep}

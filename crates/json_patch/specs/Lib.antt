@@ -7,7 +7,6 @@ pub mod Propositions
 pub mod Operation
 pub mod PartsView
 pub mod Step
-pub mod Undoing
 pub mod Run
 pub mod Refusal
 pub mod RefusalLaws
@@ -16,14 +15,12 @@ pub mod Merged
 pub mod Shared
 pub mod Attempt
 pub mod Faulting
-pub mod PartRun
-pub mod InPlace
+pub mod NoMemory
 pub mod PatchValue
 pub mod Texts
 pub mod Printed
 pub mod ReadLaws
 pub mod ReadSteps
-pub mod Edits
 pub mod ChangeComputed
 pub mod Marked
 pub mod SameComputed
@@ -40,3 +37,4 @@ pub mod Exchange
 pub mod SeenEdits
 pub mod Logged
 pub mod Footprints
+pub mod Filters

@@ -1,5 +1,6 @@
 -- For private clauses: a log of changes of a marked document, what undoes them, and what the inverse says of them.
-use Rattle.std.specs.Prelude.{◌≡◌, ◌≤◌, ◌+◌, ℕ, List, [], ◌∷◌, ◌++◌, Bool, true, Option, Some, None, Result, Ok, Err, if◌then◌else◌}
+use Rattle.std.specs.Prelude.{◌≡◌, ◌≤◌, ◌+◌, ℕ, List, [], ◌∷◌, ◌++◌, Bool, true, false, Option, Some, None, Result, Ok}
+use Rattle.std.specs.Prelude.{Err}
 use Rattle.serde_json.specs.Data.{Data}
 use Rattle.serde_json.specs.View.{view}
 use Rattle.serde_json.specs.declared.value.Value.{Value}
@@ -10,18 +11,19 @@ use Rattle.json_patch.specs.Document.{IsDocument}
 use Rattle.json_patch.specs.Exchange.{AreFitting, FindsWhere, made_where, room}
 use Rattle.json_patch.specs.Marked.{IsMarked, is_mark, seen}
 use Rattle.json_patch.specs.MarkedComputed.{marks}
-use Rattle.json_patch.specs.SeenEdits.{operation_at, undo_found}
-use Rattle.json_patch.specs.Operation.{Operation, add, remove, replace, path_of}
+use Rattle.json_patch.specs.SeenEdits.{found_marks, undo_found}
+use Rattle.json_patch.specs.NoMemory.{AreUnescaped}
+use Rattle.json_patch.specs.Operation.{Operation, add, remove, replace, move, copy, test, path_of}
 use Rattle.json_patch.specs.InverseComputed.{undo_add}
 use Rattle.json_patch.specs.Attempt.{Excuses}
 use Rattle.json_patch.specs.declared.error.StepFault.{StepFault}
 use Rattle.json_patch.specs.declared.edits.Edit.{Edit}
-use Rattle.json_patch.specs.declared.edits.Edit.TheVariants.{Insert, Take, Swap, Undo}
+use Rattle.json_patch.specs.declared.edits.Edit.TheVariants.{Insert, Take, Remove, Swap, Undo}
 use Rattle.json_patch.specs.declared.edits.Found.{Found}
-use Rattle.json_patch.specs.declared.edits.Found.TheVariants.{Nothing, Former, Taken}
+use Rattle.json_patch.specs.declared.edits.Found.TheVariants.{Taken}
 use Rattle.json_patch.specs.declared.log.Change.{Change}
 use Rattle.json_patch.specs.declared.log.Keep.{Keep}
-use Rattle.json_patch.specs.declared.log.Keep.TheVariants.{Inverse, Undo as undo_alone}
+use Rattle.json_patch.specs.declared.log.Keep.TheVariants.{Inverse, Undo as undo_alone, Nothing as keep_nothing}
 use Rattle.json_patch.specs.declared.log.Kept.{Kept}
 use Rattle.json_patch.specs.declared.log.Log.{Log}
 
@@ -55,23 +57,43 @@ AreRoomy n (c ∷ log) = IsRoomy n c × AreRoomy n log
 
 -- ---- how many marks the changes left
 
-abbrev pub taken_by : Found → ℕ
-taken_by Taken = 1
-taken_by found = 0
+-- one, where a value was taken away: by a `remove`, or from the source of a `move`
+abbrev pub taken : Found → Option PointerOf → ℕ
+taken Taken F = 1
+taken found None = 0
+taken found (Some F) = 1
 
-abbrev pub taken_from : Option PointerOf → ℕ
-taken_from None = 0
-taken_from (Some F) = 1
+abbrev pub count_some : {T : Type 0} → Option T → ℕ
+count_some None = 0
+count_some (Some x) = 1
+
+abbrev pub count_true : Bool → ℕ
+count_true false = 0
+count_true true = 1
 
 abbrev pub takes : List Change → ℕ
 takes [] = 0
-takes (c ∷ log) = (taken_by c.found + taken_from c.from) + takes log
+takes (c ∷ log) = taken c.found c.from + takes log
+
+-- the marks in what the changes found
+abbrev pub held : List Change → ℕ
+held [] = 0
+held (c ∷ log) = found_marks c.found (view c.value) + held log
+
+-- of the marks that the log's new end left and found, those that d had are left in e
+abbrev pub Counts : Log → Log → Data → Data → Type 0
+Counts olds news d e = marks e + held news.changes.items + takes olds.changes.items ≤ marks d + held olds.changes.items + takes news.changes.items
 
 -- what a change of d to e, or an attempt at it, does to the log
 pub record Logs (olds news : Log) (d e : Data) : Type 0 where
   pub roomy : AreRoomy (room olds.names) olds.changes.items → AreRoomy (room news.names) news.changes.items
   pub leads : (p : Data) → LeadsBack olds.changes.items d p → LeadsBack news.changes.items e p
-  pub counts : marks e + takes olds.changes.items ≤ marks d + takes news.changes.items
+  pub counts : Counts olds news d e
+
+-- what is made with nothing kept can't be undone
+abbrev pub LogsAs : Result (Unit {0}) StepFault → Keep → Log → Log → Data → Data → Type 0
+LogsAs (Ok x) keep_nothing olds news d e = Counts olds news d e
+LogsAs r keep olds news d e = Logs olds news d e
 
 -- ---- what the inverse says
 
@@ -111,9 +133,9 @@ IsKeptBack F v x = ⊥
 
 -- what is kept of an edit that is undone at P, with v, which was taken from F if it was
 abbrev pub IsKept : Keep → Pointer → Option PointerOf → Data → Option Kept → Type 0
-IsKept undo_alone P F v k = k ≡ None
 IsKept Inverse P F v None = ⊥
 IsKept Inverse P F v (Some k) = (k.place ≡ P) × IsKeptBack F v k.back
+IsKept keep P F v k = k ≡ None
 
 -- the change is the log's new end
 pub record IsLogged (edit : Edit) (keep : Keep) (P : PointerOf) (F : Option PointerOf) (olds news : Log) (d e v : Data) (c : Change) : Type 0 where
@@ -137,3 +159,29 @@ pub record IsTakenFrom (d m : Data) (F P : Pointer) (v : Data) : Type 0 where
   pub marks : IsMarked mark × (is_mark mark ≡ true)
   pub makes : made_where Take mark d F ≡ Some m
   pub finds : FindsWhere Take d F Taken v
+
+-- ---- what isn't undone
+
+-- what is kept of an operation, unless the inverse is: nothing of the last one, where the log is empty
+abbrev pub kept_at : Keep → Bool → Bool → Keep
+kept_at undo_alone true true = keep_nothing
+kept_at keep last empty = keep
+
+abbrev pub IsTest : Operation → Type 0
+IsTest (test P v) = Unit {0}
+IsTest op = ⊥
+
+-- the edit that leaves no mark
+abbrev pub lasting : Edit → Edit
+lasting Take = Remove
+lasting edit = edit
+
+-- an operation that takes no memory: a `test`; where nothing is kept, a `remove` at a pointer whose text holds no ~
+abbrev pub IsFree : Operation → Keep → Type 0
+IsFree (add P v) keep = ⊥
+IsFree (remove P) keep_nothing = AreUnescaped P
+IsFree (remove P) keep = ⊥
+IsFree (replace P v) keep = ⊥
+IsFree (move F P) keep = ⊥
+IsFree (copy F P) keep = ⊥
+IsFree (test P v) keep = Unit {0}

@@ -1,8 +1,10 @@
 -- Marked documents: a number that isn't whole stands where there is nothing.
-use Rattle.std.specs.Prelude.{◌≡◌, ℕ, zero, suc, Bool, true, false, List, Option, Some, None, option_map, option_and_then, if◌then◌else◌}
+use Rattle.std.specs.Prelude.{◌≡◌, ℕ, zero, suc, Bool, true, false, List, Option, Some, None, option_map}
+use Rattle.std.specs.Prelude.{option_and_then, if◌then◌else◌}
 use Rattle.std.specs.Float.{binary64}
 use Rattle.std.specs.Float.Ieee.{of_bits}
-use Rattle.serde_json.specs.Data.{float, Data, null, boolean, number, string, array, object, Items, no_items, item, Members, no_members, member, put}
+use Rattle.serde_json.specs.Data.{float, Data, null, boolean, number, string, array, object, Items, no_items, item}
+use Rattle.serde_json.specs.Data.{Members, no_members, member, put}
 use Rattle.serde_json.specs.Events.{items_len}
 use Rattle.json_patch.specs.Document.{IsBelowMembers, Segment, key, place, child}
 use Rattle.json_patch.specs.ChangeComputed.{insert_item, remove_item, set_child, segment_of, slot_in}

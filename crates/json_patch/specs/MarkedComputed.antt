@@ -1,6 +1,7 @@
 -- Equality that passes over marks; how many marks there are.
 use Rattle.std.specs.Prelude.{◌+◌, ◌&&◌, ℕ, Bool, true, false, not, bytes_eq, if◌then◌else◌}
-use Rattle.serde_json.specs.Data.{unsigned, negative, float, Data, null, boolean, number, string, array, object, Items, no_items, item, Members, no_members, member}
+use Rattle.serde_json.specs.Data.{unsigned, negative, float, Data, null, boolean, number, string, array, object, Items}
+use Rattle.serde_json.specs.Data.{no_items, item, Members, no_members, member}
 use Rattle.json_patch.specs.Marked.{is_mark}
 use Rattle.json_patch.specs.SameComputed.{same_bool, same_num}
 

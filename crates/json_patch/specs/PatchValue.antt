@@ -1,6 +1,7 @@
 -- A patch as a JSON value (RFC 6902, sections 3 and 4): the members of an operation, when a value
 -- reads as a patch, why it doesn't, and what is written for one.
-use Rattle.std.specs.Prelude.{◌≡◌, ◌<◌, ℕ, zero, suc, List, [], ◌∷◌, ◌++◌, map, Option, Some, None, option_map, Result, IfErr, IsTrue, codes}
+use Rattle.std.specs.Prelude.{◌≡◌, ◌<◌, ℕ, zero, suc, List, [], ◌∷◌, ◌++◌, map, Option, Some, None, option_map, Result}
+use Rattle.std.specs.Prelude.{IfErr, IsTrue, codes}
 use Rattle.std.specs.List.{list_any}
 use Rattle.std.specs.Str.{bytes_eq}
 use Rattle.serde_json.specs.Data.{Data, string, array, object, Items, no_items, item, Members, no_members, put}
@@ -12,7 +13,9 @@ use Rattle.jsonptr.specs.declared.ParseError.{ParseError}
 use Rattle.json_patch.specs.Document.{IsDocument}
 use Rattle.json_patch.specs.Operation.{Operation, Parts, parts_of, IsWholeOp}
 use Rattle.json_patch.specs.declared.error.ReadKind.{ReadKind}
-use Rattle.json_patch.specs.declared.error.ReadKind.TheVariants.{NotAList, NotAnObject, MissingOp, OpNotText, UnknownOp, MissingFrom, FromNotText, BadFrom, MissingPath, PathNotText, BadPath, MissingValue, ValueNotWhole}
+use Rattle.json_patch.specs.declared.error.ReadKind.TheVariants.{NotAList, NotAnObject, MissingOp, OpNotText, UnknownOp}
+use Rattle.json_patch.specs.declared.error.ReadKind.TheVariants.{MissingFrom, FromNotText, BadFrom, MissingPath}
+use Rattle.json_patch.specs.declared.error.ReadKind.TheVariants.{PathNotText, BadPath, MissingValue, ValueNotWhole}
 use Rattle.json_patch.specs.declared.error.ReadError.{ReadError}
 use Rattle.json_patch.specs.declared.error.ReadFault.{ReadFault}
 use Rattle.json_patch.specs.declared.error.ReadFault.TheVariants.{Refused, Memory}

@@ -6,7 +6,8 @@ use Rattle.std.proofs.Props.{props}
 use Rattle.std.specs.Ordering.{nat_cmp}
 use Rattle.std.specs.declared.cmp.Ordering.TheVariants.{Less}
 use Rattle.std.specs.Cmp.Lexicographic.{slice_cmp}
-use Rattle.serde_json.specs.Data.{Num, unsigned, negative, float, Data, null, boolean, number, string, array, object, Items, no_items, item, Members, no_members, member}
+use Rattle.serde_json.specs.Data.{Num, unsigned, negative, float, Data, null, boolean, number, string, array, object}
+use Rattle.serde_json.specs.Data.{Items, no_items, item, Members, no_members, member}
 use Rattle.json_patch.specs.Document.{IsBelowMembers, IsWhole, IsDocument, AreDocuments, AreMembers}
 use Rattle.json_patch.specs.Operation.{Operation, operations, parts_of, AreWhole, operations_of}
 use Rattle.json_patch.specs.RunComputed.{Outcome, after_run}

@@ -2,7 +2,8 @@
 use Rattle.std.specs.Prelude.{◌≡◌, ℕ, List, Option}
 use Rattle.serde_json.specs.Data.{Data}
 use Rattle.json_patch.specs.Operation.{Operation}
-use Rattle.json_patch.specs.PatchValue.{name_of, field_names, ReadsFields, ReadsOperation, ReadsPatch, RefusesFields, RefusesOperation, RefusesPatch}
+use Rattle.json_patch.specs.PatchValue.{name_of, field_names, ReadsFields, ReadsOperation, ReadsPatch, RefusesFields}
+use Rattle.json_patch.specs.PatchValue.{RefusesOperation, RefusesPatch}
 use Rattle.json_patch.specs.declared.error.ReadKind.{ReadKind}
 
 -- v reads as these operations and no others, and is refused for nothing

@@ -1,10 +1,12 @@
 -- What operations leave of a document, computed.
-use Rattle.std.specs.Prelude.{ℕ, zero, suc, List, [], ◌∷◌, ◌&&◌, Bool, true, false, bytes_eq, Option, Some, None, Result, Ok, Err, if◌then◌else◌}
+use Rattle.std.specs.Prelude.{ℕ, zero, suc, List, [], ◌∷◌, ◌&&◌, Bool, true, false, bytes_eq, Option, Some, None}
+use Rattle.std.specs.Prelude.{Result, Ok, Err, if◌then◌else◌}
 use Rattle.serde_json.specs.Data.{Data}
 use Rattle.jsonptr.specs.Text.{Pointer}
 use Rattle.json_patch.specs.Operation.{Operation, add, remove, replace, move, copy, test}
 use Rattle.json_patch.specs.declared.error.PatchErrorKind.{PatchErrorKind}
-use Rattle.json_patch.specs.declared.error.PatchErrorKind.TheVariants.{TestFailed, InvalidFromPointer, InvalidPointer, CannotMoveInsideItself}
+use Rattle.json_patch.specs.declared.error.PatchErrorKind.TheVariants.{TestFailed, InvalidFromPointer, InvalidPointer}
+use Rattle.json_patch.specs.declared.error.PatchErrorKind.TheVariants.{CannotMoveInsideItself}
 use Rattle.json_patch.specs.ChangeComputed.{after_add, after_remove, after_replace, pointee}
 use Rattle.json_patch.specs.SameComputed.{same}
 

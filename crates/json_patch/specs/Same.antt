@@ -1,6 +1,7 @@
 -- Equality of JSON values (RFC 6902, section 4.6), and of operations.
 use Rattle.std.specs.Prelude.{◌≡◌, List, [], ◌∷◌, Option, Some, None}
-use Rattle.serde_json.specs.Data.{Num, unsigned, negative, float, Data, null, boolean, number, string, array, object, Items, no_items, item, Members, no_members, member}
+use Rattle.serde_json.specs.Data.{Num, unsigned, negative, float, Data, null, boolean, number, string, array, object}
+use Rattle.serde_json.specs.Data.{Items, no_items, item, Members, no_members, member}
 use Rattle.json_patch.specs.Document.{IsBelowMembers}
 use Rattle.json_patch.specs.Operation.{Operation, Parts, parts_of}
 

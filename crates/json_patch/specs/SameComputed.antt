@@ -2,7 +2,8 @@
 use Rattle.std.specs.Prelude.{◌==◌, ◌&&◌, Bool, true, false, not, bytes_eq}
 use Rattle.std.specs.Option.{option_eq}
 use Rattle.std.specs.Ordering.{int_eq}
-use Rattle.serde_json.specs.Data.{Num, unsigned, negative, float, Data, null, boolean, number, string, array, object, Items, no_items, item, Members, no_members, member}
+use Rattle.serde_json.specs.Data.{Num, unsigned, negative, float, Data, null, boolean, number, string, array, object}
+use Rattle.serde_json.specs.Data.{Items, no_items, item, Members, no_members, member}
 use Rattle.jsonptr.specs.Text.{Pointer, text_of}
 use Rattle.json_patch.specs.Operation.{Operation, Parts, parts_of}
 

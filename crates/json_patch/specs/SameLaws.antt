@@ -5,12 +5,14 @@ use Rattle.std.specs.Option.{option_eq}
 use Rattle.std.specs.Cmp.{IsEquivalence, IsPartialEquivalence, both_ways, on_equiv, partial_equiv_from_equiv}
 use Rattle.std.proofs.lemmas.Bool.Decides.{Decides-int_eq, Decides-eqb, Decides-and, Decides-like}
 use Rattle.std.proofs.lemmas.Slice.Eq.{bytes_eq-Decides}
-use Rattle.serde_json.specs.Data.{Num, unsigned, negative, float, Data, null, boolean, number, string, array, object, Items, no_items, item, Members, no_members, member}
+use Rattle.serde_json.specs.Data.{Num, unsigned, negative, float, Data, null, boolean, number, string, array, object}
+use Rattle.serde_json.specs.Data.{Items, no_items, item, Members, no_members, member}
 use Rattle.jsonptr.specs.Text.{Pointer, text_of}
 use Rattle.jsonptr.specs.TextLaws.{one_pointer}
 use Rattle.json_patch.specs.Operation.{Parts, parts_of}
 use Rattle.json_patch.specs.Same.{AreSameNumbers, AreSame, AreSameItems, AreSameMembers, AreSameAt, AreSameParts}
-use Rattle.json_patch.specs.SameComputed.{same_bool, same_num, same, same_items, same_members, same_pointer, same_parts, same_operation}
+use Rattle.json_patch.specs.SameComputed.{same_bool, same_num, same, same_items, same_members, same_pointer, same_parts}
+use Rattle.json_patch.specs.SameComputed.{same_operation}
 
 -- ---- values
 

@@ -1,11 +1,11 @@
 -- For private clauses: an edit of a marked document, as it is seen.
 use Rattle.std.specs.Prelude.{◌≡◌, List, [], ◌∷◌, ℕ, true, false, Option, Some, None, option_map}
-use Rattle.serde_json.specs.Data.{Data}
+use Rattle.serde_json.specs.Data.{Data, array}
+use Rattle.serde_json.specs.Events.{items_len}
 use Rattle.jsonptr.specs.Text.{Pointer}
 use Rattle.json_patch.specs.ChangeComputed.{put_in, take_from, after_change, after_add, after_remove, after_replace}
-use Rattle.json_patch.specs.Edits.{place_to_undo}
-use Rattle.json_patch.specs.InverseComputed.{block, undo_at}
-use Rattle.json_patch.specs.Operation.{Operation, add, remove, replace}
+use Rattle.json_patch.specs.InverseComputed.{block, undo_add, undo_at}
+use Rattle.json_patch.specs.Operation.{Operation, add, remove, replace, move, copy, test, path_of}
 use Rattle.json_patch.specs.Marked.{is_mark, shown, seen, IsMarked, IsValue}
 use Rattle.json_patch.specs.declared.edits.Edit.{Edit}
 use Rattle.json_patch.specs.declared.edits.Edit.TheVariants.{Insert, Take, Remove, Swap, Clear, Sweep}
@@ -70,6 +70,15 @@ operation_at Insert P v = add P v
 operation_at Swap P v = replace P v
 operation_at edit P v = remove P
 
+-- where the operation works that takes back this one
+abbrev pub place_to_undo : Data → Operation → Pointer
+place_to_undo d (add P v) = path_of (undo_add d P)
+place_to_undo d (remove P) = P
+place_to_undo d (replace P v) = P
+place_to_undo d (move F P) = P
+place_to_undo d (copy F P) = path_of (undo_add d P)
+place_to_undo d (test P v) = P
+
 -- what takes back, at this place, an edit that found this: where a mark stood, nothing is seen
 abbrev pub undo_found : Pointer → Found → Data → Operation
 undo_found P Nothing w = remove P
@@ -89,3 +98,8 @@ found_marks found w = marks w
 abbrev pub put_marks : Edit → Data → ℕ
 put_marks Remove v = 0
 put_marks edit v = marks v
+
+-- how many items a list has
+abbrev pub count_in : Option Data → Option ℕ
+count_in (Some (array ds)) = Some (items_len ds)
+count_in d = None

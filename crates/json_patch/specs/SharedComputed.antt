@@ -1,6 +1,6 @@
 -- The tokens that all pointers of a list begin with, computed.
-use Rattle.std.specs.Prelude.{List, [], ◌∷◌, ◌++◌, bytes_eq, Option, Some, None, if◌then◌else◌}
-use Rattle.jsonptr.specs.Text.{Pointer}
+use Rattle.std.specs.Prelude.{◌↔◌, List, [], ◌∷◌, ◌++◌, bytes_eq, Option, Some, None, if◌then◌else◌}
+use Rattle.jsonptr.specs.Text.{Pointer, IsPrefix}
 use Rattle.json_patch.specs.Operation.{Operation, add, remove, replace, move, copy, test}
 use Rattle.json_patch.specs.ChangeComputed.{front_of}
 
@@ -37,3 +37,7 @@ shared_of ((t ∷ P) ∷ Ps) = parents_of (front_of t P) Ps
 -- the longest list of tokens that begins the parent of every pointer of the list
 abbrev pub shared_tokens : List Operation → Option Pointer
 shared_tokens ops = shared_of (all_pointers ops)
+
+-- S is the longest of the lists of tokens that this holds of, which are those that begin it
+abbrev pub IsLongest : (Pointer → Type 0) → Pointer → Type 0
+IsLongest Holds S = (T : Pointer) → Holds T ↔ IsPrefix T S

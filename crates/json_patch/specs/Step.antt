@@ -6,7 +6,8 @@ use Rattle.json_patch.specs.Resolve.{StandsAt}
 use Rattle.json_patch.specs.Change.{IsAdded, IsRemoved, IsReplaced}
 use Rattle.json_patch.specs.Operation.{Operation, add, remove, replace, move, copy, test}
 use Rattle.json_patch.specs.declared.error.PatchErrorKind.{PatchErrorKind}
-use Rattle.json_patch.specs.declared.error.PatchErrorKind.TheVariants.{TestFailed, InvalidFromPointer, InvalidPointer, CannotMoveInsideItself}
+use Rattle.json_patch.specs.declared.error.PatchErrorKind.TheVariants.{TestFailed, InvalidFromPointer, InvalidPointer}
+use Rattle.json_patch.specs.declared.error.PatchErrorKind.TheVariants.{CannotMoveInsideItself}
 
 -- nothing is related so
 abbrev pub Never : (Data → Type 0) → Type 0

@@ -1,19 +1,20 @@
 //! One edit of a document with marks, where a pointer leads.
 
-ghost use Rattle.std.specs.Prelude.{◌≡◌, ◌≤◌, ℕ, List, IfOk, OnErr, OnOk, IsOk, IsTrue, Some, vec_len, string_bytes};
+ghost use Rattle.std.specs.Prelude.{◌≡◌, ◌↔◌, ◌≤◌, ℕ, List, IfOk, OnOk, IsOk, IsTrue, Some, string_bytes};
 ghost use Rattle.serde_json.specs.Data.{Data, array, object};
 ghost use Rattle.serde_json.specs.View.{view, items_view, members_view};
 ghost use Rattle.jsonptr.specs.Pointers.{token_of, tokens_left, tokens_of};
 ghost use Rattle.json_patch.specs.ChangeComputed.{after_change, insert_item};
-ghost use Rattle.json_patch.specs.Exchange.{AreFitting, Exchanges, ExchangesIn, FindsAt, FindsRoot, FindsWhere, Fits, IsLight, IsRead, IsRemoving, IsSwapping, is_removable, is_swappable, swapped, made, made_root, made_where, room};
+ghost use Rattle.json_patch.specs.Exchange.{AreFitting, Exchanges, ExchangesIn, FindsAt, FindsRoot, FindsWhere, Fits};
+ghost use Rattle.json_patch.specs.Exchange.{IsLight, IsRead, IsRemoving, IsSwapping, is_removable, is_swappable};
+ghost use Rattle.json_patch.specs.Exchange.{swapped, made, made_root, made_where, room};
 ghost use Rattle.json_patch.specs.declared.edits.Edit.TheVariants.{Clear, Insert, Remove, Swap, Sweep, Take, Undo};
 ghost use Rattle.json_patch.specs.declared.edits.Found.TheVariants.{Former, Nothing, Taken};
-ghost use Rattle.json_patch.specs.InPlace.{NeverShort};
+ghost use Rattle.json_patch.specs.NoMemory.{AreUnescaped, NeverShort};
 ghost use Rattle.json_patch.specs.Marked.{AreMarkedItems, AreMarkedMembers, IsMarked};
 
 use crate::error::{PatchErrorKind, StepFault};
 use crate::marks::{clear, is_mark, live_count};
-use crate::record::is_unescaped;
 use crate::walk::{item_index, slot_index};
 use jsonptr::{Pointer, Token, Tokens};
 use serde_json::{Map, Value};
@@ -104,6 +105,18 @@ impl Names {
             token.encoded()
         }
     }
+}
+
+/// Whether the pointer's text holds no `~`.
+fn is_unescaped(path: Pointer<'_>) -> bool
+    ensures { IsTrue result ↔ AreUnescaped (tokens_of path.entry) }
+{
+    for token in path.tokens() {
+        if !token.is_key(token.encoded()) {
+            return false;
+        }
+    }
+    true
 }
 
 /// Makes the edit where the pointer leads.

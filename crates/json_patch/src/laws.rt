@@ -1,7 +1,8 @@
 //! Laws over the definitions: the clauses of functions that do nothing, one for each subject. They
 //! are for proofs to cite, and never called by a program.
 
-ghost use Rattle.std.specs.Prelude.{◌≡◌, ◌↔◌, ◌+◌, ◌++◌, ℕ, List, Ok, Err, length, Some, ◌∷◌, [], ◌≤◌, ◌*◌, ◌⊎◌, Option, ◌≢◌, false};
+ghost use Rattle.std.specs.Prelude.{◌≡◌, ◌↔◌, ◌+◌, ◌++◌, ℕ, List, Ok, Err, length, Some, ◌∷◌, [], ◌≤◌, ◌*◌, ◌⊎◌};
+ghost use Rattle.std.specs.Prelude.{Option, ◌≢◌, false};
 ghost use Rattle.serde_json.specs.Data.{Data, Members, object};
 ghost use Rattle.serde_json.specs.Find.{get_member, get};
 ghost use Rattle.serde_json.specs.Written.{has_float};
@@ -16,7 +17,8 @@ ghost use Rattle.json_patch.specs.Merged.{IsMerged};
 ghost use Rattle.json_patch.specs.MergedComputed.{after_merge};
 ghost use Rattle.json_patch.specs.Operation.{AreWhole, IsWholeOp, Operation, operations, operations_of, path_of};
 ghost use Rattle.json_patch.specs.PatchValue.{ReadsPatch, written_value, written_fields, written_patch};
-ghost use Rattle.json_patch.specs.ReadLaws.{IsRead, IsReadAlone, IsReadLike, HasReadFault, HasReadFaultAlone, HasReadFaultLike};
+ghost use Rattle.json_patch.specs.ReadLaws.{IsRead, IsReadAlone, IsReadLike, HasReadFault, HasReadFaultAlone};
+ghost use Rattle.json_patch.specs.ReadLaws.{HasReadFaultLike};
 ghost use Rattle.json_patch.specs.Resolve.{Resolves, StandsAt, HasTarget};
 ghost use Rattle.json_patch.specs.Run.{Accepts, AreTests, Ends, IsAccepted, RefusesAt};
 ghost use Rattle.json_patch.specs.RunComputed.{fault, after_run, after_step};
@@ -137,6 +139,10 @@ pub fn apart()
     // Apart is so both ways.
     ensures apart_both_ways { (xs ys : List Operation) → AreApart xs ys → AreApart ys xs }
 
+    // A list is apart from a joined list where it is from each part.
+    ensures apart_joined { (xs ys zs : List Operation) → AreApart xs ys → AreApart xs zs
+        → AreApart xs (ys ++ zs) }
+
     // In either order they are accepted alike, and lead to one end.
     ensures accepted_alike { (d : Data) (xs ys : List Operation) → IsDocument d → AreWhole xs
         → AreWhole ys → AreApart xs ys → (e : Data)
@@ -166,7 +172,7 @@ pub fn apart()
     // After both, the inverse of the one is accepted, and leads to the end of the other alone.
     ensures undo_keeps { (d : Data) (xs ys I : List Operation) (m e : Data) → IsDocument d
         → AreWhole xs → AreWhole ys → AreApart xs ys → IsInverse d xs I → Accepts d xs m
-        → Accepts m ys e → (n : Data) × Accepts d ys n × Accepts e I n }
+        → Accepts m ys e → (n : Data) × Accepts d ys n × IsAccepted e I n }
 
     // That neither's `path` begins the other's is not enough for two operations: on an empty list
     // an `add` at `/-` makes what a `replace` at `/0` is refused without.

@@ -1,32 +1,46 @@
 //! Operations that are made on a document with marks, and what undoes them.
 
-ghost use Rattle.std.specs.Prelude.{◌≡◌, ◌≤◌, [], IfErr, IfOk, OnErr, OnOk, Some};
+ghost use Rattle.std.specs.Prelude.{◌≡◌, ◌+◌, ◌*◌, ◌≤◌, ◌++◌, ◌↔◌, [], IfErr, IfOk, IsOk, IsTrue, OnErr, OnOk, Some};
+ghost use Rattle.std.specs.Prelude.{vec_capacity, vec_len};
 ghost use Rattle.serde_json.specs.Data.{Data};
 ghost use Rattle.serde_json.specs.View.{view};
 ghost use Rattle.jsonptr.specs.Pointers.{tokens_of};
+ghost use Rattle.jsonptr.specs.Text.{IsProperPrefix};
 ghost use Rattle.json_patch.specs.Attempt.{ComesTo, FailsAs};
 ghost use Rattle.json_patch.specs.ChangeComputed.{pointee};
 ghost use Rattle.json_patch.specs.Document.{IsDocument};
 ghost use Rattle.json_patch.specs.Exchange.{AreFitting, room};
-ghost use Rattle.json_patch.specs.InPlace.{NeverShort};
+ghost use Rattle.json_patch.specs.NoMemory.{AreUnescaped, NeverShort};
 ghost use Rattle.json_patch.specs.InverseComputed.{block, undo_add};
-ghost use Rattle.json_patch.specs.Logged.{AreRoomy, IsFor, IsKept, IsRoomy, IsTakenFrom, IsUndone, Keeps, LeadsBack, Logs, LogsEdit, place_of};
-ghost use Rattle.json_patch.specs.Marked.{IsValue, seen};
-ghost use Rattle.json_patch.specs.Operation.{IsWholeOp, move as move_at, operation_of, path_of, test as test_at};
+ghost use Rattle.json_patch.specs.Logged.{AreRoomy, IsFor, IsFree, IsKept, IsRoomy, IsTakenFrom, IsTest, IsUndone, Keeps};
+ghost use Rattle.json_patch.specs.Logged.{LeadsBack, LogsAs, LogsEdit, held, kept_at, kept_block, kept_blocks, lasting};
+ghost use Rattle.json_patch.specs.Logged.{place_of, taken, takes, count_some, count_true};
+ghost use Rattle.json_patch.specs.MarkedComputed.{marks};
+ghost use Rattle.json_patch.specs.Marked.{IsSeen, IsValue, seen};
+ghost use Rattle.json_patch.specs.Operation.{IsWholeOp, move as move_at, operation_of, operations, path_of};
+ghost use Rattle.json_patch.specs.Operation.{remove as remove_at, test as test_at};
 ghost use Rattle.json_patch.specs.RunComputed.{after_copy, after_step};
-ghost use Rattle.json_patch.specs.SeenEdits.{operation_at};
+ghost use Rattle.json_patch.specs.SeenEdits.{operation_at, undo_found};
+ghost use Rattle.json_patch.specs.declared.edits.Edit.TheVariants.{Take};
+ghost use Rattle.json_patch.specs.declared.log.Keep.TheVariants.{Inverse, Nothing};
 
 use crate::edits::{Edit, Found, Names, make};
 use crate::equality::shows;
 use crate::error::{PatchErrorKind, StepFault};
-use crate::marks::mark;
-use crate::operation::PatchOperation;
+use crate::marks::{clear, count_marks, is_mark, mark};
+use crate::operation::{AddOperation, PatchOperation, RemoveOperation, ReplaceOperation};
 use crate::seen::{copy_seen, count_shown, find_shown};
-use crate::step::is_inside;
+use crate::shared::shared_pointer;
+use crate::shifts::followed;
+use crate::walk::find;
 use jsonptr::{Pointer, PointerBuf};
 use serde_json::Value;
 use std::alloc::{AllocError, Global};
 use std::mem;
+
+/// Following marks takes time as the square of the changes: with more than so many a walk through
+/// some megabytes takes less.
+const MOST_FOLLOWED: usize = 1_000;
 
 /// What a run keeps of its changes.
 #[derive(Clone, Copy)]
@@ -35,6 +49,21 @@ pub(crate) enum Keep {
     Inverse,
     /// What undoes them.
     Undo,
+    /// Nothing: of the last one, after which nothing can fail.
+    Nothing,
+}
+
+impl Keep {
+    /// What is kept of an operation: of the last one of a list, where the log is empty, nothing but
+    /// what the inverse says. Where it isn't, marks may be left, and how items shift has to be known.
+    pub(crate) fn at(self, last: bool, empty: bool) -> Keep
+        ensures { result ≡ kept_at self last empty }
+    {
+        match self {
+            Keep::Undo if last && empty => Keep::Nothing,
+            keep => keep,
+        }
+    }
 }
 
 /// What a run keeps until its end.
@@ -67,6 +96,15 @@ pub(crate) struct Kept {
 }
 
 impl<'a> Log<'a> {
+    pub(crate) fn new(alloc: Global) -> Log<'a>
+        ensures { result.changes.items ≡ [] }
+    {
+        Log {
+            names: Names::new(alloc),
+            changes: Vec::new(alloc),
+        }
+    }
+
     /// Makes the operation, and logs what undoes it, or does neither.
     pub(crate) fn step(
         &mut self,
@@ -81,9 +119,12 @@ impl<'a> Log<'a> {
             (seen (view doc.new)) }
         ensures marked { IsValue (view doc.new) }
         ensures unchanged { OnErr result (view doc.new ≡ view doc.old) }
-        ensures logs { Logs self.old self.new (view doc.old) (view doc.new) }
+        ensures logs { LogsAs result keep self.old self.new (view doc.old) (view doc.new) }
         ensures keeps { IfOk result (λ _. Keeps keep self.old self.new
             (block (seen (view doc.old)) (operation_of operation.now))) }
+        ensures rests { IsTest (operation_of operation.now)
+            → self.new.changes.items ≡ self.old.changes.items }
+        ensures no_memory { IsFree (operation_of operation.now) keep → NeverShort result }
     {
         match operation {
             PatchOperation::Add(made) => {
@@ -124,11 +165,39 @@ impl<'a> Log<'a> {
             (seen (view doc.new)) }
         ensures marked { IsValue (view doc.new) }
         ensures unchanged { OnErr result (view doc.new ≡ view doc.old) }
-        ensures logs { Logs self.old self.new (view doc.old) (view doc.new) }
+        ensures logs { LogsAs result keep self.old self.new (view doc.old) (view doc.new) }
         ensures keeps { IfOk result (λ _. Keeps keep self.old self.new
             (block (seen (view doc.old)) (operation_at edit (tokens_of path.entry) (view value)))) }
+        ensures no_memory { edit ≡ Take → IsFree (remove_at (tokens_of path.entry)) keep → NeverShort result }
     {
+        if let Keep::Nothing = keep {
+            return self.change_for_good(doc, path, edit, value);
+        }
         self.log_edit(doc, path, None, edit, &mut value, keep)
+    }
+
+    /// Makes the edit, which nothing is to undo, or does nothing.
+    fn change_for_good(
+        &mut self,
+        doc: &mut Value,
+        path: Pointer<'_>,
+        edit: Edit,
+        mut value: Value,
+    ) -> Result<(), StepFault>
+        requires marked { IsValue (view doc.old) }
+        requires value { IsFor edit (view value) }
+        ensures comes { ComesTo result
+            (after_step (seen (view doc.old)) (operation_at edit (tokens_of path.entry) (view value)))
+            (seen (view doc.new)) }
+        ensures marked { IsValue (view doc.new) }
+        ensures unchanged { OnErr result (view doc.new ≡ view doc.old) }
+        ensures logs { LogsAs result Nothing self.old self.new (view doc.old) (view doc.new) }
+        ensures no_memory { edit ≡ Take → AreUnescaped (tokens_of path.entry) → NeverShort result }
+    {
+        match make(&mut self.names, doc, path, lasting(edit), &mut value) {
+            Ok(_found) => Ok(()),
+            Err(fault) => Err(fault),
+        }
     }
 
     /// Makes a `move` (section 4.4), and logs what undoes it, or does neither.
@@ -145,7 +214,7 @@ impl<'a> Log<'a> {
             (seen (view doc.new)) }
         ensures marked { IsValue (view doc.new) }
         ensures unchanged { OnErr result (view doc.new ≡ view doc.old) }
-        ensures logs { Logs self.old self.new (view doc.old) (view doc.new) }
+        ensures logs { LogsAs result keep self.old self.new (view doc.old) (view doc.new) }
         ensures keeps { IfOk result (λ _. Keeps keep self.old self.new
             (block (seen (view doc.old)) (move_at (tokens_of from.entry) (tokens_of path.entry)))) }
     {
@@ -197,6 +266,16 @@ impl<'a> Log<'a> {
     }
 }
 
+/// The edit that leaves no mark.
+fn lasting(edit: Edit) -> Edit
+    ensures { result ≡ lasting edit }
+{
+    match edit {
+        Edit::Take => Edit::Remove,
+        _ => edit,
+    }
+}
+
 /// Takes the value of a `move` to `path`, and leaves a mark in its place.
 fn take_source(
     names: &mut Names,
@@ -224,6 +303,16 @@ fn take_source(
             Err(StepFault::Refused(PatchErrorKind::InvalidFromPointer))
         }
         Err(fault) => Err(fault),
+    }
+}
+
+/// Whether something follows in `path` after all of `from`.
+fn is_inside(path: Pointer<'_>, from: Pointer<'_>) -> bool
+    ensures { IsTrue result ↔ IsProperPrefix (tokens_of from.entry) (tokens_of path.entry) }
+{
+    match path.strip_prefix(from) {
+        Some(rest) => !rest.is_root(),
+        None => false,
     }
 }
 
@@ -335,4 +424,228 @@ fn undo_one(names: &mut Names, doc: &mut Value, change: Change<'_>)
     if make(names, doc, from, Edit::Undo(Found::Taken), &mut value).is_err() {
         unreachable!();
     }
+}
+
+/// Takes out the marks that the changes of the operations left: at the places of the changes; where
+/// some are left, as items shift, at the places that they have by now; and what is left after that by
+/// a walk through what the operations share.
+pub(crate) fn clear_marks(
+    names: &mut Names,
+    changes: &[Change<'_>],
+    patch: &[PatchOperation],
+    doc: &mut Value,
+)
+    requires marked { IsValue (view doc.old) }
+    requires counts { marks (view doc.old) + held changes.now ≤ takes changes.now }
+    ensures { view doc.new ≡ seen (view doc.old) }
+{
+    let left = clear_places(names, changes, doc);
+    if left == 0 {
+        return;
+    }
+    let left = left - count_held(changes);
+    let left = clear_followed(names, changes, doc, left);
+    if left == 0 {
+        return;
+    }
+    let left = left - sweep(names, doc, patch);
+    if left > 0 {
+        clear(doc);
+    }
+}
+
+/// Takes out the marks that stand at the places of their changes, and answers how many marks are
+/// left at most, with those in what the changes found.
+fn clear_places(names: &mut Names, changes: &[Change<'_>], doc: &mut Value) -> usize
+    requires marked { IsValue (view doc.old) }
+    requires counts { marks (view doc.old) + held changes.now ≤ takes changes.now }
+    ensures cleared { IsSeen (view doc.new) (seen (view doc.old)) }
+    ensures left { marks (view doc.new) + held changes.now ≤ result }
+{
+    let mut left = count_taken(changes);
+    for change in changes {
+        let Some(place) = taken_at(change) else {
+            continue;
+        };
+        if clear_mark(names, doc, place) {
+            left -= 1;
+        }
+    }
+    left
+}
+
+/// Takes out the marks that have shifted since, and answers how many are left at most, of so many.
+fn clear_followed(
+    names: &mut Names,
+    changes: &[Change<'_>],
+    doc: &mut Value,
+    mut left: usize,
+) -> usize
+    requires marked { IsValue (view doc.old) }
+    requires counts { marks (view doc.old) ≤ left }
+    ensures cleared { IsSeen (view doc.new) (seen (view doc.old)) }
+    ensures left { marks (view doc.new) ≤ result }
+{
+    if changes.len() > MOST_FOLLOWED {
+        return left;
+    }
+    for number in 0..changes.len() {
+        if left == 0 {
+            break;
+        }
+        let Ok(Some(place)) = followed(names.alloc, &changes[number], &changes[number + 1..]) else {
+            continue;
+        };
+        if clear_mark(names, doc, place.as_pointer()) {
+            left -= 1;
+        }
+    }
+    left
+}
+
+/// Takes all marks out of what the operations share, and answers how many.
+fn sweep(names: &mut Names, doc: &mut Value, patch: &[PatchOperation]) -> usize
+    requires { IsValue (view doc.old) }
+    ensures cleared { IsSeen (view doc.new) (seen (view doc.old)) }
+    ensures fewer { marks (view doc.new) + result ≤ marks (view doc.old) }
+{
+    let Some(shared) = shared_pointer(patch) else {
+        return 0;
+    };
+    let Some(part) = find(doc, shared.tokens()) else {
+        return 0;
+    };
+    let count = count_marks(part);
+    let mut none = Value::Null;
+    match make(names, doc, shared, Edit::Sweep, &mut none) {
+        Ok(_found) => count,
+        Err(_fault) => 0,
+    }
+}
+
+/// How many marks are in what the changes found.
+fn count_held(changes: &[Change<'_>]) -> usize
+    ensures { result ≤ held changes.now }
+{
+    let mut count: usize = 0;
+    for change in changes {
+        if !matches!(change.found, Found::Nothing) {
+            count = count.saturating_add(count_marks(&change.value));
+        }
+    }
+    count
+}
+
+/// How many marks the changes left, at most.
+fn count_taken(changes: &[Change<'_>]) -> usize
+    ensures { result ≡ takes changes.now }
+{
+    let mut count = 0;
+    for change in changes {
+        if taken_at(change).is_some() {
+            count += 1;
+        }
+    }
+    count
+}
+
+/// Where a change left a mark, if it took a value away.
+pub(crate) fn taken_at<'a>(change: &Change<'a>) -> Option<Pointer<'a>>
+    ensures { count_some result ≡ taken change.now.found change.now.from }
+{
+    match change.found {
+        Found::Taken => Some(change.path),
+        _ => change.from,
+    }
+}
+
+/// Takes away a mark, if one is there.
+fn clear_mark(names: &mut Names, doc: &mut Value, place: Pointer<'_>) -> bool
+    requires { IsValue (view doc.old) }
+    ensures cleared { IsSeen (view doc.new) (seen (view doc.old)) }
+    ensures fewer { marks (view doc.new) + count_true result ≡ marks (view doc.old) }
+{
+    let mut mark = Value::Null;
+    match make(names, doc, place, Edit::Clear, &mut mark) {
+        Ok(_found) => true,
+        Err(_fault) => false,
+    }
+}
+
+/// Room for the inverse of so many changes, if that is kept: it has at most two operations for each.
+pub(crate) fn undo_room(
+    alloc: Global,
+    keep: Keep,
+    changes: usize,
+) -> Result<Vec<PatchOperation>, AllocError>
+    ensures empty { IfOk result (λ undo. undo.items ≡ []) }
+    ensures room { IfOk result (λ undo. keep ≡ Inverse → 2 * changes ≤ vec_capacity undo) }
+    ensures no_memory { (keep ≡ Inverse → ⊥) → IsOk result }
+{
+    let Keep::Inverse = keep else {
+        return Ok(Vec::new(alloc));
+    };
+    let count = changes.checked_mul(2).ok_or(AllocError)?;
+    Vec::with_capacity(alloc, count)
+}
+
+/// What undoes the changes, the last one's first, if that is kept.
+pub(crate) fn inverse_of(
+    keep: Keep,
+    mut changes: Vec<Change<'_>>,
+    mut undo: Vec<PatchOperation>,
+) -> Vec<PatchOperation>
+    requires { keep ≡ Inverse → vec_len undo + 2 * vec_len changes ≤ vec_capacity undo }
+    ensures { keep ≡ Inverse
+        → operations result.items ≡ operations undo.items ++ kept_blocks changes.entry.items }
+{
+    let Keep::Inverse = keep else {
+        return undo;
+    };
+    while let Some(change) = changes.pop() {
+        push_block(&mut undo, change);
+    }
+    undo
+}
+
+/// Pushes what undoes the change.
+fn push_block(undo: &mut Vec<PatchOperation>, change: Change<'_>)
+    requires { vec_len undo.old + 2 ≤ vec_capacity undo.old }
+    ensures says { operations undo.new.items ≡ operations undo.old.items
+        ++ kept_block change.entry.kept change.entry.found (view change.entry.value) }
+    ensures len { vec_len undo.new ≤ vec_len undo.old + 2 }
+    ensures capacity { vec_capacity undo.new ≡ vec_capacity undo.old }
+{
+    let Change {
+        found,
+        value,
+        kept,
+        ..
+    } = change;
+    let Some(Kept { place, back }) = kept else {
+        return;
+    };
+    undo.push_reserved(undo_operation(place, found, value));
+    let Some((path, value)) = back else {
+        return;
+    };
+    undo.push_reserved(PatchOperation::Add(AddOperation { path, value }));
+}
+
+/// What takes back, at this place, a change that found this.
+fn undo_operation(path: PointerBuf, found: Found, mut value: Value) -> PatchOperation
+    ensures { operation_of result ≡ undo_found path found (view value) }
+{
+    if let Found::Nothing = found {
+        return PatchOperation::Remove(RemoveOperation { path });
+    }
+    if let Found::Taken = found {
+        clear(&mut value);
+        return PatchOperation::Add(AddOperation { path, value });
+    }
+    if is_mark(&value) {
+        return PatchOperation::Remove(RemoveOperation { path });
+    }
+    clear(&mut value);
+    PatchOperation::Replace(ReplaceOperation { path, value })
 }

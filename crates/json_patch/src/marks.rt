@@ -1,20 +1,10 @@
 //! Marks: the laws, and edits of marked containers.
 
-ghost use Rattle.std.specs.Prelude.{◌≡◌, ◌≤◌, ℕ, List, [], ◌∷◌, Bool, true, false, not, IfOk, Some, vec_len, option_map};
-ghost use Rattle.serde_json.specs.Data.{Data, Members, put, array, object};
+ghost use Rattle.std.specs.Prelude.{◌≡◌, ◌≤◌, false, not, Some, vec_len};
 ghost use Rattle.serde_json.specs.Events.{items_len};
 ghost use Rattle.serde_json.specs.View.{view, items_view, members_view};
-ghost use Rattle.jsonptr.specs.Pointers.{token_of, tokens_left};
-ghost use Rattle.json_patch.specs.Attempt.{Attempts};
-ghost use Rattle.json_patch.specs.ChangeComputed.{after_change, pointee};
-ghost use Rattle.json_patch.specs.Document.{IsDocument};
-ghost use Rattle.json_patch.specs.Operation.{Operation, IsWholeOp, AreWhole};
-ghost use Rattle.json_patch.specs.RunComputed.{after_run, after_step};
-ghost use Rattle.json_patch.specs.SameComputed.{same};
-ghost use Rattle.jsonptr.specs.Text.{Pointer};
-ghost use Rattle.serde_json.specs.declared.value.Value.{Value as ValueOf};
-ghost use Rattle.json_patch.specs.InPlace.{IsUnescaped, NeverShort};
 ghost use Rattle.json_patch.specs.Marked.{is_mark, the_mark, AreMarkedItems, seen, seen_items, seen_members};
+ghost use Rattle.json_patch.specs.MarkedComputed.{marks};
 
 use crate::error::{PatchErrorKind, StepFault};
 use jsonptr::{Token, Tokens};
@@ -108,4 +98,29 @@ fn first_mark(items: &Vec<Value>) -> usize
         count += 1;
     }
     count
+}
+
+/// How many marks the value has, or fewer where there are more than can be counted.
+#[cycle(count_marks)]
+pub(crate) fn count_marks(value: &Value) -> usize
+    ensures { result ≤ marks (view value.now) }
+{
+    match value {
+        Value::Array(items) => {
+            let mut count: usize = 0;
+            for item in items {
+                count = count.saturating_add(count_marks(item));
+            }
+            count
+        }
+        Value::Object(members) => {
+            let mut count: usize = 0;
+            for (_name, member) in members {
+                count = count.saturating_add(count_marks(member));
+            }
+            count
+        }
+        _ if is_mark(value) => 1,
+        _ => 0,
+    }
 }

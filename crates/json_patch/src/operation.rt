@@ -3,7 +3,8 @@
 ghost use Rattle.std.specs.Prelude.{◌≡◌, [], IfOk};
 ghost use Rattle.serde_json.specs.Data.{null};
 ghost use Rattle.jsonptr.specs.Pointers.{tokens_of};
-ghost use Rattle.json_patch.specs.Operation.{add_of, copy_of, move_of, operation_of, operations_of, parts_of, path_of, remove_of, replace_of, test, test_of};
+ghost use Rattle.json_patch.specs.Operation.{add_of, copy_of, move_of, operation_of, operations_of, parts_of, path_of};
+ghost use Rattle.json_patch.specs.Operation.{remove_of, replace_of, test, test_of};
 ghost use Rattle.json_patch.specs.PartsView.{parts_view};
 
 use jsonptr::{Pointer, PointerBuf};

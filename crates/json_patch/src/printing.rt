@@ -9,9 +9,11 @@ ghost use Rattle.serde_json.specs.View.{items_view, members_view, number_view, v
 ghost use Rattle.serde_json.specs.Written.{IsInOrder};
 ghost use Rattle.json_patch.specs.Document.{IsDocument};
 ghost use Rattle.json_patch.specs.PartsView.{parts_view};
-ghost use Rattle.json_patch.specs.Operation.{add_of, copy_of, move_of, operation_of, operations, operations_of, remove_of, replace_of, test_of};
+ghost use Rattle.json_patch.specs.Operation.{add_of, copy_of, move_of, operation_of, operations, operations_of};
+ghost use Rattle.json_patch.specs.Operation.{remove_of, replace_of, test_of};
 ghost use Rattle.json_patch.specs.PatchValue.{all_fields, fields};
-ghost use Rattle.json_patch.specs.Printed.{character_text, leading_text, number_text, value_text, fields_text, parts_text, patch_text, quote, trailing_text};
+ghost use Rattle.json_patch.specs.Printed.{character_text, leading_text, number_text, value_text, fields_text};
+ghost use Rattle.json_patch.specs.Printed.{parts_text, patch_text, quote, trailing_text};
 
 use crate::operation::{
     AddOperation, CopyOperation, MoveOperation, Parts, Patch, PatchOperation, RemoveOperation,

@@ -4,8 +4,11 @@ ghost use Rattle.std.specs.Prelude.{◌≡◌, ◌∷◌, [], codes, IfOk, List,
 ghost use Rattle.serde_json.specs.Data.{string};
 ghost use Rattle.serde_json.specs.Find.{get};
 ghost use Rattle.serde_json.specs.View.{view};
-ghost use Rattle.json_patch.specs.Operation.{AreWhole, add, add_of, copy_of, move, move_of, operation_of, operations, operations_of, remove_of, replace_of, test_of};
-ghost use Rattle.json_patch.specs.PatchValue.{IfUnreadAlone, IfUnreadable, from_and_path, path_and_value, ReadsFields, ReadsOperation, ReadsPatch, RefusesFields, RefusesOperation, RefusesPatch};
+ghost use Rattle.json_patch.specs.Operation.{AreWhole, add, add_of, copy_of, move, move_of, operation_of, operations};
+ghost use Rattle.json_patch.specs.Operation.{operations_of, remove_of, replace_of, test_of};
+ghost use Rattle.json_patch.specs.PatchValue.{IfUnreadAlone, IfUnreadable, from_and_path, path_and_value, ReadsFields};
+ghost use Rattle.json_patch.specs.PatchValue.{ReadsOperation, ReadsPatch, RefusesFields, RefusesOperation};
+ghost use Rattle.json_patch.specs.PatchValue.{RefusesPatch};
 ghost use Rattle.json_patch.specs.ReadSteps.{HasAnyFrom, IsPointerAt};
 ghost use Rattle.json_patch.specs.declared.error.ReadFault.TheVariants.{Refused};
 

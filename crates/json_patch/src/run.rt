@@ -1,37 +1,34 @@
 //! A list of operations on a document (RFC 6902, section 5).
 
-ghost use Rattle.std.specs.Prelude.{◌≡◌, ◌<◌, ◌≤◌, ◌+◌, ◌*◌, [], ℕ, IfOk, IsOk, OnOk, OnErr, length, take};
-ghost use mathlib.Core.List.{reverse};
+ghost use Rattle.std.specs.Prelude.{◌≡◌, ◌≤◌, ◌*◌, [], ℕ, IfOk, IsOk, OnOk, OnErr, length, take};
 ghost use Rattle.serde_json.specs.Data.{Data};
 ghost use Rattle.serde_json.specs.View.{view};
+ghost use Rattle.json_patch.specs.Attempt.{ComesTo};
 ghost use Rattle.json_patch.specs.Document.{IsDocument};
 ghost use Rattle.json_patch.specs.Faulting.{Reports};
-ghost use Rattle.json_patch.specs.InPlace.{AreInPlace, AreTestsThenRemove};
 ghost use Rattle.json_patch.specs.Inverse.{ArePlain, IsInverse};
 ghost use Rattle.json_patch.specs.InverseComputed.{inverse};
-ghost use Rattle.json_patch.specs.Operation.{AreWhole, operation_of, operations, operations_of, path_of};
+ghost use Rattle.json_patch.specs.Logged.{IsFree, takes};
+ghost use Rattle.json_patch.specs.NoMemory.{AreTestsThenRemove, NeverShort, TakeNoMemory};
+ghost use Rattle.json_patch.specs.Operation.{AreWhole, IsWholeOp, operation_of, operations, operations_of, path_of};
 ghost use Rattle.json_patch.specs.Refusal.{IfRefused, NamesFirst, IfShort};
 ghost use Rattle.json_patch.specs.Run.{Accepts, IsAccepted};
-ghost use Rattle.json_patch.specs.Undoing.{From, RunsPart};
-ghost use Rattle.json_patch.specs.declared.record.Keep.TheVariants.{Inverse, Nothing};
+ghost use Rattle.json_patch.specs.RunComputed.{after_step};
+ghost use Rattle.json_patch.specs.declared.log.Keep.TheVariants.{Inverse, Nothing, Undo};
 
 use crate::error::{PatchError, PatchFault, StepFault};
+use crate::log::{Keep, Log, clear_marks, inverse_of, undo_all, undo_room};
 use crate::operation::{Patch, PatchOperation};
-use crate::record::{Keep, is_undoable, record_step, undo_recorded};
-use crate::shared::copied_part;
-use crate::step::replace;
-use jsonptr::Pointer;
 use serde_json::Value;
 use std::alloc::{AllocError, Global};
+use std::slice;
 
 /// Applies the operations one after another, or none of them. A refused patch leaves the document
 /// as it was, and so does one for which memory was short.
 ///
-/// The first operations are made in place, as far as they can be undone with no memory: each
-/// `test`, and each `add`, `replace` and `copy` at a path with no `~`. If one more is left, it is
-/// made in place too, but for a `move`. If more are left, they are made on a copy of the part of the
-/// document that they share, which takes its place at the end. The empty list takes no memory, and
-/// neither does an accepted list of `test`s and then at most one `remove` at a path with no `~`.
+/// Every operation is made in place, and a refused list is undone without memory. Of the document
+/// nothing is copied but what a `copy` adds. The empty list takes no memory, and neither does an
+/// accepted list of `test`s and then at most one `remove` at a path with no `~`.
 ///
 /// ```rust
 /// match patch(alloc, document, changes.as_slice()) {
@@ -50,17 +47,17 @@ pub fn patch(alloc: Global, doc: &mut Value, patch: &[PatchOperation]) -> Result
     ensures unchanged { OnErr result (view doc.new ≡ view doc.old) }
     ensures document { IsDocument (view doc.new) }
     ensures empty { patch.now ≡ [] → IsOk result }
-    ensures in_place { AreTestsThenRemove (operations patch.now)
+    ensures no_memory { AreTestsThenRemove (operations patch.now)
         → (e : Data) → Accepts (view doc.old) (operations patch.now) e → IsOk result }
 {
-    drop(run(alloc, doc, patch, Keep::Nothing)?);
+    drop(run(alloc, doc, patch, Keep::Undo)?);
     Ok(())
 }
 
 /// Applies the operations one after another, in place. A refused operation leaves what the ones
 /// before it made of the document; where memory is short, what some of the first ones made of it
-/// is left. A `move` is made on a copy of the part where both its places stand, so that none loses
-/// its value. An accepted list of `test`s and of `remove`s at paths with no `~` takes no memory.
+/// is left, and each operation is made whole or not at all. An accepted list of `test`s and of
+/// `remove`s at paths with no `~` takes no memory.
 ///
 /// ```rust
 /// match patch_unsafe(alloc, document, changes.as_slice()) {
@@ -84,14 +81,15 @@ pub fn patch_unsafe(
         (λ e. Accepts (view doc.old) (take e.operation (operations patch.now)) (view doc.new)) }
     ensures memory { IfShort result ((k : ℕ) × (k ≤ length patch.now)
         × Accepts (view doc.old) (take k (operations patch.now)) (view doc.new)) }
-    ensures in_place { AreInPlace (operations patch.now)
+    ensures no_memory { TakeNoMemory (operations patch.now)
         → (e : Data) → Accepts (view doc.old) (operations patch.now) e → IsOk result }
     ensures document { IsDocument (view doc.new) }
 {
-    let mut undo = Vec::new(alloc);
     for number in 0..patch.len() {
-        let next = number + 1;
-        run_part(alloc, doc, patch, number, next, Keep::Nothing, &mut undo)?;
+        let operation = &patch[number];
+        if let Err(fault) = run_one(alloc, doc, operation) {
+            return Err(reported(alloc, number, operation, fault));
+        }
     }
     Ok(())
 }
@@ -128,13 +126,10 @@ pub fn apply_patches(
     ensures unchanged { OnErr result (view doc.new ≡ view doc.old) }
     ensures document { IsDocument (view doc.new) }
 {
-    let mut undo = run(alloc, doc, patches, Keep::Inverse)?;
-    undo.reverse();
-    Ok(Patch(undo))
+    Ok(Patch(run(alloc, doc, patches, Keep::Inverse)?))
 }
 
-/// Makes the operations, or none of them, and answers what undoes them, last first, where that is
-/// kept.
+/// Makes the operations, or none of them, and answers the inverse, where that is kept.
 fn run(
     alloc: Global,
     doc: &mut Value,
@@ -143,96 +138,47 @@ fn run(
 ) -> Result<Vec<PatchOperation>, PatchFault>
     requires document { IsDocument (view doc.old) }
     requires whole { AreWhole (operations patch.now) }
+    requires kept { keep ≡ Nothing → ⊥ }
     ensures accepted { OnOk result (Accepts (view doc.old) (operations patch.now) (view doc.new)) }
-    ensures recorded { IfOk result (λ undo. keep ≡ Inverse
-        → reverse (operations undo.items) ≡ inverse (view doc.old) (operations patch.now)) }
+    ensures inverse { IfOk result (λ undo. keep ≡ Inverse
+        → operations undo.items ≡ inverse (view doc.old) (operations patch.now)) }
     ensures refused { IfRefused result (NamesFirst (view doc.old) (operations patch.now)) }
     ensures unchanged { OnErr result (view doc.new ≡ view doc.old) }
-    ensures in_place { keep ≡ Nothing → AreTestsThenRemove (operations patch.now)
+    ensures no_memory { keep ≡ Undo → AreTestsThenRemove (operations patch.now)
         → (e : Data) → Accepts (view doc.old) (operations patch.now) e → IsOk result }
 {
-    let root = Pointer::root();
-    let mut undo = Vec::new(alloc);
-    let mut number = 0;
-    while patch.len() - number > 1 && is_undoable(&patch[number]) {
+    let mut log = Log::new(alloc);
+    for number in 0..patch.len() {
         let operation = &patch[number];
-        if let Err(fault) = record_step(alloc, doc, root, operation, Keep::Inverse, &mut undo) {
-            undo_recorded(alloc, doc, undo);
+        let kept = keep.at(number + 1 == patch.len(), log.changes.is_empty());
+        if let Err(fault) = log.step(doc, operation, kept) {
+            undo_all(doc, log);
             return Err(reported(alloc, number, operation, fault));
         }
-        number += 1;
     }
-    if let Err(fault) = run_part(alloc, doc, patch, number, patch.len(), keep, &mut undo) {
-        undo_recorded(alloc, doc, undo);
+    let Ok(undo) = undo_room(alloc, keep, log.changes.len()) else {
+        undo_all(doc, log);
+        return Err(PatchFault::Memory(AllocError));
+    };
+    let Log { mut names, changes } = log;
+    clear_marks(&mut names, &changes, patch, doc);
+    Ok(inverse_of(keep, changes, undo))
+}
+
+/// Makes the operation, or does nothing.
+fn run_one(alloc: Global, doc: &mut Value, operation: &PatchOperation) -> Result<(), StepFault>
+    requires document { IsDocument (view doc.old) }
+    requires whole { IsWholeOp (operation_of operation.now) }
+    ensures comes { ComesTo result (after_step (view doc.old) (operation_of operation.now)) (view doc.new) }
+    ensures unchanged { OnErr result (view doc.new ≡ view doc.old) }
+    ensures no_memory { IsFree (operation_of operation.now) Nothing → NeverShort result }
+{
+    let mut log = Log::new(alloc);
+    if let Err(fault) = log.step(doc, operation, Keep::Nothing) {
         return Err(fault);
     }
-    Ok(undo)
-}
-
-/// Makes the operations from the one at `start` to the one before `end`, or none of them: a single
-/// one in place, but for a `move`, and others on a copy.
-fn run_part(
-    alloc: Global,
-    doc: &mut Value,
-    patch: &[PatchOperation],
-    start: usize,
-    end: usize,
-    keep: Keep,
-    undo: &mut Vec<PatchOperation>,
-) -> Result<(), PatchFault>
-    requires whole { AreWhole (operations patch.now) }
-    requires order { start ≤ end }
-    requires within { end ≤ length patch.now }
-    ensures made { RunsPart keep result (view doc.old) (view doc.new) (operations patch.now)
-        start end (operations undo.old.items) (operations undo.new.items) }
-    ensures in_place { keep ≡ Nothing → end ≤ start + 1 → AreInPlace (operations patch.now)
-        → From (view doc.old) (operations patch.now) start
-        (λ d. (e : Data) → Accepts d (operations patch.now) e → IsOk result) }
-{
-    if start == end {
-        return Ok(());
-    }
-    let operation = &patch[start];
-    if end - start > 1 || matches!(operation, PatchOperation::Move(_)) {
-        return run_on_copy(alloc, doc, patch, start, end, keep, undo);
-    }
-    match record_step(alloc, doc, Pointer::root(), operation, keep, undo) {
-        Ok(()) => Ok(()),
-        Err(fault) => Err(reported(alloc, start, operation, fault)),
-    }
-}
-
-/// Makes these operations on a copy of the part of the document that they share, which takes its
-/// place at the end. The part is there, so only want of memory for a name on the way keeps it out.
-fn run_on_copy(
-    alloc: Global,
-    doc: &mut Value,
-    patch: &[PatchOperation],
-    start: usize,
-    end: usize,
-    keep: Keep,
-    undo: &mut Vec<PatchOperation>,
-) -> Result<(), PatchFault>
-    requires whole { AreWhole (operations patch.now) }
-    requires order { start ≤ end }
-    requires within { end ≤ length patch.now }
-    ensures made { RunsPart keep result (view doc.old) (view doc.new) (operations patch.now)
-        start end (operations undo.old.items) (operations undo.new.items) }
-{
-    let kept = undo.len();
-    let (base, part) = copied_part(doc, &patch[start..end])?;
-    let mut work = part;
-    for number in start..end {
-        let operation = &patch[number];
-        if let Err(fault) = record_step(alloc, &mut work, base, operation, keep, undo) {
-            undo.truncate(kept);
-            return Err(reported(alloc, number, operation, fault));
-        }
-    }
-    if replace(alloc, doc, base, work).is_err() {
-        undo.truncate(kept);
-        return Err(PatchFault::Memory(AllocError));
-    }
+    let Log { mut names, changes } = log;
+    clear_marks(&mut names, &changes, slice::from_ref(operation), doc);
     Ok(())
 }
 

@@ -5,7 +5,7 @@ ghost use Rattle.serde_json.specs.View.{view};
 ghost use Rattle.jsonptr.specs.Pointers.{tokens_left};
 ghost use Rattle.json_patch.specs.ChangeComputed.{pointee};
 ghost use Rattle.json_patch.specs.Marked.{IsValue, seen};
-ghost use Rattle.json_patch.specs.Undoing.{count_in};
+ghost use Rattle.json_patch.specs.SeenEdits.{count_in};
 
 use crate::marks::{clear, is_mark, live_count};
 use crate::walk::find;

@@ -6,7 +6,8 @@ ghost use Rattle.std.specs.Prelude.{◌≡◌, IfOk, OnOk, option_map};
 ghost use Rattle.serde_json.specs.Data.{put, string};
 ghost use Rattle.serde_json.specs.View.{members_view, view};
 ghost use Rattle.json_patch.specs.PartsView.{parts_view};
-ghost use Rattle.json_patch.specs.Operation.{add_of, copy_of, move_of, operation_of, operations_of, remove_of, replace_of, test_of};
+ghost use Rattle.json_patch.specs.Operation.{add_of, copy_of, move_of, operation_of, operations_of, remove_of};
+ghost use Rattle.json_patch.specs.Operation.{replace_of, test_of};
 ghost use Rattle.json_patch.specs.PatchValue.{written_fields, written_parts, written_patch, written_value};
 
 use crate::operation::{

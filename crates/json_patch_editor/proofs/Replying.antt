@@ -1,5 +1,6 @@
 -- Lists of commands: joined, with one list of replies, and with one always.
-use Rattle.std.proofs.Common.{◌≡◌, ◌≤◌, ◌<◌, ◌+◌, inl, inr, ℕ, List, [], ◌∷◌, ◌++◌, take, length, Bool, true, false, refl, sym, ap, ◌∙◌, subst, arith}
+use Rattle.std.proofs.Common.{◌≡◌, ◌≤◌, ◌<◌, ◌+◌, inl, inr, ℕ, List, [], ◌∷◌, ◌++◌, take, length, Bool, true, false}
+use Rattle.std.proofs.Common.{refl, sym, ap, ◌∙◌, subst, arith}
 use Rattle.std.specs.Prelude.{◌↔◌, IsTrue, All}
 use Rattle.std.proofs.lemmas.List.{length-take}
 use Rattle.std.proofs.lemmas.List.Elements.{All-cons, All-head, All-nil, All-tail, All-take}
@@ -11,7 +12,8 @@ use Rattle.json_patch.specs.RefusalLaws.{one_refusal, refusal_named}
 use Rattle.json_patch.specs.Run.{Accepts, RefusesAt, Ends}
 use Rattle.json_patch.specs.declared.error.PatchError.{PatchError}
 use Rattle.json_patch.specs.declared.error.PatchErrorKind.{PatchErrorKind}
-use Rattle.json_patch_editor.specs.Commands.{Command, apply, undo, redo, Reply, accepted, refused, moved, Replies, RepliesInTurn, AreVersions, IsWholeCommand}
+use Rattle.json_patch_editor.specs.Commands.{Command, apply, undo, redo, Reply, accepted, refused, moved, Replies}
+use Rattle.json_patch_editor.specs.Commands.{RepliesInTurn, AreVersions, IsWholeCommand}
 use Rattle.json_patch_editor.specs.Versions.{Versions, after_apply, after_undo, after_redo, back_to, on_to}
 
 pub joined : (vs ms ws : Versions) (cs ds : List Command) (rs ss : List Reply) → RepliesInTurn vs cs rs ms → RepliesInTurn ms ds ss ws → RepliesInTurn vs (cs ++ ds) (rs ++ ss) ws

@@ -16,15 +16,6 @@ abbrev pub documents_along : Data → List Patch → List Data
 documents_along d [] = []
 documents_along d (p ∷ ps) = documents_from (after_run d (operations_of p)) (λ e. documents_along e ps)
 
-abbrev pub IfEnds : Outcome → (Data → Type 0) → Type 0
-IfEnds (Ok e) P = P e
-IfEnds (Err f) P = ⊥
-
--- each patch is whole, and accepted where the ones before it lead
-abbrev pub AreStored : Data → List Patch → Type 0
-AreStored d [] = Unit {0}
-AreStored d (p ∷ ps) = AreWhole (operations_of p) × IfEnds (after_run d (operations_of p)) (λ e. AreStored e ps)
-
 -- the patches are accepted one after another, and leave these documents
 abbrev pub Lead : Data → List Patch → List Data → Type 0
 Lead d [] [] = Unit {0}

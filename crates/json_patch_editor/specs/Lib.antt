@@ -1,5 +1,4 @@
 pub mod Versions
 pub mod Commands
 pub mod History
-pub mod Stored
 pub mod Shown

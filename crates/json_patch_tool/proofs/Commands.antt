@@ -1,5 +1,6 @@
 -- The commands of a list, read and done one by one.
-use Rattle.std.proofs.Common.{◌≡◌, ◌<◌, ℕ, zero, suc, List, [], ◌∷◌, ◌++◌, map, take, length, get_or, Bool, inl, inr, refl, sym, ap, ◌∙◌, subst, arith}
+use Rattle.std.proofs.Common.{◌≡◌, ◌<◌, ℕ, zero, suc, List, [], ◌∷◌, ◌++◌, map, take, length, get_or, Bool, inl, inr}
+use Rattle.std.proofs.Common.{refl, sym, ap, ◌∙◌, subst, arith}
 use Rattle.std.specs.Prelude.{◌↔◌, All, IsTrue}
 use Rattle.std.proofs.lemmas.List.Elements.{All-cons, All-head, All-nil, All-tail}
 use Rattle.serde_json.specs.Data.{Data, Items, no_items, item, array, boolean}
@@ -13,7 +14,8 @@ use Rattle.json_patch.specs.declared.operation.Patch.{Patch}
 use Rattle.json_patch.specs.declared.operation.PatchOperation.{PatchOperation}
 use Rattle.json_patch.specs.PatchValue.{ReadsPatch}
 use Rattle.json_patch_editor.specs.Commands as editor
-use Rattle.json_patch_editor.specs.Commands.{apply, undo, redo, Reply, refused, moved, Replies, RepliesInTurn, IsWholeCommand}
+use Rattle.json_patch_editor.specs.Commands.{apply, undo, redo, Reply, refused, moved, Replies, RepliesInTurn}
+use Rattle.json_patch_editor.specs.Commands.{IsWholeCommand}
 use Rattle.json_patch_editor.specs.Versions.{Versions, after_undo, after_redo}
 use Rattle.json_patch_tool.specs.CommandList.{command_of, commands_of, IsNoCommand, IsNoCommands, HasReplied}
 use Rattle.json_patch_tool.specs.Editing.{ReadsCommand, ReadsItems, RefusesCommand, written_reply}

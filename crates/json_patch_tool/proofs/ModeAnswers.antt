@@ -1,5 +1,6 @@
 -- What a mode gives for a pair of values is the answer to the bytes that say them.
-use Rattle.std.proofs.Common.{◌≡◌, ◌≢◌, ℕ, List, Option, Some, Result, Ok, Err, IfOk, IfErr, String, string_bytes, inl, inr, refl, sym, ◌∙◌, subst}
+use Rattle.std.proofs.Common.{◌≡◌, ◌≢◌, ℕ, List, Option, Some, Result, Ok, Err, IfOk, IfErr, String, string_bytes, inl}
+use Rattle.std.proofs.Common.{inr, refl, sym, ◌∙◌, subst}
 use Rattle.std.specs.Prelude.{IfSome, IsErrOf, OnOk}
 use Rattle.std.specs.Result.{IsErrAnd}
 use Rattle.std.specs.Io.KnownBytes.{Keeps}
@@ -12,7 +13,8 @@ use Rattle.json_patch_tool.specs.Recording.{IsRecordLine}
 use Rattle.json_patch_tool.specs.declared.mode.Mode.{Mode}
 use Rattle.json_patch_tool.specs.declared.mode.Mode.TheVariants.{Record}
 use Rattle.json_patch_tool.specs.declared.fault.ToolFault.{ToolFault}
-use Rattle.json_patch_tool.specs.declared.fault.ToolFault.TheVariants.{TooLarge, Syntax, NotAPair, NotWhole, Unreadable, Refused, Memory, ReadFailed, WriteFailed}
+use Rattle.json_patch_tool.specs.declared.fault.ToolFault.TheVariants.{TooLarge, Syntax, NotAPair, NotWhole, Unreadable}
+use Rattle.json_patch_tool.specs.declared.fault.ToolFault.TheVariants.{Refused, Memory, ReadFailed, WriteFailed}
 use Rattle.json_patch_tool.specs.Statuses.{status_of}
 use Rattle.json_patch_tool.specs.Written.{WritesAnswer, BeginsAnswer, EndsInFault, EndsWith}
 

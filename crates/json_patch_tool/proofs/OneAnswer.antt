@@ -1,5 +1,6 @@
 -- An input has one answer at most.
-use Rattle.std.proofs.Common.{◌≡◌, ◌≤◌, ◌<◌, ◌⊎◌, ℕ, List, length, Option, Some, None, Result, Ok, Err, IsUtf8, unwrap_or, inl, inr, refl, sym, ap, subst, ◌∙◌, arith}
+use Rattle.std.proofs.Common.{◌≡◌, ◌≤◌, ◌<◌, ◌⊎◌, ℕ, List, length, Option, Some, None, Result, Ok, Err, IsUtf8}
+use Rattle.std.proofs.Common.{unwrap_or, inl, inr, refl, sym, ap, subst, ◌∙◌, arith}
 use Rattle.serde_json.specs.Data.{Data, array, item, no_items}
 use Rattle.serde_json.specs.Read.{read}
 use Rattle.json_patch.specs.Document.{IsDocument}
@@ -14,12 +15,14 @@ use Rattle.json_patch.specs.declared.error.ReadError.{ReadError}
 use Rattle.json_patch.specs.declared.error.ReadKind.{ReadKind}
 use Rattle.json_patch.specs.declared.error.PatchErrorKind.{PatchErrorKind}
 use Rattle.json_patch_tool.specs.Input.{Says, SaysPair, NoPair, pair_of, line_of}
-use Rattle.json_patch_tool.specs.Answer.{IsPatched, IsRecorded, IsNotPatched, IsMergedWhole, IsNotMerged, GivesValue, GivesFault, Answer}
+use Rattle.json_patch_tool.specs.Answer.{IsPatched, IsRecorded, IsNotPatched, IsMergedWhole, IsNotMerged, GivesValue}
+use Rattle.json_patch_tool.specs.Answer.{GivesFault, Answer}
 use Rattle.json_patch_tool.specs.declared.input.TheConstants.{MAX_INPUT}
 use Rattle.json_patch_tool.specs.declared.mode.Mode.{Mode}
 use Rattle.json_patch_tool.specs.declared.mode.Mode.TheVariants.{Patch, Record, Merge, Edit}
 use Rattle.json_patch_tool.specs.declared.fault.ToolFault.{ToolFault}
-use Rattle.json_patch_tool.specs.declared.fault.ToolFault.TheVariants.{TooLarge, Syntax, NotAPair, NotWhole, Unreadable, Refused}
+use Rattle.json_patch_tool.specs.declared.fault.ToolFault.TheVariants.{TooLarge, Syntax, NotAPair, NotWhole, Unreadable}
+use Rattle.json_patch_tool.specs.declared.fault.ToolFault.TheVariants.{Refused}
 use Rattle.json_patch_tool.proofs.Below.{Below}
 use Rattle.json_patch_tool.proofs.OneEdit.{edited_once, unedited_once, edited_or_not}
 

@@ -1,5 +1,6 @@
 -- A value is one list of commands at most, or none for one cause, and an editor gives one value for it.
-use Rattle.std.proofs.Common.{◌≡◌, ◌⊎◌, ℕ, List, [], ◌∷◌, Option, None, Bool, true, false, inl, inr, refl, sym, ap, subst, ◌∙◌, arith}
+use Rattle.std.proofs.Common.{◌≡◌, ◌⊎◌, ℕ, List, [], ◌∷◌, Option, None, Bool, true, false, inl, inr, refl, sym, ap}
+use Rattle.std.proofs.Common.{subst, ◌∙◌, arith}
 use Rattle.std.specs.Prelude.{All, codes}
 use Rattle.std.specs.Str.{bytes_eq}
 use Rattle.std.proofs.lemmas.List.Elements.{All-nil}
@@ -13,7 +14,8 @@ use Rattle.json_patch.specs.declared.error.ReadKind.{ReadKind}
 use Rattle.json_patch.specs.declared.error.ReadKind.TheVariants.{NotAList}
 use Rattle.json_patch_editor.specs.Commands.{AreVersions, Command, apply, undo, redo, IsWholeCommand, RepliesInTurn}
 use Rattle.json_patch_editor.specs.Versions.{initial}
-use Rattle.json_patch_tool.specs.Editing.{ReadsCommand, RefusesCommand, ReadsItems, ReadsCommands, RefusesItems, RefusesCommands, written_edit}
+use Rattle.json_patch_tool.specs.Editing.{ReadsCommand, RefusesCommand, ReadsItems, ReadsCommands, RefusesItems}
+use Rattle.json_patch_tool.specs.Editing.{RefusesCommands, written_edit}
 use Rattle.json_patch_tool.specs.Answer.{IsEdited, IsNotEdited}
 use Rattle.json_patch_tool.specs.declared.fault.ToolFault.{ToolFault}
 use Rattle.json_patch_tool.specs.declared.fault.ToolFault.TheVariants.{NotWhole, Unreadable}

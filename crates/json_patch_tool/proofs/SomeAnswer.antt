@@ -1,5 +1,6 @@
 -- Each input has an answer.
-use Rattle.std.proofs.Common.{◌≡◌, ◌≤◌, ◌⊎◌, ℕ, List, length, Bool, true, false, Option, Some, None, Result, Ok, Err, inl, inr, ⊎_elim, refl}
+use Rattle.std.proofs.Common.{◌≡◌, ◌≤◌, ◌⊎◌, ℕ, List, length, Bool, true, false, Option, Some, None, Result, Ok, Err}
+use Rattle.std.proofs.Common.{inl, inr, ⊎_elim, refl}
 use Rattle.std.specs.Str.{is_utf8}
 use Rattle.std.proofs.lemmas.Bool.{cases_lt}
 use Rattle.std.proofs.lemmas.Str.{IsUtf8-from_is_utf8, is_utf8-from_IsUtf8}
@@ -17,7 +18,8 @@ use Rattle.json_patch_tool.specs.declared.input.TheConstants.{MAX_INPUT}
 use Rattle.json_patch_tool.specs.declared.mode.Mode.{Mode}
 use Rattle.json_patch_tool.specs.declared.mode.Mode.TheVariants.{Patch, Record, Merge, Edit}
 use Rattle.json_patch_tool.specs.declared.fault.ToolFault.{ToolFault}
-use Rattle.json_patch_tool.specs.declared.fault.ToolFault.TheVariants.{TooLarge, Syntax, NotAPair, NotWhole, Unreadable, Refused}
+use Rattle.json_patch_tool.specs.declared.fault.ToolFault.TheVariants.{TooLarge, Syntax, NotAPair, NotWhole, Unreadable}
+use Rattle.json_patch_tool.specs.declared.fault.ToolFault.TheVariants.{Refused}
 use Rattle.json_patch_tool.proofs.Below.{Below}
 use Rattle.json_patch_tool.proofs.OneEdit.{edited_given}
 

@@ -1,7 +1,8 @@
 -- With which status the program ends.
 use Rattle.std.specs.Prelude.{ℕ}
 use Rattle.json_patch_tool.specs.declared.fault.ToolFault.{ToolFault}
-use Rattle.json_patch_tool.specs.declared.fault.ToolFault.TheVariants.{TooLarge, Syntax, NotAPair, NotWhole, Unreadable, Refused, Memory, ReadFailed, WriteFailed}
+use Rattle.json_patch_tool.specs.declared.fault.ToolFault.TheVariants.{TooLarge, Syntax, NotAPair, NotWhole, Unreadable}
+use Rattle.json_patch_tool.specs.declared.fault.ToolFault.TheVariants.{Refused, Memory, ReadFailed, WriteFailed}
 
 abbrev pub status_of : ToolFault → ℕ
 status_of (Refused e) = 1

@@ -1,6 +1,7 @@
 //! From a reader to a writer: the bytes are read to their end, and the line of the answer is written.
 
-ghost use Rattle.std.specs.Prelude.{◌≡◌, ◌≢◌, ◌≤◌, ◌<◌, ◌⊎◌, ◌↔◌, ℕ, List, length, take, Ok, Err, IfOk, IfErr, IfSome, OnOk, OnErr, IsErrOf, vec_len, true, false};
+ghost use Rattle.std.specs.Prelude.{◌≡◌, ◌≢◌, ◌≤◌, ◌<◌, ◌⊎◌, ◌↔◌, ℕ, List, length, take, Ok, Err, IfOk, IfErr, IfSome};
+ghost use Rattle.std.specs.Prelude.{OnOk, OnErr, IsErrOf, vec_len, true, false};
 ghost use Rattle.std.specs.Io.KnownBytes.{Keeps, Appends, Consumes};
 ghost use Rattle.json_patch_tool.specs.Answer.{Answer};
 ghost use Rattle.json_patch_tool.specs.Watched.{IsUnread, IsUnwritten};

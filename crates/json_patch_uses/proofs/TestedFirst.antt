@@ -1,5 +1,6 @@
 -- A list of operations that begins with a test.
-use Rattle.std.proofs.Common.{◌≡◌, ◌<◌, ◌-◌, ℕ, zero, suc, List, ◌∷◌, Some, option_map, slice_get, sym, ◌∙◌, subst, arith}
+use Rattle.std.proofs.Common.{◌≡◌, ◌<◌, ◌-◌, ℕ, zero, suc, List, ◌∷◌, Some, option_map, slice_get, sym, ◌∙◌, subst}
+use Rattle.std.proofs.Common.{arith}
 use Rattle.std.specs.Prelude.{◌↔◌}
 use Rattle.serde_json.specs.Data.{Data}
 use Rattle.json_patch.specs.ChangeComputed.{pointee}
@@ -9,7 +10,8 @@ use Rattle.json_patch.specs.Resolve.{StandsAt}
 use Rattle.json_patch.specs.Run.{RefusesAt}
 use Rattle.json_patch.specs.declared.error.PatchError.{PatchError}
 use Rattle.json_patch.specs.declared.error.PatchErrorKind.{PatchErrorKind}
-use Rattle.json_patch.specs.declared.error.PatchErrorKind.TheVariants.{TestFailed, InvalidFromPointer, InvalidPointer, CannotMoveInsideItself}
+use Rattle.json_patch.specs.declared.error.PatchErrorKind.TheVariants.{TestFailed, InvalidFromPointer, InvalidPointer}
+use Rattle.json_patch.specs.declared.error.PatchErrorKind.TheVariants.{CannotMoveInsideItself}
 
 abbrev pub Law : Type 0
 Law = (d : Data) (P : List (List ℕ)) (c : Data) → StandsAt d P c ↔ (pointee d P ≡ Some c)

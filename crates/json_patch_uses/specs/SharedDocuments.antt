@@ -1,5 +1,6 @@
 -- The versions of a shared document, and what a change makes of them.
-use Rattle.std.specs.Prelude.{◌≡◌, ◌≤◌, ◌<◌, ◌++◌, ◌+◌, ℕ, List, [], ◌∷◌, length, drop, zero, suc, Some, slice_get}
+use Rattle.std.specs.Prelude.{◌≡◌, ◌≤◌, ◌<◌, ◌++◌, ◌+◌, ℕ, List, [], ◌∷◌, length, drop}
+use Rattle.std.specs.List.{AllWithin, HoldsAt}
 use Rattle.serde_json.specs.Data.{Data}
 use Rattle.serde_json.specs.View.{view}
 use Rattle.json_patch.specs.Apart.{AreApart}
@@ -56,23 +57,23 @@ IsMade s ops t =
 abbrev pub AreKept : SharedDocument → SharedDocument → Type 0
 AreKept s t = (document_of t ≡ document_of s) × (t.changes.items ≡ s.changes.items)
 
--- the change at n is the first from which the operations are not apart
-abbrev pub CollidesAt : List Operation → List Change → ℕ → Type 0
-CollidesAt ops [] n = ⊥
-CollidesAt ops (c ∷ cs) zero = AreApart ops (patch_of c) → ⊥
-CollidesAt ops (c ∷ cs) (suc n) = AreApart ops (patch_of c) × CollidesAt ops cs n
+-- the change that was made to version v is the first since version k from which the operations are not apart
+pub record CollidesAt (s : SharedDocument) (k : ℕ) (ops : List Operation) (v : ℕ) : Type 0 where
+  pub since : k ≤ v
+  pub made : v < version_of s
+  pub before : AllWithin (λ c. AreApart ops (patch_of c)) s.changes.items k v
+  pub there : HoldsAt (λ c. AreApart ops (patch_of c) → ⊥) s.changes.items v
 
 -- why a change that was meant for version k is not made: what refuses it there refuses it here
 abbrev pub IsUpdateFault : SharedDocument → ℕ → List Operation → ChangeFault → Type 0
 IsUpdateFault s k ops NoVersion = version_of s < k
-IsUpdateFault s k ops (Conflict v) = (n : ℕ) × (v ≡ k + n) × CollidesAt ops (drop k s.changes.items) n
+IsUpdateFault s k ops (Conflict v) = CollidesAt s k ops v
 IsUpdateFault s k ops (Refused e) = (d : Data) → IsVersion s k d → NamesFirst d ops e
 IsUpdateFault s k ops (Memory e) = Unit {0}
 
 -- why the change that was made to version k is not taken back: it is never refused
 abbrev pub IsUndoFault : SharedDocument → ℕ → ChangeFault → Type 0
 IsUndoFault s k NoVersion = version_of s ≤ k
-IsUndoFault s k (Conflict v) =
-    (c : Change) × (slice_get s.changes.items k ≡ Some c) × (n : ℕ) × (v ≡ k + 1 + n) × CollidesAt (patch_of c) (drop (k + 1) s.changes.items) n
+IsUndoFault s k (Conflict v) = HoldsAt (λ c. CollidesAt s (k + 1) (patch_of c) v) s.changes.items k
 IsUndoFault s k (Refused e) = (d : Data) → IsVersion s k d → ⊥
 IsUndoFault s k (Memory e) = Unit {0}

@@ -1,7 +1,8 @@
 //! The examples of the README and of the crates' comments, word for word.
 
-ghost use Rattle.std.specs.Prelude.{◌≡◌, IfOk, OnOk, take};
+ghost use Rattle.std.specs.Prelude.{◌≡◌, ◌↔◌, IfOk, IsTrue, OnOk, take};
 ghost use Rattle.serde_json.specs.View.{view};
+ghost use Rattle.json_patch.specs.Apart.{AreApart};
 ghost use Rattle.json_patch.specs.Document.{IsDocument};
 ghost use Rattle.json_patch.specs.Operation.{AreWhole, operations_of};
 ghost use Rattle.json_patch.specs.Run.{Accepts};
@@ -10,8 +11,8 @@ mod tests;
 
 use json_patch::jsonptr::{ParseError, Pointer, PointerBuf};
 use json_patch::{
-    AddOperation, Fault, Patch, PatchFault, PatchOperation, apply_patches, document_from_str,
-    lookup, merge, patch, patch_unsafe,
+    AddOperation, Fault, Patch, PatchFault, PatchOperation, apply_patches, are_apart,
+    document_from_str, lookup, merge, patch, patch_unsafe,
 };
 use json_patch_editor::Editor;
 use serde_json::{Value, json};
@@ -83,6 +84,25 @@ fn merged_and_looked_up(alloc: Global, document: &mut Value) -> Result<Option<Va
         Some(found) => Ok(Some(found.clone()?)),
         None => Ok(None),
     }
+}
+
+fn made_late(
+    alloc: Global,
+    document: &mut Value,
+    late: &Patch,
+    since: &Patch,
+) -> Result<bool, Fault>
+    requires document { IsDocument (view document.old) }
+    requires whole { AreWhole (operations_of late.now) }
+    ensures made { IfOk result (λ made. IsTrue made
+        ↔ AreApart (operations_of late.now) (operations_of since.now)) }
+    ensures document { IsDocument (view document.new) }
+{
+    if are_apart(late.as_slice(), since.as_slice()) {
+        patch(alloc, document, late.as_slice())?;
+        return Ok(true);
+    }
+    Ok(false)
 }
 
 fn is_of_ann(changes: &Patch) -> Result<bool, ParseError> {

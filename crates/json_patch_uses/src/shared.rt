@@ -1,6 +1,6 @@
 //! A document that several change, each from a version that it has seen.
 
-ghost use Rattle.std.specs.Prelude.{◌≡◌, ◌<◌, ◌++◌, ◌+◌, ℕ, List, length, IfErr, IfNone, IfSome, OnErr, OnOk};
+ghost use Rattle.std.specs.Prelude.{◌≡◌, ◌++◌, ◌+◌, ℕ, List, IfErr, IfNone, IfSome, OnErr, OnOk};
 ghost use Rattle.serde_json.specs.Data.{Data};
 ghost use Rattle.serde_json.specs.View.{view};
 ghost use Rattle.json_patch.specs.Apart.{AreApart};
@@ -61,7 +61,8 @@ pub struct SharedDocument {
 
 impl SharedDocument {
     ghost use Rattle.json_patch_uses.specs.declared.shared.SharedDocument.{SharedDocument};
-    ghost use Rattle.json_patch_uses.specs.SharedDocuments.{AreKept, CollidesAt, IsMade, IsUndoFault, IsUpdateFault, IsVersion, document_of, joined, since, version_of};
+    ghost use Rattle.json_patch_uses.specs.SharedDocuments.{AreKept, CollidesAt, IsMade, IsUndoFault, IsUpdateFault};
+    ghost use Rattle.json_patch_uses.specs.SharedDocuments.{IsVersion, document_of, since, version_of};
 
     /// A document that begins with the version 0.
     pub fn open(alloc: Global, document: Value) -> SharedDocument
@@ -104,8 +105,8 @@ impl SharedDocument {
         if version > self.changes.len() {
             return Err(ChangeFault::NoVersion);
         }
-        if let Some(n) = Self::first_collision(patch.as_slice(), &self.changes[version..]) {
-            return Err(ChangeFault::Conflict(version + n));
+        if let Some(first) = self.first_collision(patch.as_slice(), version) {
+            return Err(ChangeFault::Conflict(first));
         }
         match self.make(alloc, patch) {
             Ok(()) => Ok(()),
@@ -128,9 +129,8 @@ impl SharedDocument {
             return Err(ChangeFault::NoVersion);
         }
         let change = &self.changes[version];
-        let later = &self.changes[version + 1..];
-        if let Some(n) = Self::first_collision(change.patch.as_slice(), later) {
-            return Err(ChangeFault::Conflict(version + 1 + n));
+        if let Some(first) = self.first_collision(change.patch.as_slice(), version + 1) {
+            return Err(ChangeFault::Conflict(first));
         }
         let undo = change.undo.clone(alloc)?;
         match self.make(alloc, undo) {
@@ -152,15 +152,15 @@ impl SharedDocument {
             → IsVersion s k d → IsVersion t k d }
     {}
 
-    /// Which of the changes is the first from which the operations aren't apart.
-    #[tactic(auto, using(crate::proofs::SharedChanges::apart_each))]
-    fn first_collision(patch: &[PatchOperation], changes: &[Change]) -> Option<usize>
-        ensures none { IfNone result (AreApart (operations patch.now) (joined changes.now)) }
-        ensures some { IfSome result (CollidesAt (operations patch.now) changes.now) }
-        ensures within { IfSome result (λ n. n < length changes.now) }
+    /// To which version, from this one on, the first change was made from which the operations
+    /// aren't apart.
+    fn first_collision(&self, patch: &[PatchOperation], version: usize) -> Option<usize>
+        ensures none { IfNone result (AreApart (operations patch.now) (since self.now version)) }
+        ensures some { IfSome result (CollidesAt self.now version (operations patch.now)) }
     {
-        for (n, change) in changes.iter().enumerate() {
-            if !are_apart(patch, change.patch.as_slice()) {
+        laws::apart();
+        for n in version..self.changes.len() {
+            if !are_apart(patch, self.changes[n].patch.as_slice()) {
                 return Some(n);
             }
         }

@@ -5,6 +5,8 @@
 #[cfg(test)]
 mod always_out_of_memory;
 #[cfg(test)]
+mod apart;
+#[cfg(test)]
 mod callers;
 #[cfg(test)]
 mod computed;

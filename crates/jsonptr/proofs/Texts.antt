@@ -1,7 +1,10 @@
 -- The texts of pointers and their tokens.
-use Rattle.std.proofs.Common.{take_all, length-append, take-append-drop, ◌≡◌, ℕ, ◌+◌, ◌<◌, ◌≤◌, Bool, true, false, cond, eqb, List, [], ◌∷◌, ◌++◌, length, get_or, take, drop, refl, sym, ap, ◌∙◌, subst, ⊎_elim, append_assoc, append-nil, suc, zero, arith}
+use Rattle.std.proofs.Common.{take_all, length-append, take-append-drop, ◌≡◌, ℕ, ◌+◌, ◌<◌, ◌≤◌, Bool, true, false, cond}
+use Rattle.std.proofs.Common.{eqb, List, [], ◌∷◌, ◌++◌, length, get_or, take, drop, refl, sym, ap, ◌∙◌, subst, ⊎_elim}
+use Rattle.std.proofs.Common.{append_assoc, append-nil, suc, zero, arith}
 use Rattle.std.proofs.lemmas.Bool.{cases_eq, ne_eqb}
-use Rattle.std.specs.Prelude.{MatchOption, Option, Some, None, IfNone, Result, Ok, Err, OnErr, OnOk, is_ok, if◌then◌else◌}
+use Rattle.std.specs.Prelude.{MatchOption, Option, Some, None, IfNone, Result, Ok, Err, OnErr, OnOk, is_ok}
+use Rattle.std.specs.Prelude.{if◌then◌else◌}
 use Rattle.std.specs.declared.alloc.AllocError.{AllocError}
 use Rattle.std.specs.List.{count_by}
 use Rattle.std.proofs.lemmas.Slice.Eq.{bytes_eq-Decides}
@@ -15,8 +18,11 @@ use Rattle.std.specs.Str.Pattern.{FindsChar, RFindsChar, SplitsAroundMatch, Stri
 use Rattle.std.proofs.lemmas.Str.Pattern.{find_char, NoCharPasses-char, drop_at_char}
 use Rattle.jsonptr.specs.Faults.{IsFault}
 use Rattle.jsonptr.specs.declared.error.ParseError.{ParseError}
-use Rattle.jsonptr.specs.Text.{after_tilde, decoded, decoded_byte, encoded_byte, encoded, text_of, IsPrefix, IsNoPointerText}
-use Rattle.jsonptr.specs.TextLaws.{by_byte, tokens_of_text-append, scanned-NoSlash, tokens_of_text-one, Starts-text_of, NoSlash-encoded, decoded_again, unscanned-scanned, text_of-tokens_of_text, Escaped-append, Escaped-encoded, Escaped-text_of, one_pointer, pointer_has_no_fault}
+use Rattle.jsonptr.specs.Text.{after_tilde, decoded, decoded_byte, encoded_byte, encoded, text_of, IsPrefix}
+use Rattle.jsonptr.specs.Text.{IsNoPointerText}
+use Rattle.jsonptr.specs.TextLaws.{by_byte, tokens_of_text-append, scanned-NoSlash, tokens_of_text-one, Starts-text_of}
+use Rattle.jsonptr.specs.TextLaws.{NoSlash-encoded, decoded_again, unscanned-scanned, text_of-tokens_of_text}
+use Rattle.jsonptr.specs.TextLaws.{Escaped-append, Escaped-encoded, Escaped-text_of, one_pointer, pointer_has_no_fault}
 use Rattle.jsonptr.specs.Scanning.{tokens_of_text, IsOfItsTokens, IsEncoded, Starts, NoSlash, StartsEscape, Escaped}
 
 pub if_none : {A : Type 0} {P : Type 0} (o : Option A) → P → IfNone o P

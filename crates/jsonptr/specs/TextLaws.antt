@@ -1,7 +1,8 @@
 -- Laws of pointers and their texts, for the proofs above this crate to cite: the last section and
 -- `decoded_again`, which the module `laws` has as contracts. Before the last section stands what its
 -- proofs and this crate's others need.
-use Rattle.std.proofs.Common.{◌≡◌, ◌<◌, ◌+◌, ℕ, zero, suc, List, [], ◌∷◌, ◌++◌, length, get_or, slice_index, eqb, false, refl, sym, ap, ◌∙◌, inl, inr, subst, add-one, ⊎_elim, arith}
+use Rattle.std.proofs.Common.{◌≡◌, ◌<◌, ◌+◌, ℕ, zero, suc, List, [], ◌∷◌, ◌++◌, length, get_or, slice_index, eqb, false}
+use Rattle.std.proofs.Common.{refl, sym, ap, ◌∙◌, inl, inr, subst, add-one, ⊎_elim, arith}
 use Rattle.std.specs.Prelude.{◌⊎◌}
 use Rattle.std.proofs.lemmas.Bool.{cases_eq, cases_lt, ne_eqb, eqb-false}
 use Rattle.jsonptr.specs.Faults.{IsFault, IsBareTilde, BeginsWell}

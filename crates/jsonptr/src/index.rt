@@ -3,7 +3,8 @@
 ghost use Rattle.std.specs.Prelude.{◌≡◌, ◌≢◌, ℕ, ◌<◌, ◌≤◌, length, slice_index, IfOk, IfErr, OnOk, OnErr, IsTrue, ◌↔◌};
 ghost use Rattle.std.specs.Int.{IsInRange};
 ghost use Rattle.jsonptr.specs.Places.{next_token};
-ghost use Rattle.jsonptr.specs.Indexes.{IsIndexText, IsIndexFault, IsNoIndexText, HasLeadingZero, place_in, IsOutOfBounds};
+ghost use Rattle.jsonptr.specs.Indexes.{IsIndexText, IsIndexFault, IsNoIndexText, HasLeadingZero, place_in};
+ghost use Rattle.jsonptr.specs.Indexes.{IsOutOfBounds};
 
 use thiserror::Error;
 

@@ -1,6 +1,7 @@
 //! A pointer that borrows its text.
 
-ghost use Rattle.std.specs.Prelude.{◌≡◌, ◌<◌, ◌^◌, length, slice_index, [], ◌∷◌, ◌++◌, IfOk, IfErr, OnErr, OnOk, IfSome, IfNone, IsTrue, ◌↔◌, ◌⊎◌};
+ghost use Rattle.std.specs.Prelude.{◌≡◌, ◌<◌, ◌^◌, length, slice_index, [], ◌∷◌, ◌++◌, IfOk, IfErr, OnErr, OnOk};
+ghost use Rattle.std.specs.Prelude.{IfSome, IfNone, IsTrue, ◌↔◌, ◌⊎◌};
 ghost use Rattle.jsonptr.specs.Text.{text_of, IsPrefix, IsLongestShared, IsNoPointerText};
 ghost use Rattle.jsonptr.specs.Faults.{IsFault};
 ghost use Rattle.jsonptr.specs.Scanning.{tokens_of_text, IsOfItsTokens, NoSlash, Starts, BeginSame, AreApart};

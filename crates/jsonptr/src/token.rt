@@ -1,6 +1,7 @@
 //! The tokens of a pointer.
 
-ghost use Rattle.std.specs.Prelude.{◌≡◌, ℕ, ◌<◌, [], ◌∷◌, ◌≤◌, IfOk, IfSome, IfNone, IsOk, OnErr, OnOk, MatchResult, IsTrue, ◌↔◌, length};
+ghost use Rattle.std.specs.Prelude.{◌≡◌, ℕ, ◌<◌, [], ◌∷◌, ◌≤◌, IfOk, IfSome, IfNone, IsOk, OnErr, OnOk, MatchResult};
+ghost use Rattle.std.specs.Prelude.{IsTrue, ◌↔◌, length};
 ghost use Rattle.std.specs.String.{string_bytes, string_capacity};
 ghost use Rattle.jsonptr.specs.Text.{after_tilde, decoded, encoded};
 ghost use Rattle.jsonptr.specs.Scanning.{IsEncoded, Escaped, StartsEscape};

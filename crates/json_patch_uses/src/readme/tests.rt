@@ -5,8 +5,8 @@ ghost use Rattle.json_patch.specs.Document.{IsDocument};
 ghost use Rattle.json_patch.specs.Operation.{AreWhole, operations, operations_of};
 
 use crate::readme::{
-    from_texts, is_of_ann, left_part_way, merged_and_looked_up, taken_back, there_and_back,
-    what_was_refused, written_and_read,
+    from_texts, is_of_ann, left_part_way, made_late, merged_and_looked_up, taken_back,
+    there_and_back, what_was_refused, written_and_read,
 };
 use json_patch::{Patch, is_whole};
 use serde_json::Value;
@@ -64,6 +64,20 @@ fn a_refusal_leaves_what_was_made(rt: HostRuntime) -> Result<(), Fail> {
     let made = left_part_way(alloc, &mut document, &changes(alloc, operations))?;
     assert_eq!(rt; made, 1);
     assert_eq!(rt; document.to_string(alloc)?.as_str(), r#"{"a":1,"b":2}"#);
+    Ok(())
+}
+
+#[test]
+fn a_late_change_is_made_beside_others(rt: HostRuntime) -> Result<(), Fail> {
+    let alloc = rt.alloc();
+    let mut document = whole(alloc, r#"{"tags":[1],"title":"y"}"#);
+    let since = changes(alloc, r#"[{"op":"add","path":"/tags/-","value":1}]"#);
+    let title = changes(alloc, r#"[{"op":"replace","path":"/title","value":"x"}]"#);
+    let tag = changes(alloc, r#"[{"op":"replace","path":"/tags/0","value":2}]"#);
+    assert!(rt; made_late(alloc, &mut document, &title, &since).expect(&rt, "a member"));
+    assert!(rt; !made_late(alloc, &mut document, &tag, &since).expect(&rt, "no refusal"));
+    let text = document.to_string(alloc)?;
+    assert_eq!(rt; text.as_str(), r#"{"tags":[1],"title":"x"}"#);
     Ok(())
 }
 

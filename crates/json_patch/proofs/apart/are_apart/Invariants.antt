@@ -1,6 +1,9 @@
-use Rattle.json_patch.proofs.Common.{◌↔◌, drop, operations}
+use Rattle.json_patch.proofs.Common.{◌↔◌, length, operations}
 use Rattle.json_patch.specs.Apart.{AreApart}
 use Rattle.json_patch.proofs.apart.are_apart.Given as goal
 
-abbrev pub invariant-loop-x : goal.invariant-loop-x
-invariant-loop-x l = AreApart (operations l.xs) (operations l.ys) ↔ AreApart (operations (drop l.x-index l.xs)) (operations l.ys)
+abbrev pub invariant-loop-rest : goal.invariant-loop-rest
+invariant-loop-rest l = AreApart (operations l.xs) (operations l.fn.ys) ↔ AreApart (operations l.xs) (operations l.rest)
+
+abbrev pub decreases-loop-rest : goal.decreases-loop-rest
+decreases-loop-rest l = length l.rest

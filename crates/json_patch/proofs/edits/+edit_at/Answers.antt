@@ -1,6 +1,7 @@
-use Rattle.json_patch.proofs.Common.{rules, refl, ap, sym, ◌∙◌, Array, Object, the_lemmas, view, token_of, tokens_left}
+use Rattle.json_patch.proofs.Common.{rules, refl, ap, sym, ◌∙◌, Array, Object, the_lemmas, view, token_of}
 use Rattle.json_patch.proofs.MarkedContainers.{marked_at_member, marked_at_item}
-use Rattle.json_patch.proofs.Exchanges.{fits_more, fitting_below, exchanges_to_member, exchanges_to_item, exchanges_with_no_member, exchanges_with_no_item}
+use Rattle.json_patch.proofs.Exchanges.{fits_more, fitting_below, exchanges_to_member, exchanges_to_item}
+use Rattle.json_patch.proofs.Exchanges.{exchanges_with_no_member, exchanges_with_no_item}
 use Rattle.json_patch.proofs.edits.+edit_at.Goals as goal
 
 pub returns-in_default-get_mut-clause-makes : goal.returns-in_default-get_mut-clause-makes

@@ -1,4 +1,4 @@
-use Rattle.json_patch.proofs.Common.{token_of, tokens_of, tokens_left, view, ◌∙◌}
+use Rattle.json_patch.proofs.Common.{token_of, tokens_of}
 use Rattle.json_patch.proofs.Exchanges.{exchanges_where, fitting_split}
 use Rattle.json_patch.proofs.edits.make.Goals as goal
 

@@ -1,7 +1,6 @@
-use Rattle.json_patch.proofs.Common.{refl, rules, view, token_of, set_child, drop_child}
+use Rattle.json_patch.proofs.Common.{rules, token_of, drop_child}
 use Rattle.json_patch.proofs.Exchanges.{refused_exchange, removes_item}
 use Rattle.json_patch.proofs.MarkedContainers.{no_item_shown}
-use Rattle.json_patch.specs.Marked.{mark_child}
 use Rattle.json_patch.proofs.edits.remove_item.Goals as goal
 
 pub returns-in_err-index-clause-makes : goal.returns-in_err-index-clause-makes

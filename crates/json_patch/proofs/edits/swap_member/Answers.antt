@@ -1,4 +1,4 @@
-use Rattle.json_patch.proofs.Common.{refl, sym, ap, ◌∙◌, view, rules, object, members_view}
+use Rattle.json_patch.proofs.Common.{refl, sym, ◌∙◌, view, rules}
 use Rattle.json_patch.proofs.Exchanges.{swaps_none, swaps_other, swaps, stays}
 use Rattle.json_patch.proofs.edits.swap_member.Goals as goal
 

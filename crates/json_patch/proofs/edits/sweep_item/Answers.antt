@@ -1,4 +1,4 @@
-use Rattle.json_patch.proofs.Common.{refl, rules, view, token_of}
+use Rattle.json_patch.proofs.Common.{refl, rules, token_of}
 use Rattle.json_patch.proofs.Exchanges.{refused_exchange, sweeps_item}
 use Rattle.json_patch.proofs.MarkedContainers.{no_item_shown}
 use Rattle.json_patch.specs.Exchange.{sweep_child}

@@ -1,4 +1,4 @@
-use Rattle.json_patch.proofs.Common.{refl, sym, ap, ◌∙◌, view, rules}
+use Rattle.json_patch.proofs.Common.{refl, sym, ◌∙◌, rules}
 use Rattle.json_patch.proofs.Exchanges.{sweeps_none, sweeps_mark, sweeps, stays}
 use Rattle.json_patch.proofs.edits.sweep_member.Goals as goal
 

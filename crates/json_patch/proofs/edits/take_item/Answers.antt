@@ -1,4 +1,4 @@
-use Rattle.json_patch.proofs.Common.{refl, rules, view, token_of, set_child, drop_child}
+use Rattle.json_patch.proofs.Common.{rules, view, token_of}
 use Rattle.json_patch.proofs.Exchanges.{refused_exchange, takes_item}
 use Rattle.json_patch.proofs.MarkedContainers.{no_item_shown}
 use Rattle.json_patch.specs.Marked.{mark_child}

@@ -1,4 +1,4 @@
-use Rattle.json_patch.proofs.Common.{◌≡◌, ◌<◌, ◌≤◌, ◌-◌, suc, zero, refl, rules, arith, ap, ◌∙◌, view, vec_len, token_of}
+use Rattle.json_patch.proofs.Common.{◌≡◌, ◌<◌, ◌-◌, suc, rules, arith, view, vec_len, token_of}
 use Rattle.json_patch.proofs.Exchanges.{refused_exchange}
 use Rattle.json_patch.proofs.MarkedContainers.{at_no_item, restores_item}
 use Rattle.json_patch.specs.Marked.{restore_child}

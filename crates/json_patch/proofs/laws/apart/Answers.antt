@@ -1,10 +1,14 @@
 use Rattle.json_patch.proofs.ApartExamples.{not_enough}
-use Rattle.json_patch.proofs.ApartRuns.{accepted_alike, both_ways, each_alone, lists_back, refused_alike, refused_joined}
-use Rattle.json_patch.proofs.ApartUndos.{undo_keeps}
+use Rattle.json_patch.proofs.ApartRuns.{accepted_alike, both_ways, each_alone, lists_back, refused_alike}
+use Rattle.json_patch.proofs.ApartRuns.{refused_joined}
+use Rattle.json_patch.proofs.ApartUndos.{apart_joined, undo_keeps}
 use Rattle.json_patch.proofs.laws.apart.Goals as goal
 
 pub returns-clause-apart_both_ways : goal.returns-clause-apart_both_ways
 returns-clause-apart_both_ways c = lists_back
+
+pub returns-clause-apart_joined : goal.returns-clause-apart_joined
+returns-clause-apart_joined c = apart_joined
 
 pub returns-clause-accepted_alike : goal.returns-clause-accepted_alike
 returns-clause-accepted_alike c = accepted_alike

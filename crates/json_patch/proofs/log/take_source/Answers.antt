@@ -1,4 +1,4 @@
-use Rattle.json_patch.proofs.Common.{refl, view, tokens_of}
+use Rattle.json_patch.proofs.Common.{view, tokens_of}
 use Rattle.json_patch.specs.Marked.{seen}
 use Rattle.json_patch.proofs.Exchanges.{fitting_more}
 use Rattle.json_patch.proofs.LoggedEdits.{take_refused}

@@ -1,4 +1,3 @@
-use Rattle.json_patch.proofs.Common.{view}
 use Rattle.json_patch.proofs.Logged.{leads_popped, roomy_more, roomy_popped}
 use Rattle.json_patch.proofs.log.undo_all.Goals as goal
 

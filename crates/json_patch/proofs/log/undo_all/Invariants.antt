@@ -1,4 +1,4 @@
-use Rattle.json_patch.proofs.Common.{◌≡◌, ℕ, List, length, view}
+use Rattle.json_patch.proofs.Common.{length, view}
 use Rattle.serde_json.specs.Data.{Data}
 use Rattle.json_patch.specs.Exchange.{room}
 use Rattle.json_patch.specs.Logged.{AreRoomy, LeadsBack}

@@ -1,5 +1,7 @@
-use Rattle.json_patch.proofs.Common.{◌≡◌, ◌≤◌, ◌<◌, arith, view, members_view, items_view, length, rules, the_lemmas, ap, sym, ◌∙◌, Object}
-use Rattle.json_patch.proofs.MarkedContainers.{clears_object, retained_seen, entry_depth, unvisited_depth, clears_next, cleared_all}
+use Rattle.json_patch.proofs.Common.{◌≡◌, ◌≤◌, ◌<◌, arith, view, members_view, items_view, length, rules, the_lemmas}
+use Rattle.json_patch.proofs.Common.{ap, sym, ◌∙◌, Object}
+use Rattle.json_patch.proofs.MarkedContainers.{clears_object, retained_seen, entry_depth, unvisited_depth, clears_next}
+use Rattle.json_patch.proofs.MarkedContainers.{cleared_all}
 use Rattle.serde_json.specs.Data.{depth, members_depth, items_depth}
 use Rattle.json_patch.proofs.marks.+clear.Goals as goal
 

@@ -1,4 +1,4 @@
-use Rattle.json_patch.proofs.Common.{◌≡◌, ◌≤◌, ◌+◌, ◌*◌, view, items_view, members_view, vec_len, take}
+use Rattle.json_patch.proofs.Common.{◌≡◌, ◌+◌, ◌*◌, view, items_view, members_view, vec_len, take}
 use Rattle.serde_json.specs.Data.{depth, items_depth, members_depth}
 use Rattle.json_patch.specs.Marked.{clear_upto}
 use Rattle.json_patch.proofs.marks.+clear.Given as goal

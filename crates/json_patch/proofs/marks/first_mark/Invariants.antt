@@ -1,4 +1,4 @@
-use Rattle.json_patch.proofs.Common.{◌≡◌, ◌≤◌, ◌+◌, items_len, items_view, drop}
+use Rattle.json_patch.proofs.Common.{◌≡◌, ◌+◌, items_len, items_view, drop}
 use Rattle.json_patch.specs.Marked.{seen_items}
 use Rattle.json_patch.proofs.marks.first_mark.Given as goal
 

@@ -1,4 +1,3 @@
-use Rattle.json_patch.proofs.Common.{refl, ap, ◌∙◌}
 use Rattle.std.specs.Float.{float_is_finite}
 use Rattle.std.specs.Float.Ieee.{of_bits}
 use Rattle.json_patch.proofs.marks.mark.Goals as goal

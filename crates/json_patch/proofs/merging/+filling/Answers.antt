@@ -1,7 +1,13 @@
-use Rattle.json_patch.proofs.Common.{◌≡◌, ◌≢◌, sight_of, string_bytes, rules, refl, sym, ap, ◌∙◌, view, Object, the_lemmas, stays, left, by_key, Ok, Err, Sight, Nothing, Replaced, Filled}
+use Rattle.json_patch.proofs.Common.{◌≡◌, ◌≢◌, sight_of, string_bytes, rules, refl, sym, ap, ◌∙◌, view, Object}
+use Rattle.json_patch.proofs.Common.{the_lemmas, stays, left, by_key, Ok, Err, Sight, Nothing, Replaced, Filled}
 use Rattle.json_patch.specs.declared.merging.Former.{the_lemmas as of_formers}
-use Rattle.json_patch.proofs.MergeFills.{starts, steps_at, changes_nothing, next_document, null_here, other_here, other_value, filled_whole, of_objects, fills_found, fills_missing, fills_back, fills_step, logs_nothing}
-use Rattle.json_patch.proofs.merging.+filling.Goals.{fill-else-not-is_null-via-then-not-is_null+else-is_err, fill-else-not-is_null-via-else-not-is_null, fill_member-in-Object+in_default-member, fill_member-in_default-change}
+use Rattle.json_patch.proofs.MergeFills.{starts, steps_at, changes_nothing, next_document, null_here, other_here}
+use Rattle.json_patch.proofs.MergeFills.{other_value, filled_whole, of_objects, fills_found, fills_missing, fills_back}
+use Rattle.json_patch.proofs.MergeFills.{fills_step, logs_nothing}
+use Rattle.json_patch.proofs.merging.+filling.Goals.{fill-else-not-is_null-via-then-not-is_null+else-is_err}
+use Rattle.json_patch.proofs.merging.+filling.Goals.{fill-else-not-is_null-via-else-not-is_null}
+use Rattle.json_patch.proofs.merging.+filling.Goals.{fill_member-in-Object+in_default-member}
+use Rattle.json_patch.proofs.merging.+filling.Goals.{fill_member-in_default-change}
 use Rattle.json_patch.proofs.merging.+filling.Goals as goal
 
 pub fill-loop-name-init : goal.fill-loop-name-init

@@ -1,5 +1,8 @@
 use Rattle.json_patch.proofs.Common.{rules, refl, sym, ap, ◌∙◌, view, members_view, Object, the_lemmas, view-Object}
-use Rattle.json_patch.proofs.MergeFills.{starts, steps_at, changes_nothing, changes_written, changes_removed, null_here, other_here, atom_here, prunes_atom, named_members, pruned_object, pruned_other, other_value, prunes_unnamed, prunes_null, prunes_found, prunes_missing, found_at, found_document}
+use Rattle.json_patch.proofs.MergeFills.{starts, steps_at, changes_nothing, changes_written, changes_removed, null_here}
+use Rattle.json_patch.proofs.MergeFills.{other_here, atom_here, prunes_atom, named_members, pruned_object, pruned_other}
+use Rattle.json_patch.proofs.MergeFills.{other_value, prunes_unnamed, prunes_null, prunes_found, prunes_missing}
+use Rattle.json_patch.proofs.MergeFills.{found_at, found_document}
 use Rattle.json_patch.proofs.merging.+prune.Goals as goal
 
 pub loop-name-init : goal.loop-name-init

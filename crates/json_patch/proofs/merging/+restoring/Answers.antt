@@ -1,6 +1,7 @@
 use Rattle.json_patch.proofs.Common.{◌≡◌, suc, rules, arith, sym, ap, ◌∙◌, Object, the_lemmas}
 use Rattle.json_patch.specs.declared.merging.Former.{the_lemmas as of_formers}
-use Rattle.json_patch.proofs.MergeFills.{before_last, weights_last, puts_back, puts_nothing_back, takes_out, restored_object, weight, weights}
+use Rattle.json_patch.proofs.MergeFills.{before_last, weights_last, puts_back, puts_nothing_back, takes_out}
+use Rattle.json_patch.proofs.MergeFills.{restored_object, weight, weights}
 use Rattle.json_patch.proofs.merging.+restoring.Goals as goal
 
 pub restore-restore_member-requires : goal.restore-restore_member-requires

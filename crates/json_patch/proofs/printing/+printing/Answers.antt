@@ -1,4 +1,7 @@
-use Rattle.json_patch.proofs.Common.{◌≡◌, [], ◌∷◌, ◌++◌, ◌+◌, codes, drop, string_bytes, rules, sym, ap, ◌∙◌, arith, drop_more, drop_all, is_ok, item, no_items, member, view, items_view, members_view, quote, value_text, printed_items, printed_members, has_written_append, has_written_of_eq}
+use Rattle.json_patch.proofs.Common.{◌≡◌, [], ◌∷◌, ◌++◌, ◌+◌, codes, drop, string_bytes, rules, sym, ap, ◌∙◌, arith}
+use Rattle.json_patch.proofs.Common.{drop_more, drop_all, is_ok, item, no_items, member, view, items_view, members_view}
+use Rattle.json_patch.proofs.Common.{quote, value_text, printed_items, printed_members, has_written_append}
+use Rattle.json_patch.proofs.Common.{has_written_of_eq}
 use Rattle.json_patch.proofs.Texts.{printed_items_more, printed_items_end, printed_members_more, printed_members_end}
 use Rattle.json_patch.proofs.printing.+printing.Goals as goal
 

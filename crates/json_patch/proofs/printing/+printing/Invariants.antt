@@ -1,4 +1,5 @@
-use Rattle.json_patch.proofs.Common.{◌≡◌, ℕ, List, [], ◌++◌, drop, items_view, members_view, printed_items, printed_members, HasWritten, IsPlainFormatter, Utf8, shadow}
+use Rattle.json_patch.proofs.Common.{◌≡◌, ℕ, List, [], ◌++◌, drop, items_view, members_view, printed_items}
+use Rattle.json_patch.proofs.Common.{printed_members, HasWritten, IsPlainFormatter, Utf8, shadow}
 use Rattle.json_patch.proofs.printing.+printing.Given as goal
 
 -- what is written, and the items that are left, are all the items

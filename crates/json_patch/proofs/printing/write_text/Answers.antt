@@ -1,4 +1,5 @@
-use Rattle.json_patch.proofs.Common.{◌≡◌, [], ◌++◌, ap, rules, refl, is_ok, character_text, IsUtf8-past_char, has_written_append, has_written_of_eq, chars_rest}
+use Rattle.json_patch.proofs.Common.{◌≡◌, [], ◌++◌, ap, rules, refl, is_ok, character_text, IsUtf8-past_char}
+use Rattle.json_patch.proofs.Common.{has_written_append, has_written_of_eq, chars_rest}
 use Rattle.json_patch.proofs.Texts.{escaped_more, quoted_end}
 use Rattle.json_patch.proofs.printing.write_text.Goals as goal
 

@@ -1,4 +1,5 @@
-use Rattle.json_patch.proofs.Common.{◌≡◌, ℕ, List, ◌++◌, chars, flat_map, IsUtf8, character_text, HasWritten, IsPlainFormatter, chars_rest}
+use Rattle.json_patch.proofs.Common.{◌≡◌, ℕ, List, ◌++◌, chars, flat_map, IsUtf8, character_text, HasWritten}
+use Rattle.json_patch.proofs.Common.{IsPlainFormatter, chars_rest}
 use Rattle.json_patch.proofs.printing.write_text.Given as goal
 
 -- what is written, and the characters that are left, are the whole text

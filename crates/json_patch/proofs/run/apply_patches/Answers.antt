@@ -5,8 +5,8 @@ use Rattle.json_patch.proofs.run.apply_patches.Goals as goal
 
 pub returns : goal.returns
 returns c =
-    let d = view c.args.doc.now in let end = c.in_ok-undo.ensures.accepted in
-    let all = recorded_all d (view c.run.new.doc) c.args.patches.now c.in_ok-undo.undo.items c.reverse.new.self.items c.requires.document c.requires.whole end (c.in_ok-undo.ensures.recorded refl) c.reverse.ensures.items in
+    let d = view c.args.doc.now in let end = c.in_ok-run.ensures.accepted in
+    let all = recorded_all d (view c.run.new.doc) c.args.patches.now c.in_ok-run.field-0.items c.requires.document c.requires.whole end (c.in_ok-run.ensures.inverse refl) in
     record {
       accepted = end;
       inverse = all.inverse;

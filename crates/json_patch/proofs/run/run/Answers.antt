@@ -1,25 +1,57 @@
-use Rattle.json_patch.proofs.Common.{Err, Vec, Global, rules, view, tokens_of, operation_of, PatchOperation}
-use Rattle.json_patch.proofs.ProgramRuns.{not_stopped, recorded_back, recorded_more, reported_names, state_more, begun_whole, block_whole, step_whole, stripped_whole}
-use Rattle.json_patch.proofs.Undos.{not_move, not_undoable, tests_in_place, undoable_at, block_light, light_more}
+use Rattle.json_patch.proofs.Common.{◌≡◌, ◌+◌, ◌<◌, ◌++◌, ◌∙◌, ◌⊎◌, inl, inr, Ok, Vec, Global, length, true, refl, sym}
+use Rattle.json_patch.proofs.Common.{ap, rules, arith, ⊎_elim, view, operation_of, block, PatchOperation}
+use Rattle.json_patch.proofs.LoggedEdits.{document_marks, logs_counts, logs_kept}
+use Rattle.json_patch.proofs.LoggedRuns.{kept_inverse, kept_last, kept_open}
+use Rattle.json_patch.proofs.MarkedRuns.{document_seen, document_value}
+use Rattle.json_patch.proofs.ProgramRuns.{free_at, inverse_more, not_stopped, reported_names, state_document, test_at}
+use Rattle.json_patch.proofs.ProgramRuns.{state_more, whole_at}
+use Rattle.json_patch.specs.Logged.{Counts}
+use Rattle.json_patch.specs.Marked.{seen}
+use Rattle.json_patch.specs.MarkedComputed.{marks}
 use Rattle.json_patch.proofs.run.run.Goals as goal
 
-pub record_step-requires : goal.record_step-requires
-record_step-requires c = begun_whole (tokens_of c.root-root.result) (operation_of c.index-patch-number-in-loop-number.result) c.root-root.ensures
+pub loop-number-init : goal.loop-number-init
+loop-number-init c =
+    let d = view c.args.doc.now in
+    record {
+      state = sym (document_seen d c.requires.document);
+      marked = document_value d c.requires.document;
+      counts = (let none : marks d ≡ 0 = document_marks d c.requires.document in rw (c.new-log.ensures, none) (omega arith));
+      says = λ is. rw c.new-log.ensures refl;
+      leads = λ h. rw c.new-log.ensures (tt, refl);
+      tests = λ h less. c.new-log.ensures;
+    }
+
+pub step-requires-clause-document : goal.step-requires-clause-document
+step-requires-clause-document c = state_document (view c.args.doc.now) (seen (view c.loop-number.doc)) c.args.patch.now c.loop-number.number c.requires.document c.requires.whole c.loop-number.invariant.state
+
+pub step-requires-clause-whole : goal.step-requires-clause-whole
+step-requires-clause-whole c = whole_at c.args.patch.now c.loop-number.number c.index-patch-number.result c.loop-number-test.true c.index-patch-number.is c.requires.whole
 
 pub returns-in-Err-clause-refused : goal.returns-in-Err-clause-refused
-returns-in-Err-clause-refused c = search (rules, reported_names (Vec PatchOperation Global) c.reported.result c.in-Err.fault (view c.args.doc.now) (view c.loop-number.doc) (view c.record_step.new.doc) c.args.patch.now c.loop-number.number, step_whole (Unit {0}) (Err c.in-Err.fault) (view c.loop-number.doc) (view c.record_step.new.doc) (tokens_of c.root-root.result))
+returns-in-Err-clause-refused c =
+    reported_names (Vec PatchOperation Global) c.reported.result c.in-Err.fault (view c.args.doc.now) (seen (view c.loop-number.doc)) (seen (view c.step.new.doc)) c.args.patch.now c.loop-number.number c.index-patch-number.result
+    c.requires.document c.requires.whole c.loop-number-test.true c.index-patch-number.is c.loop-number.invariant.state c.in-Err.ensures.comes c.reported.ensures
 
-pub returns-in-Err-clause-unchanged : goal.returns-in-Err-clause-unchanged
-returns-in-Err-clause-unchanged c = search (rules, undoable_at c.args.patch.now c.loop-number.number c.index-patch-number.result, not_move, recorded_back (view c.args.doc.now) (view c.loop-number.doc) c.args.patch.now c.loop-number.number c.loop-number.undo.items c.requires.document c.requires.whole c.loop-number.invariant.state c.loop-number.invariant.recorded)
-
-pub returns-in-Err-clause-in_place : goal.returns-in-Err-clause-in_place
-returns-in-Err-clause-in_place c = search (rules, undoable_at, not_stopped, step_whole, tests_in_place)
+pub returns-in-Err-clause-no_memory : goal.returns-in-Err-clause-no_memory
+returns-in-Err-clause-no_memory c = λ is tests e end.
+    absurd (not_stopped c.in-Err.fault (view c.args.doc.now) (seen (view c.loop-number.doc)) (seen (view c.step.new.doc)) e c.args.patch.now c.loop-number.number c.index-patch-number.result
+    c.requires.document c.requires.whole c.loop-number-test.true c.index-patch-number.is c.loop-number.invariant.state c.in-Err.ensures.comes
+    (c.in-Err.ensures.no_memory (free_at c.args.patch.now c.loop-number.number c.index-patch-number.result c.at-kept.result c.loop-number-test.true c.index-patch-number.is (λ last. kept_last c.args.keep c.at-kept.result _ _ c.at-kept.ensures is (search (rules, arith, last)) (search (rules, arith, c.loop-number.invariant.tests tests c.loop-number-test.true))) tests)) end)
 
 pub loop-number-preserved : goal.loop-number-preserved
-loop-number-preserved c = search (rules, stripped_whole, block_whole, state_more, recorded_more, light_more, block_light, undoable_at)
-
-pub returns-in-Err-run_part-clause-unchanged : goal.returns-in-Err-run_part-clause-unchanged
-returns-in-Err-run_part-clause-unchanged c = search (rules, recorded_back (view c.args.doc.now) (view c.loop-number.doc) c.args.patch.now c.loop-number.number c.loop-number.undo.items c.requires.document c.requires.whole c.loop-number.invariant.state c.loop-number.invariant.recorded)
-
-pub returns-in-Err-run_part-clause-in_place : goal.returns-in-Err-run_part-clause-in_place
-returns-in-Err-run_part-clause-in_place c = search (rules, not_undoable, tests_in_place)
+loop-number-preserved c =
+    let d = view c.args.doc.now in let m = seen (view c.loop-number.doc) in let os = c.args.patch.now in let k = c.loop-number.number in let o = c.index-patch-number.result in
+    let counted : Counts c.loop-number.log c.step.new.self (view c.loop-number.doc) (view c.step.new.doc) = logs_counts (Ok c.in_default.field-0) c.at-kept.result c.loop-number.log c.step.new.self (view c.loop-number.doc) (view c.step.new.doc) c.in_default.ensures.logs in
+    record {
+      state = state_more d m (seen (view c.step.new.doc)) os k o c.requires.document c.requires.whole c.loop-number-test.true c.index-patch-number.is c.loop-number.invariant.state c.in_default.ensures.comes;
+      marked = c.in_default.ensures.marked;
+      counts = omega (arith, c.loop-number.invariant.counts, counted);
+      says = λ is.
+          c.in_default.ensures.keeps (c.at-kept.ensures ∙ kept_inverse c.args.keep _ _ is) ∙ ap (λ x. block m (operation_of o) ++ x) (c.loop-number.invariant.says is)
+          ∙ inverse_more d m (seen (view c.step.new.doc)) os k o c.requires.document c.requires.whole c.loop-number-test.true c.index-patch-number.is c.loop-number.invariant.state c.in_default.ensures.comes;
+      leads = λ h. (let l = logs_kept (Ok c.in_default.field-0) c.at-kept.result c.loop-number.log c.step.new.self (view c.loop-number.doc) (view c.step.new.doc)
+          (kept_open c.args.keep c.at-kept.result _ _ c.at-kept.ensures c.requires.kept (⊎_elim (λ (more : k + 1 < length os). inl (search (rules, arith, more))) (λ is. inr is) h)) c.in_default.ensures.logs in
+          let before = c.loop-number.invariant.leads (inl c.loop-number-test.true) in (l.roomy before.0, l.leads d before.1));
+      tests = λ h less. c.in_default.ensures.rests (test_at os k o less c.index-patch-number.is h) ∙ c.loop-number.invariant.tests h c.loop-number-test.true;
+    }

@@ -1,14 +1,18 @@
-use Rattle.json_patch.proofs.Common.{◌-◌, ◌≤◌, length, view, operations, AreRecorded, AreUndos}
+use Rattle.json_patch.proofs.Common.{◌≡◌, ◌≤◌, ◌<◌, ◌+◌, ◌⊎◌, length, take, view, operations, inverse, AreTestsThenRemove, []}
 use Rattle.json_patch.proofs.ProgramRuns.{IsState}
+use Rattle.json_patch.specs.Exchange.{room}
+use Rattle.json_patch.specs.Logged.{AreRoomy, LeadsBack, held, kept_blocks, takes}
+use Rattle.json_patch.specs.Marked.{IsValue, seen}
+use Rattle.json_patch.specs.MarkedComputed.{marks}
+use Rattle.json_patch.specs.declared.log.Keep.TheVariants.{Inverse}
 use Rattle.json_patch.proofs.run.run.Given as goal
 
 abbrev pub invariant-loop-number : goal.invariant-loop-number
 invariant-loop-number l = record {
-  within : l.number ≤ length l.patch;
-  state : IsState (view l.fn.doc) l.patch l.number (view l.doc);
-  recorded : AreRecorded (view l.fn.doc) (operations l.patch) l.number (operations l.undo.items);
-  light : AreUndos (operations l.undo.items);
+  state : IsState (view l.fn.doc) l.patch l.number (seen (view l.doc));
+  marked : IsValue (view l.doc);
+  counts : marks (view l.doc) + held l.log.changes.items ≤ takes l.log.changes.items;
+  says : l.keep ≡ Inverse → kept_blocks l.log.changes.items ≡ inverse (view l.fn.doc) (take l.number (operations l.patch));
+  leads : (l.number < length l.patch) ⊎ (l.keep ≡ Inverse) → AreRoomy (room l.log.names) l.log.changes.items × LeadsBack l.log.changes.items (view l.doc) (view l.fn.doc);
+  tests : AreTestsThenRemove (operations l.patch) → l.number < length l.patch → l.log.changes.items ≡ [];
 }
-
-abbrev pub decreases-loop-number : goal.decreases-loop-number
-decreases-loop-number l = length l.patch - l.number

@@ -1,4 +1,5 @@
-use Rattle.json_patch.proofs.Common.{◌≡◌, string_bytes, sym, ap, ◌∙◌, true≢false, rules, get_member, members_view, Entry, member_here, member_later, view_of_ref, view-lookup, token_of}
+use Rattle.json_patch.proofs.Common.{◌≡◌, string_bytes, sym, ap, ◌∙◌, true≢false, rules, get_member, members_view}
+use Rattle.json_patch.proofs.Common.{Entry, member_here, member_later, view_of_ref, view-lookup, token_of}
 use Rattle.json_patch.proofs.walk.member_of.Goals as goal
 
 pub returns-then-is_key : goal.returns-then-is_key

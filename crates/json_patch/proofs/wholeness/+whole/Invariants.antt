@@ -1,4 +1,5 @@
-use Rattle.json_patch.proofs.Common.{◌≡◌, ◌↔◌, drop, view, items_view, IsDocument, AreDocuments, has_float, items_have_float}
+use Rattle.json_patch.proofs.Common.{◌≡◌, ◌↔◌, drop, view, items_view, IsDocument, AreDocuments, has_float}
+use Rattle.json_patch.proofs.Common.{items_have_float}
 use Rattle.json_patch.proofs.Floats.{TellsOf}
 use Rattle.json_patch.proofs.wholeness.+whole.Given as goal
 

@@ -5,7 +5,8 @@ use Rattle.serde_json.specs.declared.value.Value.{the_lemmas}
 use Rattle.json_patch_tool.specs.Input as spec
 use Rattle.json_patch_tool.proofs.Pairs.{not_pair}
 use Rattle.json_patch_tool.proofs.input.pair_of.Goals as goal
-use Rattle.json_patch_tool.proofs.input.pair_of.Goals.{in_default-2-via-in-Some+in-Some+in_default, in_default-2-via-in-Some+in_default, in_default-2-via-in_default}
+use Rattle.json_patch_tool.proofs.input.pair_of.Goals.{in_default-2-via-in-Some+in-Some+in_default}
+use Rattle.json_patch_tool.proofs.input.pair_of.Goals.{in_default-2-via-in-Some+in_default, in_default-2-via-in_default}
 
 pub returns : goal.returns
 returns c =

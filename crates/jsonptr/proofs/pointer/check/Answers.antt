@@ -3,7 +3,8 @@ use Rattle.std.proofs.lemmas.Grind.{common_steps}
 use Rattle.jsonptr.specs.Faults.{BeginsWell, IsBareTilde}
 use Rattle.jsonptr.specs.TextLaws.{text_of-none}
 use Rattle.jsonptr.proofs.pointer.check.Goals as goal
-use Rattle.jsonptr.proofs.pointer.check.Goals.{else-not-is_empty-via-then-not-is_empty+else-bytes-ne47, else-not-is_empty-via-else-not-is_empty}
+use Rattle.jsonptr.proofs.pointer.check.Goals.{else-not-is_empty-via-then-not-is_empty+else-bytes-ne47}
+use Rattle.jsonptr.proofs.pointer.check.Goals.{else-not-is_empty-via-else-not-is_empty}
 
 pub returns-clause-pointer : goal.returns-clause-pointer
 returns-clause-pointer c =

@@ -1,5 +1,5 @@
-use Rattle.json_patch.proofs.Common.{refl, view}
-use Rattle.json_patch.proofs.LoggedEdits.{edit_comes, edit_keeps, edit_logs, edit_value}
+use Rattle.json_patch.proofs.Common.{view}
+use Rattle.json_patch.proofs.LoggedEdits.{edit_comes, edit_keeps, edit_logs, edit_value, logs_as}
 use Rattle.json_patch.proofs.log.Log.change.Goals as goal
 
 pub returns-clause-comes : goal.returns-clause-comes
@@ -9,7 +9,7 @@ pub returns-clause-marked : goal.returns-clause-marked
 returns-clause-marked c = edit_value _ c.args.edit c.args.keep c.args.path _ _ _ _ (view c.args.value) _ c.requires.value c.requires.marked c.log_edit.ensures.logs
 
 pub returns-clause-logs : goal.returns-clause-logs
-returns-clause-logs c = edit_logs _ c.args.edit c.args.keep c.args.path _ _ _ _ (view c.args.value) _ c.requires.value c.requires.marked c.log_edit.ensures.logs c.log_edit.ensures.grows
+returns-clause-logs c = logs_as _ c.args.keep _ _ _ _ (edit_logs _ c.args.edit c.args.keep c.args.path _ _ _ _ (view c.args.value) _ c.requires.value c.requires.marked c.log_edit.ensures.logs c.log_edit.ensures.grows)
 
 pub returns-clause-keeps : goal.returns-clause-keeps
 returns-clause-keeps c = edit_keeps _ c.args.edit c.args.keep c.args.path _ _ _ _ (view c.args.value) _ c.requires.value c.requires.marked c.log_edit.ensures.logs

@@ -1,4 +1,4 @@
-use Rattle.json_patch.proofs.Common.{refl, sym, ap, ◌∙◌, ◌++◌, view, ◌∷◌, []}
+use Rattle.json_patch.proofs.Common.{refl}
 use Rattle.json_patch.proofs.Exchanges.{fitting_more}
 use Rattle.json_patch.proofs.log.Log.log_edit.Goals as goal
 

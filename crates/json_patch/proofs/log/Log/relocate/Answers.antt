@@ -1,12 +1,12 @@
-use Rattle.json_patch.proofs.Common.{◌≡◌, ◌≤◌, ◌∙◌, Ok, Err, arith, false, is_err, refl, sym, tokens_of, true≢false, view}
+use Rattle.json_patch.proofs.Common.{◌∙◌, Ok, Err, arith, is_err, refl, sym, true≢false, view}
 use Rattle.json_patch.proofs.Exchanges.{fitting_more}
 use Rattle.json_patch.proofs.Logged.{exchanged}
-use Rattle.json_patch.proofs.LoggedEdits.{goes_back, logs_earlier, logs_none, move_comes, move_keeps, move_logs, move_value, source_value}
-use Rattle.json_patch.specs.Exchange.{room}
+use Rattle.json_patch.proofs.LoggedEdits.{goes_back, logs_as, logs_earlier, logs_none, move_comes, move_keeps}
+use Rattle.json_patch.proofs.LoggedEdits.{move_logs, move_value, source_value}
 use Rattle.json_patch.proofs.log.Log.relocate.Goals as goal
 
 pub returns-in_err-value-clause-logs : goal.returns-in_err-value-clause-logs
-returns-in_err-value-clause-logs c = logs_none _ _ _ _ c.in_err-value.ensures.grows refl c.in_err-value.ensures.unchanged
+returns-in_err-value-clause-logs c = logs_as c.from_residual.result c.args.keep _ _ _ _ (logs_none _ _ _ _ c.in_err-value.ensures.grows refl c.in_err-value.ensures.unchanged)
 
 pub log_edit-requires : goal.log_edit-requires
 log_edit-requires c = source_value _ _ (view c.in_ok-value.value) c.args.from c.args.path c.requires.marked c.in_ok-value.ensures.taken
@@ -43,7 +43,7 @@ pub returns-clause-marked : goal.returns-clause-marked
 returns-clause-marked c = move_value _ _ (view c.in_ok-value.value) c.args.from c.args.path c.requires.marked c.in_ok-value.ensures.taken (Ok c.in_default.field-0) c.args.keep (record { names = c.take_source.new.names; changes = c.args.self.now.changes }) c.log_edit.new.self (view c.log_edit.new.doc) (view c.log_edit.new.value) c.in_default.ensures.logs
 
 pub returns-clause-logs : goal.returns-clause-logs
-returns-clause-logs c = logs_earlier _ (record { names = c.take_source.new.names; changes = c.args.self.now.changes }) _ _ _ c.take_source.ensures.grows refl (move_logs _ _ (view c.in_ok-value.value) c.args.from c.args.path c.requires.marked c.in_ok-value.ensures.taken c.args.keep (record { names = c.take_source.new.names; changes = c.args.self.now.changes }) c.log_edit.new.self (view c.log_edit.new.doc) (view c.log_edit.new.value) c.in_default.ensures.logs c.log_edit.ensures.grows (fitting_more _ _ _ c.log_edit.ensures.grows c.in_ok-value.ensures.fits))
+returns-clause-logs c = logs_as (Ok c.in_default.field-0) c.args.keep _ _ _ _ (logs_earlier _ (record { names = c.take_source.new.names; changes = c.args.self.now.changes }) _ _ _ c.take_source.ensures.grows refl (move_logs _ _ (view c.in_ok-value.value) c.args.from c.args.path c.requires.marked c.in_ok-value.ensures.taken c.args.keep (record { names = c.take_source.new.names; changes = c.args.self.now.changes }) c.log_edit.new.self (view c.log_edit.new.doc) (view c.log_edit.new.value) c.in_default.ensures.logs c.log_edit.ensures.grows (fitting_more _ _ _ c.log_edit.ensures.grows c.in_ok-value.ensures.fits)))
 
 pub returns-clause-keeps : goal.returns-clause-keeps
 returns-clause-keeps c = move_keeps _ _ (view c.in_ok-value.value) c.args.from c.args.path c.requires.marked c.in_ok-value.ensures.taken c.args.keep (record { names = c.take_source.new.names; changes = c.args.self.now.changes }) c.log_edit.new.self (view c.log_edit.new.doc) (view c.log_edit.new.value) c.in_default.ensures.logs

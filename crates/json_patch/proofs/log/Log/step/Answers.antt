@@ -1,4 +1,4 @@
-use Rattle.json_patch.proofs.Common.{view, tokens_of}
+use Rattle.json_patch.proofs.Common.{view}
 use Rattle.json_patch.specs.Marked.{seen}
 use Rattle.json_patch.proofs.BlocksLeadBack.{found_document}
 use Rattle.json_patch.proofs.log.Log.step.Goals as goal

@@ -1,4 +1,6 @@
-use Rattle.json_patch.proofs.Common.{◌≡◌, ◌∷◌, ◌++◌, ◌+◌, [], drop, rules, sym, ap, ◌∙◌, arith, drop_more, drop_all, is_ok, item, no_items, operation_of, operations, all_fields, operation_items, object_of, value_text, printed_items, has_written_append, has_written_of_eq}
+use Rattle.json_patch.proofs.Common.{◌≡◌, ◌∷◌, ◌++◌, ◌+◌, [], drop, rules, sym, ap, ◌∙◌, arith, drop_more, drop_all}
+use Rattle.json_patch.proofs.Common.{is_ok, item, no_items, operation_of, operations, all_fields, operation_items}
+use Rattle.json_patch.proofs.Common.{object_of, value_text, printed_items, has_written_append, has_written_of_eq}
 use Rattle.json_patch.proofs.Texts.{printed_items_more, printed_items_end}
 use Rattle.json_patch.proofs.printing.PatchDisplay.fmt.Goals as goal
 

@@ -1,4 +1,5 @@
-use Rattle.json_patch.proofs.Common.{◌≡◌, ℕ, List, [], ◌++◌, drop, operations, operation_items, printed_items, HasWritten, IsPlainFormatter, Utf8, shadow}
+use Rattle.json_patch.proofs.Common.{◌≡◌, ℕ, List, [], ◌++◌, drop, operations, operation_items, printed_items}
+use Rattle.json_patch.proofs.Common.{HasWritten, IsPlainFormatter, Utf8, shadow}
 use Rattle.json_patch.proofs.printing.PatchDisplay.fmt.Given as goal
 
 -- what is written, and the operations that are left, are all the operations

@@ -1,7 +1,8 @@
-use Rattle.std.proofs.Common.{drop}
+use Rattle.std.specs.List.{AllWithin}
+use Rattle.json_patch.specs.Apart.{AreApart}
 use Rattle.json_patch.specs.Operation.{operations}
-use Rattle.json_patch_uses.proofs.SharedChanges.{Scanned}
+use Rattle.json_patch_uses.specs.SharedDocuments.{patch_of}
 use Rattle.json_patch_uses.proofs.shared.SharedDocument.first_collision.Given as goal
 
 abbrev pub invariant-loop-n : goal.invariant-loop-n
-invariant-loop-n l = Scanned (operations l.patch) l.changes l.n (drop l.n l.changes)
+invariant-loop-n l = AllWithin (λ c. AreApart (operations l.patch) (patch_of c)) l.self.changes.items l.version l.n

@@ -1,18 +1,18 @@
-use Rattle.std.proofs.Common.{rules}
-use Rattle.json_patch.specs.Apart.{AreApart}
-use Rattle.json_patch.specs.Operation.{operations}
-use Rattle.json_patch.specs.Refusal.{NamesFirst}
+use Rattle.std.proofs.Common.{drop, rules}
+use Rattle.json_patch.specs.Operation.{operations_of}
 use Rattle.json_patch_uses.specs.SharedDocuments.{document_of, since}
-use Rattle.json_patch_uses.proofs.SharedChanges.{apart_since, as_if_first, refused_there}
+use Rattle.json_patch_uses.proofs.SharedChanges.{joined_whole, lead_accepts}
 use Rattle.json_patch_uses.proofs.shared.SharedDocument.update.Goals as goal
 
 pub returns-in-Ok-clause-as_if_first : goal.returns-in-Ok-clause-as_if_first
-returns-in-Ok-clause-as_if_first c =
-    let apart : AreApart (operations c.args.patch.0.items) (since c.args.self.now c.args.version) = apart_since _ _ _ _ _ c.as_slice.ensures c.deref.ensures.value c.in_default.ensures.none in
-    as_if_first c.runs.ensures.joined_accepted c.args.self.now c.args.version c.apart.ensures.accepted_alike _ _ c.requires apart c.in-Ok.ensures.made.3
+returns-in-Ok-clause-as_if_first c = λ d v.
+    (c.apart.ensures.accepted_alike d (operations_of c.args.patch) _ v.document c.requires (joined_whole (drop c.args.version c.args.self.now.changes.items)) (search rules) _).1
+    ((c.runs.ensures.joined_accepted d _ _ _).1 (_, lead_accepts c.runs.ensures.joined_accepted _ d _ v.leads, c.in-Ok.ensures.made.3))
 
 pub returns-in-Err-Refused-clause-fault : goal.returns-in-Err-Refused-clause-fault
-returns-in-Err-Refused-clause-fault c =
-    let apart : AreApart (operations c.args.patch.0.items) (since c.args.self.now c.args.version) = apart_since _ _ _ _ _ c.as_slice.ensures c.deref.ensures.value c.in_default.ensures.none in
-    let named : NamesFirst (document_of c.args.self.now) (operations c.args.patch.0.items) c.in-Err-Refused.error = search rules in
-    refused_there c.runs.ensures.joined_accepted c.args.self.now c.args.version c.apart.ensures.apart_both_ways c.apart.ensures.refused_alike _ c.in-Err-Refused.error c.requires apart named
+returns-in-Err-Refused-clause-fault c = λ d v. (
+  (c.apart.ensures.refused_alike d _ (operations_of c.args.patch) v.document (joined_whole (drop c.args.version c.args.self.now.changes.items)) c.requires
+      (c.apart.ensures.apart_both_ways (operations_of c.args.patch) (since c.args.self.now c.args.version) (search rules)) (document_of c.args.self.now) _ _ (lead_accepts c.runs.ensures.joined_accepted _ d _ v.leads)).1
+      (search rules),
+  search rules,
+)

@@ -3,7 +3,8 @@ use Rattle.std.specs.String.{string_bytes}
 use Rattle.jsonptr.specs.Text.{decoded, encoded}
 use Rattle.jsonptr.specs.Pointers.{token_of}
 use Rattle.jsonptr.specs.TextLaws.{Escaped-encoded, decoded_again}
-use Rattle.jsonptr.proofs.Texts.{tilde_cuts, tilde_none, escaped_after, Escaped-others, decoded_step, decoded-NoTilde, pushed, cut_length, decoded_end}
+use Rattle.jsonptr.proofs.Texts.{tilde_cuts, tilde_none, escaped_after, Escaped-others, decoded_step, decoded-NoTilde}
+use Rattle.jsonptr.proofs.Texts.{pushed, cut_length, decoded_end}
 use Rattle.jsonptr.proofs.token.Token.decode_into.Goals as goal
 
 pub loop-plain-init : goal.loop-plain-init

@@ -1,0 +1,48 @@
+-- What a log says of a run: its counts, and the marks that are cleared.
+use Rattle.json_patch.proofs.Common.{◌≡◌, ◌+◌, ◌⊎◌, inl, inr, List, Bool, true, false, refl, sym, ap, ◌∙◌, Data}
+use Rattle.json_patch.proofs.Common.{Operation, [], rules, ◌≤◌, arith}
+use Rattle.json_patch.proofs.MarkedCounts.{unmarked_seen}
+use Rattle.json_patch.specs.Logged.{held, kept_at, takes, IsFree, Counts}
+use Rattle.json_patch.specs.Marked.{IsSeen, seen}
+use Rattle.json_patch.specs.MarkedComputed.{marks}
+use Rattle.json_patch.specs.declared.log.Change.{Change}
+use Rattle.json_patch.specs.declared.log.Keep.{Keep}
+use Rattle.json_patch.specs.declared.log.Keep.TheVariants.{Inverse, Undo, Nothing}
+use Rattle.json_patch.specs.NoMemory.{TakesNoMemory}
+use Rattle.json_patch.specs.declared.log.Log.{Log}
+
+-- ---- counting
+
+-- ---- marks that go
+
+pub seen_through : (p q d : Data) → IsSeen q (seen p) → IsSeen p d → IsSeen q d
+seen_through p q d h g = record { marked = h.marked; stands = h.stands; is = h.is ∙ g.is }
+
+pub all_gone : (p d : Data) → IsSeen p (seen d) → marks p ≡ 0 → p ≡ seen d
+all_gone p d h none = sym (unmarked_seen p none) ∙ h.is
+
+-- ---- what is kept
+
+pub kept_inverse : (keep : Keep) (last empty : Bool) → keep ≡ Inverse → kept_at keep last empty ≡ Inverse
+kept_inverse keep last empty is = rw is refl
+
+pub kept_open : (keep kept : Keep) (last empty : Bool) → kept ≡ kept_at keep last empty → (keep ≡ Nothing → ⊥) → (last ≡ false) ⊎ (keep ≡ Inverse) → kept ≡ Nothing → ⊥
+kept_open Nothing kept last empty is some undone none = absurd (some refl)
+kept_open Inverse kept last empty is some undone none = let e : Inverse ≡ Nothing = sym is ∙ none in cc
+kept_open Undo kept true empty is some (inl other) none = cc
+kept_open Undo kept true empty is some (inr other) none = cc
+kept_open Undo kept false empty is some undone none = let e : Undo ≡ Nothing = sym is ∙ none in cc
+
+pub kept_last : (keep kept : Keep) (last empty : Bool) → kept ≡ kept_at keep last empty → keep ≡ Undo → last ≡ true → empty ≡ true → kept ≡ Nothing
+kept_last keep kept last empty is undo so none = is ∙ rw (undo, so, none) refl
+
+-- ---- a single operation
+
+pub free_alone : (op : Operation) → TakesNoMemory op → IsFree op Nothing
+free_alone op h = search rules
+
+pub counted_alone : (olds news : Log) (d e : Data) (cs : List Change) → olds.changes.items ≡ [] → news.changes.items ≡ cs → marks d ≡ 0 → Counts olds news d e → marks e + held cs ≤ takes cs
+counted_alone olds news d e cs none is unmarked h =
+    let first : takes olds.changes.items ≡ 0 = ap takes none in
+    let before : held olds.changes.items ≡ 0 = ap held none in
+    rw (← is) (omega (arith, h))
