@@ -1,0 +1,68 @@
+/*
+ * Times the calls of json_patch.h as bench/driver.rt.txt times those of the crate: its arguments are
+ * `MODE COUNT`, its input is `[document,patch]`, and it prints the nanoseconds of one call. In mode
+ * `texts` a call goes from the two texts to the new one; in mode `kept` a document stays open, and a
+ * call changes it by the patch's text.
+ */
+#include <json_patch.h>
+
+#include <stdio.h>
+#include <stdlib.h>
+#include <string.h>
+#include <time.h>
+
+typedef struct {
+    char *bytes;
+    size_t length;
+} text;
+
+static long long now(void) {
+    struct timespec at;
+    clock_gettime(CLOCK_MONOTONIC, &at);
+    return at.tv_sec * 1000000000LL + at.tv_nsec;
+}
+
+static text whole_input(void) {
+    text read = {NULL, 0};
+    for (size_t room = 1 << 20;; room *= 2) {
+        read.bytes = realloc(read.bytes, room);
+        read.length += fread(read.bytes + read.length, 1, room - read.length, stdin);
+        if (read.length < room)
+            return read;
+    }
+}
+
+/* One of the two values of the input. */
+static text part(json_patch_document *pair, const char *pointer, size_t room) {
+    text found = {malloc(room), 0};
+    json_patch_report report;
+    if (json_patch_text_at(pair, pointer, 2, found.bytes, room, &report))
+        exit(1);
+    found.length = report.size;
+    return found;
+}
+
+int main(int count, char **words) {
+    json_patch_document pair = JSON_PATCH_DOCUMENT, kept = JSON_PATCH_DOCUMENT;
+    json_patch_report report;
+    text input = whole_input();
+    if (count != 3 || json_patch_open(&pair, input.bytes, input.length, &report))
+        return 1;
+    text document = part(&pair, "/0", input.length), patch = part(&pair, "/1", input.length);
+    size_t room = 2 * input.length + 64;
+    char *out = malloc(room);
+    json_patch_close(&pair);
+    if (json_patch_open(&kept, document.bytes, document.length, &report))
+        return 1;
+    long times = atol(words[2]);
+    json_patch_status refused = 0;
+    long long start = now();
+    for (long i = 0; i < times; i++)
+        refused |= strcmp(words[1], "kept") == 0
+                       ? json_patch_update(&kept, patch.bytes, patch.length, out, room, &report)
+                       : json_patch_apply(document.bytes, document.length, patch.bytes,
+                                          patch.length, out, room, &report);
+    printf("%lld\n", refused ? 0 : (now() - start) / times);
+    json_patch_close(&kept);
+    return 0;
+}

@@ -1,0 +1,78 @@
+/* Each call of json_patch.h, and what it answers. */
+#include <json_patch.h>
+
+#include <stdio.h>
+#include <string.h>
+
+/* Prints the text that was made, or why none was. */
+static void print(const char *call, json_patch_status status, const char *out,
+                  const json_patch_report *report) {
+    switch (status) {
+    case JSON_PATCH_OK:
+        printf("%s: %.*s\n", call, (int)report->size, out);
+        break;
+    case JSON_PATCH_REFUSED:
+        printf("%s: operation %zu is refused for kind %d, at %.*s\n", call, report->operation,
+               report->kind, (int)report->size, out);
+        break;
+    case JSON_PATCH_NO_ROOM:
+        printf("%s: %zu bytes are wanted\n", call, report->size);
+        break;
+    default:
+        printf("%s: status %d, kind %d\n", call, status, report->kind);
+    }
+}
+
+static void from_texts(void) {
+    const char *document = "{\"a\":[1,2]}";
+    const char *patch = "[{\"op\":\"move\",\"from\":\"/a/0\",\"path\":\"/b\"}]";
+    const char *refused = "[{\"op\":\"remove\",\"path\":\"/c\"}]";
+    const char *merge_patch = "{\"a\":null,\"d\":\"e\"}";
+    size_t length = strlen(document);
+    char out[128];
+    json_patch_report report;
+    json_patch_status status;
+
+    status = json_patch_apply(document, length, patch, strlen(patch), out, sizeof out, &report);
+    print("apply", status, out, &report);
+    status = json_patch_record(document, length, patch, strlen(patch), out, sizeof out, &report);
+    print("record", status, out, &report);
+    status = json_patch_merge(document, length, merge_patch, strlen(merge_patch), out, sizeof out,
+                              &report);
+    print("merge", status, out, &report);
+    status = json_patch_apply(document, length, refused, strlen(refused), out, sizeof out, &report);
+    print("apply", status, out, &report);
+    status = json_patch_apply(document, length, patch, strlen(patch), out, 8, &report);
+    print("apply", status, out, &report);
+}
+
+static void on_a_kept_document(void) {
+    const char *text = "{\"rows\":[1,2]}", *merge_patch = "{\"name\":\"x\"}", *pointer = "/rows/0";
+    const char *patch = "[{\"op\":\"replace\",\"path\":\"/rows/0\",\"value\":3}]";
+    json_patch_document document = JSON_PATCH_DOCUMENT;
+    char out[128];
+    json_patch_report report;
+    json_patch_status status;
+
+    status = json_patch_open(&document, text, strlen(text), &report);
+    print("open", status, out, &report);
+    status = json_patch_update(&document, patch, strlen(patch), out, sizeof out, &report);
+    print("update", status, out, &report);
+    status = json_patch_update_merged(&document, merge_patch, strlen(merge_patch), &report);
+    print("update_merged", status, out, &report);
+    status = json_patch_update_recorded(&document, patch, strlen(patch), out, sizeof out, &report);
+    print("update_recorded", status, out, &report);
+    status = json_patch_inverse(&document, out, sizeof out, &report);
+    print("inverse", status, out, &report);
+    status = json_patch_text_at(&document, pointer, strlen(pointer), out, sizeof out, &report);
+    print("text_at", status, out, &report);
+    status = json_patch_text(&document, out, sizeof out, &report);
+    print("text", status, out, &report);
+    json_patch_close(&document);
+}
+
+int main(void) {
+    from_texts();
+    on_a_kept_document();
+    return 0;
+}

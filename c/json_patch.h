@@ -1,0 +1,180 @@
+/*
+ * JSON Patch (RFC 6902) and JSON Merge Patch (RFC 7396), for documents whose numbers are whole ones
+ * of 64 bits. Link with -ljson_patch.
+ *
+ *     char out[64];
+ *     json_patch_report report;
+ *     json_patch_status status = json_patch_apply(document, strlen(document), patch, strlen(patch),
+ *         out, sizeof out, &report);
+ *     if (status == JSON_PATCH_OK)
+ *         fwrite(out, 1, report.size, stdout);
+ *
+ * No call ends the process, writes to a stream, or keeps a pointer that it was given. What it takes
+ * from malloc it gives back before it returns, but for a document that is kept. Threads may make calls
+ * at the same time, each on its own texts and handles.
+ */
+#ifndef JSON_PATCH_H
+#define JSON_PATCH_H
+#include <stddef.h>
+#include <stdint.h>
+
+#ifdef __cplusplus
+extern "C" {
+#endif
+
+/* What came of a call. */
+typedef uint8_t json_patch_status;
+enum {
+    JSON_PATCH_OK = 0,          /* the text is in out: report->size bytes */
+    JSON_PATCH_REFUSED = 1,     /* report->operation is refused, for report->kind; its path, of
+                                   report->size bytes, is in out if that is long enough */
+    JSON_PATCH_NO_DOCUMENT = 2, /* the document's text says none: report->kind tells why */
+    JSON_PATCH_NO_PATCH = 3,    /* the patch's text says none: report->kind tells why, and
+                                   report->operation where */
+    JSON_PATCH_NO_MEMORY = 4,   /* malloc or realloc failed */
+    JSON_PATCH_NO_ROOM = 5,     /* out is too short: the text has report->size bytes */
+    /* of a document that is kept */
+    JSON_PATCH_CLOSED = 6,     /* no document is open */
+    JSON_PATCH_NO_POINTER = 7, /* the text is no JSON pointer (RFC 6901) */
+    JSON_PATCH_NOTHING = 8     /* the pointer leads nowhere in the document */
+};
+
+/* What is at fault. */
+typedef uint8_t json_patch_kind;
+enum {
+    JSON_PATCH_KIND_NONE = 0,
+    /* of JSON_PATCH_NO_DOCUMENT and JSON_PATCH_NO_PATCH */
+    JSON_PATCH_NOT_JSON = 1,  /* no UTF-8 or no JSON, or nested deeper than 127 levels */
+    JSON_PATCH_NOT_WHOLE = 2, /* a number with a fraction or an exponent, minus zero, or one past 64
+                                 bits; in a patch that isn't a merge patch JSON_PATCH_VALUE_NOT_WHOLE
+                                 is told */
+    /* of JSON_PATCH_REFUSED */
+    JSON_PATCH_TEST_FAILED = 3,
+    JSON_PATCH_INVALID_FROM_POINTER = 4,
+    JSON_PATCH_INVALID_POINTER = 5,
+    JSON_PATCH_CANNOT_MOVE_INSIDE_ITSELF = 6,
+    /* of JSON_PATCH_NO_PATCH, in the order in which they are looked for */
+    JSON_PATCH_NOT_A_LIST = 11,
+    JSON_PATCH_NOT_AN_OBJECT = 12,
+    JSON_PATCH_MISSING_OP = 13,
+    JSON_PATCH_OP_NOT_TEXT = 14,
+    JSON_PATCH_UNKNOWN_OP = 15,
+    JSON_PATCH_MISSING_FROM = 16,
+    JSON_PATCH_FROM_NOT_TEXT = 17,
+    JSON_PATCH_BAD_FROM = 18,
+    JSON_PATCH_MISSING_PATH = 19,
+    JSON_PATCH_PATH_NOT_TEXT = 20,
+    JSON_PATCH_BAD_PATH = 21,
+    JSON_PATCH_MISSING_VALUE = 22,
+    JSON_PATCH_VALUE_NOT_WHOLE = 23
+};
+
+/* What a call tells beside its status. Each call writes all of it; what no status above speaks of
+   is 0. */
+typedef struct {
+    size_t size;
+    size_t operation; /* counted from 0 */
+    json_patch_kind kind;
+} json_patch_report;
+
+/*
+ * What the caller owes, at each call:
+ * - document and patch point to as many bytes as their lengths say, UTF-8 with no zero at the end,
+ *   and out to out_length bytes. No pointer is null, also where its length is 0, and no length is
+ *   past PTRDIFF_MAX.
+ * - out and report overlap nothing else that is handed in.
+ * - It is not called from a signal handler, nor in the forked child of a process with threads.
+ * - malloc, realloc and free are of one allocator, and align a block to each power of two up to 16
+ *   that divides its size.
+ * - The stack has room: a document is gone through by recursion, of some 900 bytes a level (a text
+ *   has at most 127 levels, but a patch can nest what it copies or moves deeper).
+ *
+ * Where the status is no JSON_PATCH_OK, out is as it was, but for the path of JSON_PATCH_REFUSED.
+ * After a text, out is as it was too. Of a name that stands twice the last value is read, and the
+ * members of an object are written in byte order of their names.
+ */
+
+/* Writes the document that the patch leaves. */
+json_patch_status json_patch_apply(const char *document, size_t document_length,
+                                   const char *patch, size_t patch_length, char *out,
+                                   size_t out_length, json_patch_report *report);
+
+/* Writes the array of the document that the patch leaves, and the patch that leads back. */
+json_patch_status json_patch_record(const char *document, size_t document_length,
+                                    const char *patch, size_t patch_length, char *out,
+                                    size_t out_length, json_patch_report *report);
+
+/* Writes the document with the merge patch, any document, merged into it. Never
+   JSON_PATCH_REFUSED. */
+json_patch_status json_patch_merge(const char *document, size_t document_length,
+                                   const char *patch, size_t patch_length, char *out,
+                                   size_t out_length, json_patch_report *report);
+
+/*
+ * A document that is kept, so that an edit takes the time that the edit wants, and not that of
+ * reading and writing the whole.
+ *
+ *     json_patch_document document = JSON_PATCH_DOCUMENT;
+ *     if (json_patch_open(&document, text, strlen(text), &report) == JSON_PATCH_OK) {
+ *         json_patch_update(&document, patch, strlen(patch), out, sizeof out, &report);
+ *         json_patch_text(&document, out, sizeof out, &report);
+ *     }
+ *     json_patch_close(&document);
+ *
+ * Beside what is owed above, the caller owes of each handle:
+ * - It begins as JSON_PATCH_DOCUMENT, isn't copied, and its field is neither read nor written.
+ * - It stays on the thread that opened it.
+ * - It is closed before its memory goes: only that gives back what the document takes.
+ * - It overlaps nothing else that is handed in.
+ *
+ * Each call but json_patch_open answers JSON_PATCH_CLOSED where no document is open. Where the
+ * status is no JSON_PATCH_OK, the document is as it was.
+ */
+typedef struct {
+    void *at;
+} json_patch_document;
+#define JSON_PATCH_DOCUMENT {NULL}
+
+/* Opens the document of a text, and closes the one that was open: that one stays where the status
+   is JSON_PATCH_NO_DOCUMENT or JSON_PATCH_NO_MEMORY. */
+json_patch_status json_patch_open(json_patch_document *document, const char *text, size_t length,
+                                  json_patch_report *report);
+
+/* Changes the document as the patch says. JSON_PATCH_OK, JSON_PATCH_REFUSED, with the path in out,
+   JSON_PATCH_NO_PATCH or JSON_PATCH_NO_MEMORY. */
+json_patch_status json_patch_update(json_patch_document *document, const char *patch,
+                                    size_t patch_length, char *out, size_t out_length,
+                                    json_patch_report *report);
+
+/* The same, and keeps the patch that leads back, for json_patch_inverse. */
+json_patch_status json_patch_update_recorded(json_patch_document *document, const char *patch,
+                                             size_t patch_length, char *out, size_t out_length,
+                                             json_patch_report *report);
+
+/* Merges the merge patch into the document. JSON_PATCH_OK, JSON_PATCH_NO_PATCH or
+   JSON_PATCH_NO_MEMORY. */
+json_patch_status json_patch_update_merged(json_patch_document *document, const char *patch,
+                                           size_t patch_length, json_patch_report *report);
+
+/* Writes the patch that takes back the last change, if that was recorded, and else []. JSON_PATCH_OK,
+   JSON_PATCH_NO_MEMORY or JSON_PATCH_NO_ROOM. */
+json_patch_status json_patch_inverse(json_patch_document *document, char *out, size_t out_length,
+                                     json_patch_report *report);
+
+/* Writes the document. JSON_PATCH_OK, JSON_PATCH_NO_MEMORY or JSON_PATCH_NO_ROOM. */
+json_patch_status json_patch_text(json_patch_document *document, char *out, size_t out_length,
+                                  json_patch_report *report);
+
+/* Writes what stands where the pointer leads. JSON_PATCH_OK, JSON_PATCH_NO_MEMORY,
+   JSON_PATCH_NO_ROOM, JSON_PATCH_NO_POINTER or JSON_PATCH_NOTHING. */
+json_patch_status json_patch_text_at(json_patch_document *document, const char *pointer,
+                                     size_t pointer_length, char *out, size_t out_length,
+                                     json_patch_report *report);
+
+/* Gives back what the document takes. The handle may be opened again, and closed again. */
+void json_patch_close(json_patch_document *document);
+
+#ifdef __cplusplus
+}
+#endif
+#endif

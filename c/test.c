@@ -1,0 +1,95 @@
+/*
+ * Tests of json_patch.h: the rows of cases.json, each with an `out` of every length from 0 to past
+ * what it needs, and the statuses that these rows don't have. It prints how many calls it made.
+ *
+ *     test CASES
+ */
+#include "rows.h"
+
+enum { GUARD = 8, UNTOUCHED = 0xa5 };
+
+static unsigned long calls, statuses[JSON_PATCH_NO_ROOM + 1];
+
+/* ---- a call */
+
+static int is_untouched(const char *from, size_t length) {
+    for (size_t i = 0; i < length; i++)
+        if ((unsigned char)from[i] != UNTOUCHED)
+            return 0;
+    return 1;
+}
+
+/* Makes the call with room for so many bytes, and compares all that it tells and writes. */
+static void expect(const row *row, size_t room) {
+    char *out = malloc(room + GUARD);
+    json_patch_report report = {77, 77, 77};
+    if (!out)
+        fail("no memory");
+    memset(out, UNTOUCHED, room + GUARD);
+    json_patch_status status = row->make(row->document.bytes, row->document.length,
+                                         row->patch.bytes, row->patch.length, out, room, &report);
+    calls++;
+    statuses[status]++;
+    int is_short = row->status == JSON_PATCH_OK && room < report.size;
+    size_t fits = status <= JSON_PATCH_REFUSED && report.size <= room ? report.size : 0;
+    if (status != (is_short ? JSON_PATCH_NO_ROOM : row->status))
+        fail("status %d for %.*s with %.*s", status, (int)row->document.length,
+             row->document.bytes, (int)row->patch.length,
+             row->patch.bytes);
+    if (report.operation != row->operation || report.kind != row->kind)
+        fail("operation %zu, kind %d for %s", report.operation, report.kind, row->patch.bytes);
+    if (row->written.bytes && report.size != row->written.length)
+        fail("size %zu and not %zu for %s", report.size, row->written.length, row->patch.bytes);
+    if (row->written.bytes && memcmp(out, row->written.bytes, fits) != 0)
+        fail("%.*s is written for %s", (int)fits, out, row->patch.bytes);
+    if (!is_untouched(out + fits, room + GUARD - fits))
+        fail("more than the text is written for %s", row->patch.bytes);
+    free(out);
+}
+
+/* Makes the call with room for each number of bytes, to some past those that it needs. */
+static void expect_at_each_length(const row *row) {
+    size_t most = (row->written.bytes ? row->written.length : 256) + 2;
+    for (size_t room = 0; room <= most; room++)
+        expect(row, room);
+}
+
+/* ---- what the tables don't have */
+
+#define TEXT(s) {(char *)(s), sizeof(s) - 1}
+
+static void expect_others(void) {
+    const row others[] = {
+        {json_patch_apply, TEXT("[1,"), TEXT("[]"), 2, 0, JSON_PATCH_NOT_JSON, TEXT("")},
+        {json_patch_apply, TEXT(""), TEXT("[]"), 2, 0, JSON_PATCH_NOT_JSON, TEXT("")},
+        {json_patch_apply, TEXT("\"\xff\""), TEXT("[]"), 2, 0, JSON_PATCH_NOT_JSON, TEXT("")},
+        {json_patch_apply, TEXT("[1.5]"), TEXT("{}"), 2, 0, JSON_PATCH_NOT_WHOLE, TEXT("")},
+        {json_patch_apply, TEXT("18446744073709551616"), TEXT("[]"), 2, 0, JSON_PATCH_NOT_WHOLE,
+         TEXT("")},
+        {json_patch_apply, TEXT("1"), TEXT("[\xc0]"), 3, 0, JSON_PATCH_NOT_JSON, TEXT("")},
+        {json_patch_apply, TEXT("1"), TEXT(""), 3, 0, JSON_PATCH_NOT_JSON, TEXT("")},
+        {json_patch_record, TEXT("{"), TEXT("["), 2, 0, JSON_PATCH_NOT_JSON, TEXT("")},
+        {json_patch_record, TEXT("-0"), TEXT("["), 2, 0, JSON_PATCH_NOT_WHOLE, TEXT("")},
+        {json_patch_record, TEXT("1"), TEXT("["), 3, 0, JSON_PATCH_NOT_JSON, TEXT("")},
+        {json_patch_merge, TEXT("{"), TEXT("{"), 2, 0, JSON_PATCH_NOT_JSON, TEXT("")},
+        {json_patch_merge, TEXT("{}"), TEXT("{"), 3, 0, JSON_PATCH_NOT_JSON, TEXT("")},
+        {json_patch_merge, TEXT("{}"), TEXT("{\"a\":1e2}"), 3, 0, JSON_PATCH_NOT_WHOLE, TEXT("")},
+        {json_patch_merge, TEXT("-0"), TEXT("1"), 2, 0, JSON_PATCH_NOT_WHOLE, TEXT("")},
+        {json_patch_apply, TEXT(" {\"b\":[1 ,2],\"a\":0,\"a\":-7} "), TEXT(" [ ] "), 0, 0, 0,
+         TEXT("{\"a\":-7,\"b\":[1,2]}")},
+    };
+    for (size_t i = 0; i < sizeof others / sizeof *others; i++)
+        expect_at_each_length(&others[i]);
+}
+
+int main(int count, char **words) {
+    if (count != 2)
+        fail("test CASES");
+    for_each_row(words[1], expect_at_each_length);
+    expect_others();
+    for (int status = 0; status <= JSON_PATCH_NO_ROOM; status++)
+        if (statuses[status] == 0 && status != JSON_PATCH_NO_MEMORY)
+            fail("no call answered status %d", status);
+    printf("c: %lu calls\n", calls);
+    return 0;
+}

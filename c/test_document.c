@@ -1,0 +1,179 @@
+/*
+ * Tests of the documents that are kept: the rows of cases.json, each on a document that was opened,
+ * and the statuses that these rows don't have.
+ *
+ *     test_document CASES
+ */
+#include "rows.h"
+
+enum { ROOM = 1 << 16 };
+
+static unsigned long updates;
+
+/* The text that a call writes, with a zero after it. */
+static const char *written(json_patch_status call(json_patch_document *, char *, size_t,
+                                                  json_patch_report *),
+                           json_patch_document *document) {
+    static char texts[3][ROOM];
+    static int turn;
+    char *out = texts[turn++ % 3];
+    json_patch_report report;
+    if (call(document, out, ROOM - 1, &report) != JSON_PATCH_OK)
+        fail("no text");
+    out[report.size] = 0;
+    return out;
+}
+
+static json_patch_status updated(const row *row, json_patch_document *document, char *out,
+                                 json_patch_report *report) {
+    updates++;
+    if (row->make == json_patch_merge)
+        return json_patch_update_merged(document, row->patch.bytes, row->patch.length, report);
+    if (row->make == json_patch_record)
+        return json_patch_update_recorded(document, row->patch.bytes, row->patch.length, out, ROOM,
+                                          report);
+    return json_patch_update(document, row->patch.bytes, row->patch.length, out, ROOM, report);
+}
+
+/* The document is what the row tells, and the inverse too, and this leads back. */
+static void expect_changed(const row *row, json_patch_document *document, const char *before) {
+    static char both[2 * ROOM];
+    char out[ROOM];
+    json_patch_report report;
+    const char *now = written(json_patch_text, document);
+    const char *inverse = written(json_patch_inverse, document);
+    int is_recorded = row->make == json_patch_record;
+    snprintf(both, sizeof both, is_recorded ? "[%s,%s]" : "%s", now, inverse);
+    if (row->written.bytes && strcmp(both, row->written.bytes) != 0)
+        fail("%s and not %s for %s", both, row->written.bytes, row->patch.bytes);
+    if (!is_recorded && strcmp(inverse, "[]") != 0)
+        fail("%s is kept, and nothing was recorded", inverse);
+    if (is_recorded && json_patch_update(document, inverse, strlen(inverse), out, ROOM, &report))
+        fail("the inverse %s is refused", inverse);
+    if (is_recorded && strcmp(written(json_patch_text, document), before) != 0)
+        fail("the inverse %s doesn't lead back to %s", inverse, before);
+}
+
+static void expect_on_kept(const row *row) {
+    json_patch_document document = JSON_PATCH_DOCUMENT;
+    json_patch_report report;
+    char out[ROOM];
+    if (json_patch_open(&document, row->document.bytes, row->document.length, &report))
+        fail("%s isn't opened", row->document.bytes);
+    const char *before = written(json_patch_text, &document);
+    json_patch_status status = updated(row, &document, out, &report);
+    if (status != row->status || report.operation != row->operation || report.kind != row->kind)
+        fail("status %d for %s", status, row->patch.bytes);
+    if (status == JSON_PATCH_OK)
+        expect_changed(row, &document, before);
+    else if (strcmp(written(json_patch_text, &document), before) != 0)
+        fail("%s changes %s", row->patch.bytes, before);
+    if (status == JSON_PATCH_REFUSED &&
+        (report.size != row->written.length || memcmp(out, row->written.bytes, report.size) != 0))
+        fail("the path isn't %s", row->written.bytes);
+    json_patch_close(&document);
+}
+
+/* ---- what the tables don't have */
+
+static void expect(json_patch_status status, json_patch_status wanted, const char *call) {
+    if (status != wanted)
+        fail("status %d and not %d: %s", status, wanted, call);
+}
+
+#define EXPECT(call, wanted) expect(call, wanted, #call)
+#define TEXT(s) s, strlen(s)
+
+static void expect_closed(void) {
+    json_patch_document closed = JSON_PATCH_DOCUMENT;
+    json_patch_report r;
+    char out[8];
+    EXPECT(json_patch_update(&closed, TEXT("[]"), out, 8, &r), JSON_PATCH_CLOSED);
+    EXPECT(json_patch_update_recorded(&closed, TEXT("["), out, 8, &r), JSON_PATCH_CLOSED);
+    EXPECT(json_patch_update_merged(&closed, TEXT("{}"), &r), JSON_PATCH_CLOSED);
+    EXPECT(json_patch_inverse(&closed, out, 8, &r), JSON_PATCH_CLOSED);
+    EXPECT(json_patch_text(&closed, out, 8, &r), JSON_PATCH_CLOSED);
+    EXPECT(json_patch_text_at(&closed, TEXT("x"), out, 8, &r), JSON_PATCH_CLOSED);
+    EXPECT(json_patch_open(&closed, TEXT("{"), &r), JSON_PATCH_NO_DOCUMENT);
+    EXPECT(json_patch_text(&closed, out, 8, &r), JSON_PATCH_CLOSED);
+    json_patch_close(&closed);
+    json_patch_close(&closed);
+}
+
+static void expect_opened(void) {
+    json_patch_document document = JSON_PATCH_DOCUMENT;
+    json_patch_report r;
+    EXPECT(json_patch_open(&document, TEXT("{\"a\":1}"), &r), JSON_PATCH_OK);
+    EXPECT(json_patch_open(&document, TEXT("[1.5]"), &r), JSON_PATCH_NO_DOCUMENT);
+    if (r.kind != JSON_PATCH_NOT_WHOLE || strcmp(written(json_patch_text, &document), "{\"a\":1}"))
+        fail("a text that is refused closes the document");
+    EXPECT(json_patch_open(&document, TEXT(" [ ] "), &r), JSON_PATCH_OK);
+    if (strcmp(written(json_patch_text, &document), "[]") != 0)
+        fail("the other document isn't open");
+    json_patch_close(&document);
+}
+
+/* Whether a text of so many bytes was written to `out`, where it has room, and nothing else. */
+static int is_alone(const char *out, size_t room, size_t size) {
+    size_t written = size <= room ? size : 0;
+    return (written == 0 || out[0] != '-') && out[written] == '-';
+}
+
+/* Each length of `out`, from none to more than what is wanted. */
+static void expect_rooms(void) {
+    const char *text = "{\"a\":[1,{\"b\":\"c\"}]}", *found = "{\"b\":\"c\"}";
+    const char *patch = "[{\"op\":\"add\",\"path\":\"/a\",\"value\":[1,{\"b\":\"c\"}]}]";
+    const char *inverse = "[{\"op\":\"remove\",\"path\":\"/a\"}]";
+    json_patch_document document = JSON_PATCH_DOCUMENT;
+    json_patch_report r;
+    char out[64];
+    EXPECT(json_patch_open(&document, TEXT("{}"), &r), JSON_PATCH_OK);
+    EXPECT(json_patch_update_recorded(&document, TEXT(patch), out, 0, &r), JSON_PATCH_OK);
+    for (size_t room = 0; room < 63; room++) {
+        memset(out, '-', sizeof out);
+        EXPECT(json_patch_text(&document, out, room, &r),
+               room < strlen(text) ? JSON_PATCH_NO_ROOM : JSON_PATCH_OK);
+        if (r.size != strlen(text) || !is_alone(out, room, r.size))
+            fail("a text in %zu bytes", room);
+        memset(out, '-', sizeof out);
+        EXPECT(json_patch_text_at(&document, TEXT("/a/1"), out, room, &r),
+               room < strlen(found) ? JSON_PATCH_NO_ROOM : JSON_PATCH_OK);
+        if (r.size != strlen(found) || !is_alone(out, room, r.size))
+            fail("what stands at a pointer in %zu bytes", room);
+        memset(out, '-', sizeof out);
+        EXPECT(json_patch_inverse(&document, out, room, &r),
+               room < strlen(inverse) ? JSON_PATCH_NO_ROOM : JSON_PATCH_OK);
+        if (r.size != strlen(inverse) || !is_alone(out, room, r.size))
+            fail("an inverse in %zu bytes", room);
+    }
+    json_patch_close(&document);
+}
+
+static void expect_found(const char *pointer, json_patch_status wanted, const char *text) {
+    json_patch_document document = JSON_PATCH_DOCUMENT;
+    json_patch_report r;
+    char out[64];
+    EXPECT(json_patch_open(&document, TEXT("{\"a/b\":[1,{\"m~n\":null}]}"), &r), JSON_PATCH_OK);
+    expect(json_patch_text_at(&document, TEXT(pointer), out, sizeof out, &r), wanted, pointer);
+    if (r.size != strlen(text) || memcmp(out, text, r.size) != 0)
+        fail("%.*s and not %s stands at %s", (int)r.size, out, text, pointer);
+    json_patch_close(&document);
+}
+
+int main(int count, char **words) {
+    if (count != 2)
+        fail("test_document CASES");
+    for_each_row(words[1], expect_on_kept);
+    expect_closed();
+    expect_opened();
+    expect_rooms();
+    expect_found("", JSON_PATCH_OK, "{\"a/b\":[1,{\"m~n\":null}]}");
+    expect_found("/a~1b/1/m~0n", JSON_PATCH_OK, "null");
+    expect_found("/a~1b/2", JSON_PATCH_NOTHING, "");
+    expect_found("/a~1b/-", JSON_PATCH_NOTHING, "");
+    expect_found("a", JSON_PATCH_NO_POINTER, "");
+    expect_found("/~2", JSON_PATCH_NO_POINTER, "");
+    expect_found("/\xff", JSON_PATCH_NO_POINTER, "");
+    printf("c: %lu changes of kept documents\n", updates);
+    return 0;
+}

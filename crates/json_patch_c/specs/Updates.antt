@@ -1,0 +1,45 @@
+-- What a call makes of the document behind a handle, and what stands there.
+use Rattle.std.specs.Prelude.{◌≡◌, ℕ, List, IsUtf8}
+use Rattle.serde_json.specs.Data.{Data}
+use Rattle.jsonptr.specs.Text.{Pointer, text_of, IsNoPointerText}
+use Rattle.json_patch.specs.Merged.{IsMerged}
+use Rattle.json_patch.specs.Operation.{Operation}
+use Rattle.json_patch.specs.Inverse.{IsInverse}
+use Rattle.json_patch.specs.Refusal.{NamesFirst}
+use Rattle.json_patch.specs.Resolve.{StandsAt}
+use Rattle.json_patch.specs.Run.{Accepts, IsAccepted}
+use Rattle.json_patch.specs.Step.{Never}
+use Rattle.json_patch.specs.declared.error.PatchError.{PatchError}
+use Rattle.json_patch_c.specs.Texts.{IsDocumentText, IsPatchText}
+
+-- the text says a patch that is accepted on d, with the end e
+abbrev pub UpdatesTo : Data → List ℕ → Data → Type 0
+UpdatesTo d patch e = (ops : List Operation) × IsPatchText patch ops × Accepts d ops e
+
+-- the same, and undo is its inverse, which leads back
+abbrev pub RecordsTo : Data → List ℕ → Data → List Operation → Type 0
+RecordsTo d patch e undo = (ops : List Operation) × IsPatchText patch ops × Accepts d ops e × IsInverse d ops undo × IsAccepted e undo d
+
+-- the text says a patch that d refuses, and e is the refusal
+abbrev pub IsRefusedBy : Data → List ℕ → PatchError → Type 0
+IsRefusedBy d patch e = (ops : List Operation) × IsPatchText patch ops × NamesFirst d ops e
+
+-- the text says a merge patch, and e is d with it merged in
+abbrev pub MergesTo : Data → List ℕ → Data → Type 0
+MergesTo d patch e = (p : Data) × IsDocumentText patch p × IsMerged d p e
+
+-- the bytes are the text of the pointer P
+abbrev pub IsTextOf : List ℕ → Pointer → Type 0
+IsTextOf text P = IsUtf8 text × (text_of P ≡ text)
+
+-- the bytes are no pointer's text
+abbrev pub IsNoPointer : List ℕ → Type 0
+IsNoPointer text = IsUtf8 text → IsNoPointerText text
+
+-- v stands in d where the pointer leads
+abbrev pub StandsAtText : Data → List ℕ → Data → Type 0
+StandsAtText d text v = (P : Pointer) × IsTextOf text P × StandsAt d P v
+
+-- the pointer leads nowhere in d
+abbrev pub LeadsNowhere : Data → List ℕ → Type 0
+LeadsNowhere d text = (P : Pointer) × IsTextOf text P × Never (StandsAt d P)

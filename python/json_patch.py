@@ -1,0 +1,381 @@
+"""JSON Patch (RFC 6902) and JSON Merge Patch (RFC 7396), by libjson_patch.so.
+
+The names are those of the package jsonpatch where they fit:
+
+>>> apply_patch({"a": [1, 2]}, [{"op": "move", "from": "/a/0", "path": "/b"}])
+{'a': [2], 'b': 1}
+>>> JsonPatch.from_string('[{"op": "remove", "path": "/a"}]').apply({"a": 1})
+{}
+
+A refused patch changes nothing, and the exception tells which operation is refused, why, and its
+path:
+
+>>> try:
+...     apply_patch({"a": 1}, [{"op": "test", "path": "/a", "value": 1}, {"op": "remove", "path": "/b"}])
+... except JsonPatchConflict as error:
+...     print(error, error.operation, error.kind, error.path)
+operation 1 failed at path '/b': InvalidPointer 1 InvalidPointer /b
+
+A large document that is changed again and again is kept by the library:
+
+>>> with Document({"rows": [1, 2]}) as document:
+...     document.apply([{"op": "replace", "path": "/rows/0", "value": 3}])
+...     document.get("/rows")
+[3, 2]
+
+Documents, and the values in a patch, hold whole numbers of 64 bits alone: 1.5, 1.0 and 2**64 are
+refused by NumberNotWhole.
+
+The library is looked for where the environment variable JSON_PATCH_LIBRARY says, beside this file,
+in c/out/lib of the repository, and where the system looks.
+"""
+import ctypes
+import json
+import os
+from pathlib import Path
+
+__all__ = [
+    "Document", "InvalidJsonPatch", "JsonPatch", "JsonPatchConflict", "JsonPatchException", "JsonPatchTestFailed",
+    "JsonPointerException", "NumberNotWhole", "apply_patch", "merge_patch", "record_patch",
+]
+
+
+class JsonPatchException(Exception):
+    """What went wrong: `kind` names it, `operation` is the number of the operation at fault, from 0,
+    and `path` its path. Those that don't apply are None."""
+
+    def __init__(self, message, operation=None, kind=None, path=None):
+        super().__init__(message)
+        self.operation, self.kind, self.path = operation, kind, path
+
+
+class InvalidJsonPatch(JsonPatchException):
+    """The patch isn't one, whatever the document."""
+
+
+class JsonPatchConflict(JsonPatchException):
+    """An operation can't be made on this document."""
+
+
+class JsonPatchTestFailed(JsonPatchException, AssertionError):
+    """Another value stands where a `test` looks."""
+
+
+class JsonPointerException(JsonPatchException):
+    """A pointer isn't one, or leads nowhere."""
+
+
+class NumberNotWhole(JsonPatchException, ValueError):
+    """A number has a fraction or an exponent, or is past 64 bits."""
+
+
+# jsonpatch raises one or the other by where on the way a pointer leads nowhere: both catch these.
+class _LeadsNowhere(JsonPatchConflict, JsonPointerException):
+    pass
+
+
+class _InvalidPointer(InvalidJsonPatch, JsonPointerException):
+    pass
+
+
+class _InvalidNumber(InvalidJsonPatch, NumberNotWhole):
+    pass
+
+
+(
+    _OK, _REFUSED, _NO_DOCUMENT, _NO_PATCH, _NO_MEMORY, _NO_ROOM, _CLOSED, _NO_POINTER, _NOTHING,
+) = range(9)
+
+# the kinds of json_patch.h, and what is raised for each
+_KINDS = {
+    1: ("NotJson", InvalidJsonPatch),
+    2: ("NotWhole", NumberNotWhole),
+    3: ("TestFailed", JsonPatchTestFailed),
+    4: ("InvalidFromPointer", _LeadsNowhere),
+    5: ("InvalidPointer", _LeadsNowhere),
+    6: ("CannotMoveInsideItself", JsonPatchConflict),
+    11: ("NotAList", InvalidJsonPatch),
+    12: ("NotAnObject", InvalidJsonPatch),
+    13: ("MissingOp", InvalidJsonPatch),
+    14: ("OpNotText", InvalidJsonPatch),
+    15: ("UnknownOp", InvalidJsonPatch),
+    16: ("MissingFrom", InvalidJsonPatch),
+    17: ("FromNotText", InvalidJsonPatch),
+    18: ("BadFrom", _InvalidPointer),
+    19: ("MissingPath", InvalidJsonPatch),
+    20: ("PathNotText", InvalidJsonPatch),
+    21: ("BadPath", _InvalidPointer),
+    22: ("MissingValue", InvalidJsonPatch),
+    23: ("ValueNotWhole", _InvalidNumber),
+}
+_NOT_A_LIST = 11
+
+
+class _Report(ctypes.Structure):
+    _fields_ = [("size", ctypes.c_size_t), ("operation", ctypes.c_size_t), ("kind", ctypes.c_uint8)]
+
+
+class _Handle(ctypes.Structure):
+    _fields_ = [("at", ctypes.c_void_p)]
+
+
+def _library():
+    here = Path(__file__).resolve().parent
+    places = [here / "libjson_patch.so", here.parent / "c/out/lib/libjson_patch.so"]
+    found = [str(place) for place in places if place.exists()]
+    library = ctypes.CDLL(os.environ.get("JSON_PATCH_LIBRARY") or (found or ["libjson_patch.so"])[0])
+    text, handle = [ctypes.c_char_p, ctypes.c_size_t], [ctypes.POINTER(_Handle)]
+    for name, arguments in {
+        "apply": [*text, *text, *text],
+        "record": [*text, *text, *text],
+        "merge": [*text, *text, *text],
+        "open": [*handle, *text],
+        "update": [*handle, *text, *text],
+        "update_recorded": [*handle, *text, *text],
+        "update_merged": [*handle, *text],
+        "inverse": [*handle, *text],
+        "text": [*handle, *text],
+        "text_at": [*handle, *text, *text],
+    }.items():
+        call = getattr(library, f"json_patch_{name}")
+        call.argtypes = [*arguments, ctypes.POINTER(_Report)]
+        call.restype = ctypes.c_uint8
+    library.json_patch_close.argtypes, library.json_patch_close.restype = handle, None
+    return library
+
+
+_LIBRARY = _library()
+
+
+def _fault(status, report, path):
+    """The exception for a status."""
+    if status == _NO_MEMORY:
+        return MemoryError("out of memory")
+    if status == _CLOSED:
+        return ValueError("the document is closed")
+    if status in (_NO_POINTER, _NOTHING):
+        return JsonPointerException(path, kind="NoPointer" if status == _NO_POINTER else "Nothing")
+    kind, error = _KINDS[report.kind]
+    if status == _NO_DOCUMENT:
+        error = NumberNotWhole if error is NumberNotWhole else JsonPatchException
+        return error(f"document: {kind}", kind=kind)
+    if status == _REFUSED:
+        told = f"operation {report.operation} failed at path {path!r}: {kind}"
+        return error(told, report.operation, kind, path)
+    if report.kind <= _NOT_A_LIST:
+        return error(f"patch: {kind}", kind=kind)
+    return error(f"patch: operation {report.operation}: {kind}", report.operation, kind)
+
+
+def _called(call, document, patch):
+    """The text that a call makes of two others, as bytes."""
+    texts = document, len(document), patch, len(patch)
+    return _written(lambda *out: call(*texts, *out), len(document) + len(patch) + 64)
+
+
+def _written(call, room):
+    """What a call writes, which is handed a buffer, its length and a report."""
+    report = _Report()
+    while True:
+        out = ctypes.create_string_buffer(room)
+        status = call(out, room, report)
+        if status == _OK:
+            return out.raw[: report.size]
+        # a text, or the path of a refusal, for which there was no room
+        if status == _NO_ROOM or report.size > room:
+            room = report.size
+            continue
+        raise _fault(status, report, out.raw[: report.size].decode())
+
+
+def _text(value):
+    return json.dumps(value, separators=(",", ":")).encode()
+
+
+class JsonPatch:
+    """A list of operations.
+
+    >>> patch = JsonPatch([{"op": "add", "path": "/a/-", "value": 3}])
+    >>> patch.apply({"a": [1, 2]})
+    {'a': [1, 2, 3]}
+    >>> JsonPatch([{"op": "add", "path": "a"}])
+    Traceback (most recent call last):
+        ...
+    json_patch._InvalidPointer: patch: operation 0: BadPath
+    """
+
+    def __init__(self, patch):
+        try:
+            _called(_LIBRARY.json_patch_apply, b"null", _text(patch))
+        except (JsonPatchConflict, JsonPatchTestFailed):
+            # It is a patch, and not one of null.
+            pass
+        self.patch = list(patch)
+
+    @classmethod
+    def from_string(cls, patch_str):
+        """The patch that a JSON text says."""
+        try:
+            patch = json.loads(patch_str)
+        except ValueError as error:
+            raise InvalidJsonPatch(f"patch: {error}", kind="NotJson") from error
+        return cls(patch)
+
+    def to_string(self):
+        return json.dumps(self.patch)
+
+    def apply(self, obj, in_place=False):
+        """What the patch leaves of an object, which stays as it is. With `in_place` a list or a
+        dict is filled with the new content and returned; a document of another kind can't be."""
+        made = json.loads(_called(_LIBRARY.json_patch_apply, _text(obj), _text(self.patch)))
+        return _filled(obj, made) if in_place else made
+
+    def record(self, obj):
+        """What the patch leaves of an object, and the patch that leads back.
+
+        >>> JsonPatch([{"op": "remove", "path": "/a"}]).record({"a": 1})
+        ({}, JsonPatch([{'op': 'add', 'path': '/a', 'value': 1}]))
+        """
+        made, inverse = json.loads(_called(_LIBRARY.json_patch_record, _text(obj), _text(self.patch)))
+        return made, JsonPatch(inverse)
+
+    def __repr__(self):
+        return f"JsonPatch({self.patch!r})"
+
+    def __str__(self):
+        return self.to_string()
+
+    def __iter__(self):
+        return iter(self.patch)
+
+    def __len__(self):
+        return len(self.patch)
+
+    def __eq__(self, other):
+        return isinstance(other, JsonPatch) and self.patch == other.patch
+
+    __hash__ = None
+
+
+def _filled(obj, made):
+    if isinstance(obj, list) and isinstance(made, list):
+        obj[:] = made
+    elif isinstance(obj, dict) and isinstance(made, dict):
+        obj.clear()
+        obj.update(made)
+    else:
+        return made
+    return obj
+
+
+def _as_patch(patch):
+    if isinstance(patch, JsonPatch):
+        return patch
+    return JsonPatch.from_string(patch) if isinstance(patch, (str, bytes)) else JsonPatch(patch)
+
+
+def apply_patch(doc, patch, in_place=False):
+    """What a patch, as a list of operations, a JSON text or a JsonPatch, leaves of a document."""
+    return _as_patch(patch).apply(doc, in_place)
+
+
+def record_patch(doc, patch):
+    """What a patch leaves of a document, and the JsonPatch that leads back."""
+    return _as_patch(patch).record(doc)
+
+
+def merge_patch(doc, patch):
+    """A document with a merge patch (RFC 7396) merged into it.
+
+    >>> merge_patch({"a": 1, "b": 2}, {"a": None, "c": [3]})
+    {'b': 2, 'c': [3]}
+    """
+    return json.loads(_called(_LIBRARY.json_patch_merge, _text(doc), _text(patch)))
+
+
+class Document:
+    """A document that the library keeps, so that a change takes the time that it wants, and not
+    that of reading and writing the whole. It is a context manager, and closed at its end; it stays
+    on the thread that made it.
+
+    >>> with Document({"a": 1, "b": [2]}) as document:
+    ...     inverse = document.record([{"op": "move", "from": "/b/0", "path": "/a"}])
+    ...     print(document, inverse)
+    ...     document.merge({"b": None})
+    ...     document.get()
+    {"a":2,"b":[]} [{"op": "replace", "path": "/a", "value": 1}, {"op": "add", "path": "/b/0", "value": 2}]
+    {'a': 2}
+    """
+
+    def __init__(self, document):
+        self._open(_text(document))
+
+    @classmethod
+    def from_string(cls, document_str):
+        """The document that a JSON text says."""
+        made = cls.__new__(cls)
+        made._open(document_str if isinstance(document_str, bytes) else document_str.encode())
+        return made
+
+    def _open(self, text):
+        self._handle, report = _Handle(), _Report()
+        status = _LIBRARY.json_patch_open(self._handle, text, len(text), report)
+        if status != _OK:
+            raise _fault(status, report, None)
+
+    def _updated(self, call, patch):
+        text = patch.encode() if isinstance(patch, str) else patch
+        if not isinstance(text, bytes):
+            text = _text(patch.patch if isinstance(patch, JsonPatch) else patch)
+        _written(lambda *out: call(self._handle, text, len(text), *out), len(text) + 64)
+
+    def apply(self, patch):
+        """Changes the document by a list of operations, a JSON text or a JsonPatch, or not at all."""
+        self._updated(_LIBRARY.json_patch_update, patch)
+
+    def record(self, patch):
+        """The same, and answers the JsonPatch that leads back."""
+        self._updated(_LIBRARY.json_patch_update_recorded, patch)
+        return JsonPatch.from_string(self._read(_LIBRARY.json_patch_inverse))
+
+    def merge(self, patch):
+        """Merges a merge patch into the document."""
+        text, report = _text(patch), _Report()
+        status = _LIBRARY.json_patch_update_merged(self._handle, text, len(text), report)
+        if status != _OK:
+            raise _fault(status, report, None)
+
+    def get(self, pointer=""):
+        """What stands where a JSON pointer leads; JsonPointerException, where nothing does."""
+        text = pointer.encode()
+
+        def call(*out):
+            status = _LIBRARY.json_patch_text_at(self._handle, text, len(text), *out)
+            if status in (_NO_POINTER, _NOTHING):
+                raise _fault(status, None, pointer)
+            return status
+
+        return json.loads(_written(call, 256))
+
+    def to_string(self):
+        return self._read(_LIBRARY.json_patch_text)
+
+    def _read(self, call):
+        return _written(lambda *out: call(self._handle, *out), 256).decode()
+
+    def close(self):
+        """Gives the document's memory back. From then on each call raises ValueError."""
+        _LIBRARY.json_patch_close(self._handle)
+
+    def __str__(self):
+        return self.to_string()
+
+    def __enter__(self):
+        return self
+
+    def __exit__(self, *_):
+        self.close()
+
+    def __del__(self):
+        if hasattr(self, "_handle"):
+            self.close()
