@@ -6,7 +6,9 @@
  *
  * CALL is apply, record or merge, or of a document that is kept open, update, update_recorded,
  * update_merged, text, text_at or inverse. It prints the status and the report, what was written,
- * and then the text of the document that is kept; a line "spoilt" where more was written.
+ * and then the text of the document that is kept; a line "spoilt" where more was written, and a line
+ * "left" where not all memory is given back at the end. For that it is linked with
+ * -Wl,--wrap=malloc,--wrap=realloc,--wrap=free.
  */
 #include "json_patch.h"
 
@@ -17,6 +19,37 @@
 enum { ROOM = 4096, UNTOUCHED = 0xa5 };
 
 static char out[ROOM];
+
+/* ---- the blocks that the library has */
+
+void *__real_malloc(size_t size);
+void *__real_realloc(void *old, size_t size);
+void __real_free(void *block);
+void *__wrap_malloc(size_t size);
+void *__wrap_realloc(void *old, size_t size);
+void __wrap_free(void *block);
+
+static long blocks, requests;
+
+void *__wrap_malloc(size_t size) {
+    void *block = __real_malloc(size);
+    requests++;
+    blocks += block != NULL;
+    return block;
+}
+
+void *__wrap_realloc(void *old, size_t size) {
+    void *block = __real_realloc(old, size);
+    blocks += !old && block;
+    return block;
+}
+
+void __wrap_free(void *block) {
+    blocks -= block != NULL;
+    __real_free(block);
+}
+
+/* ---- the call */
 
 static json_patch_status called(const char *name, json_patch_document *kept, const char *document,
                                 const char *text, json_patch_report *report) {
@@ -66,5 +99,7 @@ int main(int count, char **words) {
     if (json_patch_text(&kept, text, ROOM, &told) == JSON_PATCH_OK)
         printf("%.*s\n", (int)told.size, text);
     json_patch_close(&kept);
+    if (blocks != 0 || requests == 0)
+        puts("left");
     return 0;
 }

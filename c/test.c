@@ -29,13 +29,13 @@ static void expect(const row *row, size_t room) {
     json_patch_status status = row->make(row->document.bytes, row->document.length,
                                          row->patch.bytes, row->patch.length, out, room, &report);
     calls++;
-    statuses[status]++;
     int is_short = row->status == JSON_PATCH_OK && room < report.size;
     size_t fits = status <= JSON_PATCH_REFUSED && report.size <= room ? report.size : 0;
     if (status != (is_short ? JSON_PATCH_NO_ROOM : row->status))
         fail("status %d for %.*s with %.*s", status, (int)row->document.length,
              row->document.bytes, (int)row->patch.length,
              row->patch.bytes);
+    statuses[status]++;
     if (report.operation != row->operation || report.kind != row->kind)
         fail("operation %zu, kind %d for %s", report.operation, report.kind, row->patch.bytes);
     if (row->written.bytes && report.size != row->written.length)

@@ -24,6 +24,13 @@ static const char *written(json_patch_status call(json_patch_document *, char *,
     return out;
 }
 
+static void expect_told(const json_patch_report *report, size_t size, size_t operation,
+                        json_patch_kind kind) {
+    if (report->size != size || report->operation != operation || report->kind != kind)
+        fail("size %zu, operation %zu and kind %d, not %zu, %zu and %d", report->size,
+             report->operation, report->kind, size, operation, kind);
+}
+
 static json_patch_status updated(const row *row, json_patch_document *document, char *out,
                                  json_patch_report *report) {
     updates++;
@@ -56,20 +63,23 @@ static void expect_changed(const row *row, json_patch_document *document, const 
 
 static void expect_on_kept(const row *row) {
     json_patch_document document = JSON_PATCH_DOCUMENT;
-    json_patch_report report;
+    json_patch_report report = {77, 77, 77};
     char out[ROOM];
     if (json_patch_open(&document, row->document.bytes, row->document.length, &report))
         fail("%s isn't opened", row->document.bytes);
+    expect_told(&report, 0, 0, 0);
     const char *before = written(json_patch_text, &document);
+    report = (json_patch_report){77, 77, 77};
     json_patch_status status = updated(row, &document, out, &report);
-    if (status != row->status || report.operation != row->operation || report.kind != row->kind)
+    if (status != row->status)
         fail("status %d for %s", status, row->patch.bytes);
+    expect_told(&report, status == JSON_PATCH_REFUSED ? row->written.length : 0, row->operation,
+                row->kind);
     if (status == JSON_PATCH_OK)
         expect_changed(row, &document, before);
     else if (strcmp(written(json_patch_text, &document), before) != 0)
         fail("%s changes %s", row->patch.bytes, before);
-    if (status == JSON_PATCH_REFUSED &&
-        (report.size != row->written.length || memcmp(out, row->written.bytes, report.size) != 0))
+    if (status == JSON_PATCH_REFUSED && memcmp(out, row->written.bytes, report.size) != 0)
         fail("the path isn't %s", row->written.bytes);
     json_patch_close(&document);
 }
@@ -84,17 +94,22 @@ static void expect(json_patch_status status, json_patch_status wanted, const cha
 #define EXPECT(call, wanted) expect(call, wanted, #call)
 #define TEXT(s) s, strlen(s)
 
+/* The call answers this status, and tells nothing but the kind. */
+#define EXPECT_TOLD(call, wanted, kind) \
+    (r = (json_patch_report){77, 77, 77}, EXPECT(call, wanted), expect_told(&r, 0, 0, kind))
+
 static void expect_closed(void) {
     json_patch_document closed = JSON_PATCH_DOCUMENT;
     json_patch_report r;
     char out[8];
-    EXPECT(json_patch_update(&closed, TEXT("[]"), out, 8, &r), JSON_PATCH_CLOSED);
-    EXPECT(json_patch_update_recorded(&closed, TEXT("["), out, 8, &r), JSON_PATCH_CLOSED);
-    EXPECT(json_patch_update_merged(&closed, TEXT("{}"), &r), JSON_PATCH_CLOSED);
-    EXPECT(json_patch_inverse(&closed, out, 8, &r), JSON_PATCH_CLOSED);
-    EXPECT(json_patch_text(&closed, out, 8, &r), JSON_PATCH_CLOSED);
-    EXPECT(json_patch_text_at(&closed, TEXT("x"), out, 8, &r), JSON_PATCH_CLOSED);
-    EXPECT(json_patch_open(&closed, TEXT("{"), &r), JSON_PATCH_NO_DOCUMENT);
+    EXPECT_TOLD(json_patch_update(&closed, TEXT("[]"), out, 8, &r), JSON_PATCH_CLOSED, 0);
+    EXPECT_TOLD(json_patch_update_recorded(&closed, TEXT("["), out, 8, &r), JSON_PATCH_CLOSED, 0);
+    EXPECT_TOLD(json_patch_update_merged(&closed, TEXT("{}"), &r), JSON_PATCH_CLOSED, 0);
+    EXPECT_TOLD(json_patch_inverse(&closed, out, 8, &r), JSON_PATCH_CLOSED, 0);
+    EXPECT_TOLD(json_patch_text(&closed, out, 8, &r), JSON_PATCH_CLOSED, 0);
+    EXPECT_TOLD(json_patch_text_at(&closed, TEXT("x"), out, 8, &r), JSON_PATCH_CLOSED, 0);
+    EXPECT_TOLD(json_patch_open(&closed, TEXT("{"), &r), JSON_PATCH_NO_DOCUMENT,
+                JSON_PATCH_NOT_JSON);
     EXPECT(json_patch_text(&closed, out, 8, &r), JSON_PATCH_CLOSED);
     json_patch_close(&closed);
     json_patch_close(&closed);
@@ -110,6 +125,24 @@ static void expect_opened(void) {
     EXPECT(json_patch_open(&document, TEXT(" [ ] "), &r), JSON_PATCH_OK);
     if (strcmp(written(json_patch_text, &document), "[]") != 0)
         fail("the other document isn't open");
+    json_patch_close(&document);
+}
+
+static void expect_unreadable(void) {
+    json_patch_document document = JSON_PATCH_DOCUMENT;
+    json_patch_report r;
+    char out[8];
+    EXPECT(json_patch_open(&document, TEXT("{\"a\":1}"), &r), JSON_PATCH_OK);
+    EXPECT_TOLD(json_patch_update(&document, TEXT("["), out, 8, &r), JSON_PATCH_NO_PATCH,
+                JSON_PATCH_NOT_JSON);
+    EXPECT_TOLD(json_patch_update_recorded(&document, TEXT("[\xff]"), out, 8, &r),
+                JSON_PATCH_NO_PATCH, JSON_PATCH_NOT_JSON);
+    EXPECT_TOLD(json_patch_update_merged(&document, TEXT(""), &r), JSON_PATCH_NO_PATCH,
+                JSON_PATCH_NOT_JSON);
+    EXPECT_TOLD(json_patch_update_merged(&document, TEXT("[1.5]"), &r), JSON_PATCH_NO_PATCH,
+                JSON_PATCH_NOT_WHOLE);
+    if (strcmp(written(json_patch_text, &document), "{\"a\":1}") != 0)
+        fail("a text that is no patch changes the document");
     json_patch_close(&document);
 }
 
@@ -149,6 +182,27 @@ static void expect_rooms(void) {
     json_patch_close(&document);
 }
 
+/* The path of a refusal, in each length of `out`. */
+static void expect_paths(void) {
+    const char *path = "/b/~1", *patch = "[{\"op\":\"test\",\"path\":\"\",\"value\":{}},"
+                                       "{\"op\":\"remove\",\"path\":\"/b/~1\"}]";
+    json_patch_document document = JSON_PATCH_DOCUMENT;
+    json_patch_report r;
+    char out[16];
+    EXPECT(json_patch_open(&document, TEXT("{}"), &r), JSON_PATCH_OK);
+    for (size_t room = 0; room < 15; room++)
+        for (int is_recorded = 0; is_recorded < 2; is_recorded++) {
+            memset(out, '-', sizeof out);
+            EXPECT((is_recorded ? json_patch_update_recorded : json_patch_update)(
+                       &document, TEXT(patch), out, room, &r),
+                   JSON_PATCH_REFUSED);
+            expect_told(&r, strlen(path), 1, JSON_PATCH_INVALID_POINTER);
+            if (!is_alone(out, room, r.size) || (room >= r.size && memcmp(out, path, r.size) != 0))
+                fail("a path in %zu bytes", room);
+        }
+    json_patch_close(&document);
+}
+
 static void expect_found(const char *pointer, json_patch_status wanted, const char *text) {
     json_patch_document document = JSON_PATCH_DOCUMENT;
     json_patch_report r;
@@ -166,7 +220,9 @@ int main(int count, char **words) {
     for_each_row(words[1], expect_on_kept);
     expect_closed();
     expect_opened();
+    expect_unreadable();
     expect_rooms();
+    expect_paths();
     expect_found("", JSON_PATCH_OK, "{\"a/b\":[1,{\"m~n\":null}]}");
     expect_found("/a~1b/1/m~0n", JSON_PATCH_OK, "null");
     expect_found("/a~1b/2", JSON_PATCH_NOTHING, "");

@@ -75,6 +75,7 @@ pub extern "C" fn json_patch_update(
         × (report.new.size ≡ 0) }
     ensures no_memory { result ≡ 4 → Tells 0 0 0 report.new }
     ensures closed { (result ≡ 6) ↔ (document.old.held ≡ None) }
+    ensures closed_told { result ≡ 6 → Tells 0 0 0 report.new }
     ensures status { result ≤ 6 }
     ensures never { (result ≢ 2) × (result ≢ 5) }
     ensures unchanged { result ≢ 0
@@ -116,6 +117,7 @@ pub extern "C" fn json_patch_update_recorded(
         × (report.new.size ≡ 0) }
     ensures no_memory { result ≡ 4 → Tells 0 0 0 report.new }
     ensures closed { (result ≡ 6) ↔ (document.old.held ≡ None) }
+    ensures closed_told { result ≡ 6 → Tells 0 0 0 report.new }
     ensures status { result ≤ 6 }
     ensures never { (result ≢ 2) × (result ≢ 5) }
     ensures unchanged { result ≢ 0
@@ -154,6 +156,7 @@ pub extern "C" fn json_patch_update_merged(
         × (report.new.size ≡ 0) }
     ensures no_memory { result ≡ 4 → Tells 0 0 0 report.new }
     ensures closed { (result ≡ 6) ↔ (document.old.held ≡ None) }
+    ensures closed_told { result ≡ 6 → Tells 0 0 0 report.new }
     ensures status { result ≤ 6 }
     ensures never { (result ≢ 1) × (result ≢ 2) × (result ≢ 5) }
     ensures unchanged { result ≢ 0
@@ -190,6 +193,7 @@ pub extern "C" fn json_patch_text(
         × (document_in document.old.held ≡ Some d) × (length out.old < length (compact_text d))
         × Tells (length (compact_text d)) 0 0 report.new }
     ensures closed { (result ≡ 6) ↔ (document.old.held ≡ None) }
+    ensures closed_told { result ≡ 6 → Tells 0 0 0 report.new }
     ensures status { result ≤ 6 }
     ensures never { (result ≢ 1) × (result ≢ 2) × (result ≢ 3) }
     ensures unchanged { result ≢ 0 → out.new ≡ out.old }
@@ -225,6 +229,7 @@ pub extern "C" fn json_patch_inverse(
         × (length out.old < length (compact_text (written_patch undo)))
         × Tells (length (compact_text (written_patch undo))) 0 0 report.new }
     ensures closed { (result ≡ 6) ↔ (document.old.held ≡ None) }
+    ensures closed_told { result ≡ 6 → Tells 0 0 0 report.new }
     ensures status { result ≤ 6 }
     ensures never { (result ≢ 1) × (result ≢ 2) × (result ≢ 3) }
     ensures unchanged { result ≢ 0 → out.new ≡ out.old }
@@ -260,6 +265,7 @@ pub extern "C" fn json_patch_text_at(
         × (document_in document.old.held ≡ Some d) × StandsAtText d pointer.now v
         × (length out.old < length (compact_text v)) × Tells (length (compact_text v)) 0 0 report.new }
     ensures closed { (result ≡ 6) ↔ (document.old.held ≡ None) }
+    ensures closed_told { result ≡ 6 → Tells 0 0 0 report.new }
     // 7: the text is no pointer's. 8: the pointer leads nowhere.
     ensures no_pointer { result ≡ 7 → IsNoPointer pointer.now × Tells 0 0 0 report.new }
     ensures nothing { result ≡ 8 → (d : Data)
