@@ -23,15 +23,25 @@ A large document that is changed again and again is kept by the library:
 ...     document.get("/rows")
 [3, 2]
 
-Documents, and the values in a patch, hold whole numbers of 64 bits alone: 1.5, 1.0 and 2**64 are
-refused by NumberNotWhole.
+Documents, and the values in a patch, hold whole numbers of 64 bits alone: 1.5, 1.0, 2**64 and nan
+are refused by NumberNotWhole. A document is what json.dumps writes of an object, and what comes back
+is what json.loads reads: new lists and dicts, the names in byte order, a key 1 as "1". What has an
+unpaired surrogate, holds itself, or nests deeper than 127 levels, is refused as no JSON: the `kind`
+is NotJson.
 
-The library is looked for where the environment variable JSON_PATCH_LIBRARY says, beside this file,
-in c/out/lib of the repository, and where the system looks.
+A patch can nest a document deeper, by what it copies or moves: json.loads raises RecursionError past
+some 1,000 levels, and past some 9,000 the stack may end, and the process with it. So bound the length
+of a stranger's pointers.
+
+What looks for differences, as make_patch does, is left out. The library is looked for where the
+environment variable JSON_PATCH_LIBRARY says, beside this file, in c/out/lib of the repository, and
+where the system looks.
 """
 import ctypes
 import json
 import os
+import threading
+import warnings
 from pathlib import Path
 
 __all__ = [
@@ -66,11 +76,21 @@ class JsonPointerException(JsonPatchException):
 
 
 class NumberNotWhole(JsonPatchException, ValueError):
-    """A number has a fraction or an exponent, or is past 64 bits."""
+    """A number has a fraction or an exponent, or is past 64 bits, or is nan or infinite."""
 
 
 # jsonpatch raises one or the other by where on the way a pointer leads nowhere: both catch these.
 class _LeadsNowhere(JsonPatchConflict, JsonPointerException):
+    pass
+
+
+# It raises JsonPatchTestFailed where that is the pointer of a `test`.
+class _TestsNothing(_LeadsNowhere, JsonPatchTestFailed):
+    pass
+
+
+# It leaves what json.loads raises, a ValueError.
+class _NoPatchText(InvalidJsonPatch, ValueError):
     pass
 
 
@@ -88,7 +108,7 @@ class _InvalidNumber(InvalidJsonPatch, NumberNotWhole):
 
 # the kinds of json_patch.h, and what is raised for each
 _KINDS = {
-    1: ("NotJson", InvalidJsonPatch),
+    1: ("NotJson", _NoPatchText),
     2: ("NotWhole", NumberNotWhole),
     3: ("TestFailed", JsonPatchTestFailed),
     4: ("InvalidFromPointer", _LeadsNowhere),
@@ -147,19 +167,19 @@ def _library():
 _LIBRARY = _library()
 
 
-def _fault(status, report, path):
-    """The exception for a status."""
+def _fault(status, report, path=None, patch=None):
+    """The exception for a status of a call that was handed the text of this patch."""
     if status == _NO_MEMORY:
         return MemoryError("out of memory")
     if status == _CLOSED:
         return ValueError("the document is closed")
-    if status in (_NO_POINTER, _NOTHING):
-        return JsonPointerException(path, kind="NoPointer" if status == _NO_POINTER else "Nothing")
     kind, error = _KINDS[report.kind]
     if status == _NO_DOCUMENT:
         error = NumberNotWhole if error is NumberNotWhole else JsonPatchException
         return error(f"document: {kind}", kind=kind)
     if status == _REFUSED:
+        if error is _LeadsNowhere and json.loads(patch)[report.operation]["op"] == "test":
+            error = _TestsNothing
         told = f"operation {report.operation} failed at path {path!r}: {kind}"
         return error(told, report.operation, kind, path)
     if report.kind <= _NOT_A_LIST:
@@ -170,26 +190,51 @@ def _fault(status, report, path):
 def _called(call, document, patch):
     """The text that a call makes of two others, as bytes."""
     texts = document, len(document), patch, len(patch)
-    return _written(lambda *out: call(*texts, *out), len(document) + len(patch) + 64)
+    return _written(lambda *out: call(*texts, *out), len(document) + len(patch) + 64, patch)
 
 
-def _written(call, room):
-    """What a call writes, which is handed a buffer, its length and a report."""
+def _written(call, room, patch=None):
+    """What a call writes, which is handed a buffer, its length and a report. It is made again only
+    where it wrote nothing for want of room, and so changed nothing."""
     report = _Report()
     while True:
         out = ctypes.create_string_buffer(room)
         status = call(out, room, report)
         if status == _OK:
-            return out.raw[: report.size]
+            return ctypes.string_at(out, report.size)
         # a text, or the path of a refusal, for which there was no room
         if status == _NO_ROOM or report.size > room:
             room = report.size
             continue
-        raise _fault(status, report, out.raw[: report.size].decode())
+        raise _fault(status, report, ctypes.string_at(out, report.size).decode(), patch)
 
 
-def _text(value):
-    return json.dumps(value, separators=(",", ":")).encode()
+def _text(value, told, no_text, not_whole):
+    """The text of an object. Where json.dumps has none: what is told of it, and what is raised for
+    one that nests too deep or holds itself, and for a number."""
+    try:
+        return json.dumps(value, separators=(",", ":"), allow_nan=False).encode()
+    except (RecursionError, ValueError) as error:
+        if isinstance(error, RecursionError) or str(error).startswith("Circular"):
+            raise no_text(f"{told}: NotJson", kind="NotJson") from error
+        raise not_whole(f"{told}: NotWhole", kind="NotWhole") from error
+
+
+def _document_text(document):
+    return _text(document, "document", JsonPatchException, NumberNotWhole)
+
+
+def _patch_text(patch):
+    return _text(patch, "patch", _NoPatchText, _InvalidNumber)
+
+
+def _merge_patch_text(patch):
+    return _text(patch, "patch", _NoPatchText, NumberNotWhole)
+
+
+def _bytes(text):
+    """Of a text with an unpaired surrogate they are no UTF-8, which the library refuses."""
+    return text if isinstance(text, bytes) else text.encode(errors="surrogatepass")
 
 
 class JsonPatch:
@@ -205,11 +250,8 @@ class JsonPatch:
     """
 
     def __init__(self, patch):
-        try:
-            _called(_LIBRARY.json_patch_apply, b"null", _text(patch))
-        except (JsonPatchConflict, JsonPatchTestFailed):
-            # It is a patch, and not one of null.
-            pass
+        patch = patch.patch if isinstance(patch, JsonPatch) else patch
+        _expect_patch(_patch_text(patch))
         self.patch = list(patch)
 
     @classmethod
@@ -217,9 +259,16 @@ class JsonPatch:
         """The patch that a JSON text says."""
         try:
             patch = json.loads(patch_str)
-        except ValueError as error:
-            raise InvalidJsonPatch(f"patch: {error}", kind="NotJson") from error
+        except (RecursionError, ValueError) as error:
+            raise _NoPatchText(f"patch: {error}", kind="NotJson") from error
         return cls(patch)
+
+    @classmethod
+    def _of_library(cls, operations):
+        """Of operations that the library wrote. They are a patch, and may nest deeper than it reads."""
+        made = cls.__new__(cls)
+        made.patch = operations
+        return made
 
     def to_string(self):
         return json.dumps(self.patch)
@@ -227,7 +276,8 @@ class JsonPatch:
     def apply(self, obj, in_place=False):
         """What the patch leaves of an object, which stays as it is. With `in_place` a list or a
         dict is filled with the new content and returned; a document of another kind can't be."""
-        made = json.loads(_called(_LIBRARY.json_patch_apply, _text(obj), _text(self.patch)))
+        texts = _document_text(obj), _patch_text(self.patch)
+        made = json.loads(_called(_LIBRARY.json_patch_apply, *texts))
         return _filled(obj, made) if in_place else made
 
     def record(self, obj):
@@ -236,8 +286,9 @@ class JsonPatch:
         >>> JsonPatch([{"op": "remove", "path": "/a"}]).record({"a": 1})
         ({}, JsonPatch([{'op': 'add', 'path': '/a', 'value': 1}]))
         """
-        made, inverse = json.loads(_called(_LIBRARY.json_patch_record, _text(obj), _text(self.patch)))
-        return made, JsonPatch(inverse)
+        texts = _document_text(obj), _patch_text(self.patch)
+        made, inverse = json.loads(_called(_LIBRARY.json_patch_record, *texts))
+        return made, JsonPatch._of_library(inverse)
 
     def __repr__(self):
         return f"JsonPatch({self.patch!r})"
@@ -255,6 +306,21 @@ class JsonPatch:
         return isinstance(other, JsonPatch) and self.patch == other.patch
 
     __hash__ = None
+
+
+_REFUSED_AT_ONCE = b'[{"op":"remove","path":"/a"},'
+
+
+def _expect_patch(text):
+    """Raises why a text is no patch. It is read behind an operation that null refuses, so that none
+    of it is made."""
+    shift = 0 if text == b"[]" or text[:1] != b"[" else 1
+    read = _REFUSED_AT_ONCE + text[1:] if shift else text
+    report = _Report()
+    status = _LIBRARY.json_patch_apply(b"null", 4, read, len(read), b"", 0, report)
+    if status in (_NO_PATCH, _NO_MEMORY):
+        report.operation -= shift
+        raise _fault(status, report)
 
 
 def _filled(obj, made):
@@ -290,13 +356,14 @@ def merge_patch(doc, patch):
     >>> merge_patch({"a": 1, "b": 2}, {"a": None, "c": [3]})
     {'b': 2, 'c': [3]}
     """
-    return json.loads(_called(_LIBRARY.json_patch_merge, _text(doc), _text(patch)))
+    return json.loads(_called(_LIBRARY.json_patch_merge, _document_text(doc), _merge_patch_text(patch)))
 
 
 class Document:
     """A document that the library keeps, so that a change takes the time that it wants, and not
-    that of reading and writing the whole. It is a context manager, and closed at its end; it stays
-    on the thread that made it.
+    that of reading and writing the whole. It is a context manager, and closed at its end. It stays
+    on the thread that made it: on another each call raises RuntimeError, and the memory of one that
+    goes there without being closed isn't given back.
 
     >>> with Document({"a": 1, "b": [2]}) as document:
     ...     inverse = document.record([{"op": "move", "from": "/b/0", "path": "/a"}])
@@ -308,26 +375,32 @@ class Document:
     """
 
     def __init__(self, document):
-        self._open(_text(document))
+        self._open(_document_text(document))
 
     @classmethod
     def from_string(cls, document_str):
         """The document that a JSON text says."""
         made = cls.__new__(cls)
-        made._open(document_str if isinstance(document_str, bytes) else document_str.encode())
+        made._open(_bytes(document_str))
         return made
 
     def _open(self, text):
-        self._handle, report = _Handle(), _Report()
-        status = _LIBRARY.json_patch_open(self._handle, text, len(text), report)
+        handle, report = _Handle(), _Report()
+        status = _LIBRARY.json_patch_open(handle, text, len(text), report)
         if status != _OK:
-            raise _fault(status, report, None)
+            raise _fault(status, report)
+        self._opened, self._thread, self._is_open = handle, threading.get_ident(), True
+
+    @property
+    def _handle(self):
+        if self._thread != threading.get_ident():
+            raise RuntimeError("the document is kept on another thread")
+        return self._opened
 
     def _updated(self, call, patch):
-        text = patch.encode() if isinstance(patch, str) else patch
-        if not isinstance(text, bytes):
-            text = _text(patch.patch if isinstance(patch, JsonPatch) else patch)
-        _written(lambda *out: call(self._handle, text, len(text), *out), len(text) + 64)
+        is_text = isinstance(patch, (str, bytes))
+        text = _bytes(patch) if is_text else _patch_text(patch.patch if isinstance(patch, JsonPatch) else patch)
+        _written(lambda *out: call(self._handle, text, len(text), *out), len(text) + 64, text)
 
     def apply(self, patch):
         """Changes the document by a list of operations, a JSON text or a JsonPatch, or not at all."""
@@ -336,23 +409,24 @@ class Document:
     def record(self, patch):
         """The same, and answers the JsonPatch that leads back."""
         self._updated(_LIBRARY.json_patch_update_recorded, patch)
-        return JsonPatch.from_string(self._read(_LIBRARY.json_patch_inverse))
+        return JsonPatch._of_library(json.loads(self._read(_LIBRARY.json_patch_inverse)))
 
     def merge(self, patch):
-        """Merges a merge patch into the document."""
-        text, report = _text(patch), _Report()
+        """Merges a merge patch, which is any object and no text of one, into the document."""
+        text, report = _merge_patch_text(patch), _Report()
         status = _LIBRARY.json_patch_update_merged(self._handle, text, len(text), report)
         if status != _OK:
-            raise _fault(status, report, None)
+            raise _fault(status, report)
 
     def get(self, pointer=""):
         """What stands where a JSON pointer leads; JsonPointerException, where nothing does."""
-        text = pointer.encode()
+        text = _bytes(pointer)
 
         def call(*out):
             status = _LIBRARY.json_patch_text_at(self._handle, text, len(text), *out)
             if status in (_NO_POINTER, _NOTHING):
-                raise _fault(status, None, pointer)
+                kind = "NoPointer" if status == _NO_POINTER else "Nothing"
+                raise JsonPointerException(f"pointer {pointer!r}: {kind}", kind=kind, path=pointer)
             return status
 
         return json.loads(_written(call, 256))
@@ -366,6 +440,7 @@ class Document:
     def close(self):
         """Gives the document's memory back. From then on each call raises ValueError."""
         _LIBRARY.json_patch_close(self._handle)
+        self._is_open = False
 
     def __str__(self):
         return self.to_string()
@@ -377,5 +452,9 @@ class Document:
         self.close()
 
     def __del__(self):
-        if hasattr(self, "_handle"):
+        if not getattr(self, "_is_open", False):
+            return
+        if self._thread == threading.get_ident():
             self.close()
+        else:
+            warnings.warn("a document wasn't closed on its thread", ResourceWarning, source=self)

@@ -1,6 +1,9 @@
 """Tests of json_patch.py: the rows of c/cases.json, and the interface."""
+import copy
 import json
 import re
+import resource
+import threading
 import unittest
 from pathlib import Path
 
@@ -15,6 +18,36 @@ ROWS = json.loads((TOP / "c/cases.json").read_text(encoding="utf-8"))
 HEADER = (TOP / "c/json_patch.h").read_text(encoding="utf-8")
 CALLS = {"apply": apply_patch, "record": record_patch, "merge": merge_patch}
 OK, REFUSED = 0, 1
+
+
+NO_NUMBERS = (1.5, 1.0, 2**64, -(2**63) - 1, 10**5000, float("nan"), float("inf"))
+
+
+def nested(levels):
+    """A list in a list and so on."""
+    return json.loads("[" * levels + "]" * levels)
+
+
+def holding_itself():
+    items = []
+    items.append(items)
+    return items
+
+
+def on_another_thread(call):
+    """What a call raises there, or what it answers."""
+    told = []
+
+    def run():
+        try:
+            told.append(call())
+        except Exception as error:
+            told.append(error)
+
+    thread = threading.Thread(target=run)
+    thread.start()
+    thread.join()
+    return told[0]
 
 
 def in_words(name):
@@ -88,9 +121,10 @@ class Kept(unittest.TestCase):
         with Document({"a": ["b" * 1000, 2]}) as kept:
             self.assertEqual(kept.get("/a/0"), "b" * 1000)
             self.assertEqual(kept.get("/a/1"), 2)
-            for pointer in ("/a/2", "/c", "a", "/~2"):
-                with self.assertRaises(JsonPointerException):
+            for pointer, kind in (("/a/2", "Nothing"), ("/c", "Nothing"), ("a", "NoPointer"), ("/~2", "NoPointer")):
+                with self.assertRaises(JsonPointerException) as caught:
                     kept.get(pointer)
+                self.assertEqual((caught.exception.path, caught.exception.kind), (pointer, kind))
 
     def test_many(self):
         with Document([]) as kept:
@@ -103,6 +137,58 @@ class Kept(unittest.TestCase):
         with Document({}) as kept, self.assertRaises(JsonPatchConflict) as caught:
             kept.apply([{"op": "remove", "path": path}])
         self.assertEqual(caught.exception.path, path)
+
+    def test_tests(self):
+        with Document({}) as kept:
+            for patch in ('[{"op":"test","path":"/a","value":1}]', [{"op": "test", "path": "/a", "value": 1}]):
+                with self.assertRaises(JsonPatchTestFailed):
+                    kept.apply(patch)
+
+    def test_deep_inverses(self):
+        document = nested(127)
+        with Document(document) as kept:
+            inverse = kept.record([{"op": "replace", "path": "", "value": 1}])
+            self.assertEqual(kept.get(), 1)
+            self.assertEqual(list(inverse), [{"op": "replace", "path": "", "value": document}])
+            # The library wrote it, and doesn't read so deep a text.
+            with self.assertRaises(InvalidJsonPatch):
+                kept.apply(inverse)
+
+    def test_no_json(self):
+        texts = "[", "", '"\ud800"', '"\\ud800"', b"\xff", "[" * 128 + "]" * 128, "[" * 100_000
+        with Document({}) as kept:
+            for text in texts:
+                with self.assertRaises(JsonPatchException) as caught:
+                    Document.from_string(text)
+                self.assertEqual(caught.exception.kind, "NotJson")
+                with self.assertRaises(InvalidJsonPatch) as caught:
+                    kept.apply(text)
+                self.assertEqual(caught.exception.kind, "NotJson")
+            with self.assertRaises(JsonPointerException):
+                kept.get("/\ud800")
+
+    def test_threads(self):
+        with Document([]) as kept:
+            patch = [{"op": "add", "path": "/-", "value": 1}]
+            for call in (kept.get, kept.to_string, lambda: kept.apply(patch), lambda: kept.merge(1), kept.close):
+                self.assertIsInstance(on_another_thread(call), RuntimeError)
+            self.assertEqual(kept.get(), [])
+
+    def test_lost_on_another_thread(self):
+        made = [Document([])]
+        with self.assertWarns(ResourceWarning):
+            on_another_thread(made.clear)
+
+    def test_copies(self):
+        with Document([1]) as kept:
+            shared = copy.copy(kept)
+            shared.apply([{"op": "remove", "path": "/0"}])
+            self.assertEqual(kept.get(), [])
+            shared.close()
+            with self.assertRaises(ValueError):
+                kept.get()
+        with Document([1]) as kept, self.assertRaises(ValueError):
+            copy.deepcopy(kept)
 
     def test_closed(self):
         kept = Document([])
@@ -158,6 +244,12 @@ class Interface(unittest.TestCase):
     def test_tests(self):
         errors = [JsonPatchTestFailed, AssertionError]
         self.assertRefused(errors, {"a": 1}, [{"op": "test", "path": "/a", "value": True}])
+        errors = [JsonPatchTestFailed, JsonPatchConflict, JsonPointerException]
+        nothing = [{"op": "test", "path": "", "value": {}}, {"op": "test", "path": "/a", "value": 1}]
+        self.assertRefused(errors, {}, nothing)
+        with self.assertRaises(JsonPatchConflict) as caught:
+            apply_patch({}, [{"op": "remove", "path": "/a"}])
+        self.assertNotIsInstance(caught.exception, JsonPatchTestFailed)
 
     def test_invalid_patches(self):
         for text in ("{}", "[", "7", '"a"', '[{"op":"spam","path":""}]'):
@@ -166,23 +258,56 @@ class Interface(unittest.TestCase):
         self.assertRefused([InvalidJsonPatch, JsonPointerException], {}, [{"op": "remove", "path": "a"}])
         with self.assertRaises(InvalidJsonPatch):
             JsonPatch([7])
+        for patch in ([{"op": "add"}], [{"op": "remove", "path": ""}, {"op": "add"}]):
+            with self.assertRaises(InvalidJsonPatch) as caught:
+                JsonPatch(patch)
+            self.assertEqual(caught.exception.operation, len(patch) - 1)
+
+    def test_no_json(self):
+        for text in ("[", "", "\ud800", b"\xff", "[" * 100_000):
+            with self.assertRaises(InvalidJsonPatch) as caught:
+                JsonPatch.from_string(text)
+            self.assertIsInstance(caught.exception, ValueError)
+            self.assertEqual(caught.exception.kind, "NotJson")
+        for value in ("\ud800", nested(128), holding_itself()):
+            patch = [{"op": "add", "path": "", "value": value}]
+            self.assertRefused([InvalidJsonPatch], {}, patch)
+            for call in (lambda: apply_patch(value, []), lambda: merge_patch({}, value), lambda: Document(value)):
+                with self.assertRaises(JsonPatchException) as caught:
+                    call()
+                self.assertEqual(caught.exception.kind, "NotJson")
+        self.assertEqual(apply_patch(nested(127), []), nested(127))
+
+    def test_a_patch_is_made_by_apply_alone(self):
+        doubled = [{"op": "replace", "path": "", "value": [1]}] + [{"op": "copy", "from": "", "path": "/-"}] * 64
+        limits = resource.getrlimit(resource.RLIMIT_AS)
+        resource.setrlimit(resource.RLIMIT_AS, (2**30, limits[1]))
+        try:
+            self.assertEqual(len(JsonPatch(doubled)), 65)
+            with self.assertRaises(MemoryError):
+                apply_patch(None, doubled)
+        finally:
+            resource.setrlimit(resource.RLIMIT_AS, limits)
+
+    def test_deep_inverses(self):
+        document = nested(127)
+        made, inverse = record_patch(document, [{"op": "replace", "path": "", "value": 1}])
+        self.assertEqual((made, list(inverse)), (1, [{"op": "replace", "path": "", "value": document}]))
 
     def test_numbers(self):
-        for number in (1.5, 1.0, 2**64, -(2**63) - 1):
+        for number in NO_NUMBERS:
             self.assertRefused([NumberNotWhole, ValueError], number, [])
             patch = [{"op": "add", "path": "/a", "value": number}]
             self.assertRefused([NumberNotWhole, InvalidJsonPatch], {}, patch)
             with self.assertRaises(NumberNotWhole):
                 merge_patch({}, {"a": number})
         self.assertEqual(apply_patch([2**64 - 1, -(2**63)], []), [2**64 - 1, -(2**63)])
-        self.assertRefused([JsonPatchException], float("nan"), [])
 
     def test_texts(self):
         for text in ("", "é", "\0", "\U0001f600", '"\\/\n', "a" * 100_000):
             self.assertEqual(apply_patch({text: text}, []), {text: text})
             patch = [{"op": "add", "path": "/-", "value": text}]
             self.assertEqual(apply_patch([], patch), [text])
-        self.assertRefused([JsonPatchException], "\ud800", [])
 
     def test_results_longer_than_both_texts(self):
         wanted = [1, 2]
@@ -203,6 +328,8 @@ class Interface(unittest.TestCase):
         self.assertFalse(JsonPatch([]))
         self.assertEqual(JsonPatch.from_string(str(patch)), patch)
         self.assertNotEqual(patch, JsonPatch([]))
+        self.assertEqual(JsonPatch(patch), patch)
+        self.assertEqual(JsonPatch(tuple(patch)), patch)
 
 
 if __name__ == "__main__":
