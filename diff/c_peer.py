@@ -1,6 +1,10 @@
 #!/usr/bin/env python3
 """Answers lines as the driver of diff/driver.rt.txt does, by the calls of json_patch.h, through
-python/json_patch.py: c/build has to have built the library. One argument: patch, record or merge."""
+python/json_patch.py: c/build has to have built the library. One argument: patch, record or merge.
+
+Each case is answered twice, from text to text and on a document that is kept; where the two aren't
+alike, the line says so, which is no answer. A refusal is told with the document as it was: on one
+that is kept that is looked at, and the program fails where it isn't so."""
 import json
 import sys
 from pathlib import Path
@@ -19,10 +23,35 @@ def text(value):
     return json.dumps(value, ensure_ascii=False, separators=(",", ":"))
 
 
-def answer(call, line):
-    document, patch = map(text, json.loads(line))
+def from_texts(mode, document, patch):
+    return json.loads(json_patch._called(CALLS[mode], document.encode(), patch.encode()))
+
+
+def changed(mode, kept, patch):
+    if mode == "merge":
+        kept.merge(json.loads(patch))
+        return kept.get()
+    if mode == "patch":
+        kept.apply(patch)
+        return kept.get()
+    inverse = kept.record(patch)
+    return [kept.get(), inverse.patch]
+
+
+def on_kept(mode, document, patch):
+    with json_patch.Document.from_string(document) as kept:
+        before = kept.to_string()
+        try:
+            return changed(mode, kept, patch)
+        except json_patch.JsonPatchException:
+            if kept.to_string() != before:
+                raise ValueError(f"{before} is {kept}") from None
+            raise
+
+
+def told(call, mode, document, patch):
     try:
-        return "ok " + json_patch._called(call, document.encode(), patch.encode()).decode()
+        return "ok " + text(call(mode, document, patch))
     except (json_patch.JsonPatchConflict, json_patch.JsonPatchTestFailed) as error:
         return f"refused {error.operation} {text(error.path)} {error.kind} {document}"
     except json_patch.JsonPatchException:
@@ -31,5 +60,11 @@ def answer(call, line):
         return "memory"
 
 
-for line in sys.stdin:
-    print(answer(CALLS[sys.argv[1]], line))
+def answer(mode, line):
+    document, patch = map(text, json.loads(line))
+    answers = [told(call, mode, document, patch) for call in (from_texts, on_kept)]
+    return answers[0] if answers[0] == answers[1] else f"from text {answers[0]}, kept {answers[1]}"
+
+
+for each in sys.stdin:
+    print(answer(sys.argv[1], each))
