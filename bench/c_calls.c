@@ -1,8 +1,8 @@
 /*
  * Times the calls of json_patch.h as bench/driver.rt.txt times those of the crate: its arguments are
- * `MODE COUNT`, its input is `[document,patch]`, and it prints the nanoseconds of one call. In mode
- * `texts` a call goes from the two texts to the new one; in mode `kept` a document stays open, and a
- * call changes it by the patch's text.
+ * `MODE COUNT accepted`, its input is `[document,patch]`, and it prints the nanoseconds of one call, or
+ * 0 where one is refused. In mode `texts` a call goes from the two texts to the new one; in mode `kept`
+ * a document stays open, and a call changes it by the patch's text.
  */
 #include <json_patch.h>
 
@@ -46,7 +46,7 @@ int main(int count, char **words) {
     json_patch_document pair = JSON_PATCH_DOCUMENT, kept = JSON_PATCH_DOCUMENT;
     json_patch_report report;
     text input = whole_input();
-    if (count != 3 || json_patch_open(&pair, input.bytes, input.length, &report))
+    if (count != 4 || json_patch_open(&pair, input.bytes, input.length, &report))
         return 1;
     text document = part(&pair, "/0", input.length), patch = part(&pair, "/1", input.length);
     size_t room = 2 * input.length + 64;
