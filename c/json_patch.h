@@ -86,8 +86,9 @@ typedef struct {
  * - It is not called from a signal handler, nor in the forked child of a process with threads.
  * - malloc, realloc and free are of one allocator, and align a block to each power of two up to 16
  *   that divides its size.
- * - The stack has room: a document is gone through by recursion, of some 900 bytes a level (a text
- *   has at most 127 levels, but a patch can nest what it copies or moves deeper).
+ * - The stack has room: for some 20 kB, and 900 bytes for each level of a document, which is gone
+ *   through by recursion (a text has at most 127 levels, but a patch can nest what it copies or moves
+ *   deeper).
  *
  * Where the status is no JSON_PATCH_OK, out is as it was, but for the path of JSON_PATCH_REFUSED.
  * After a text, out is as it was too. Of a name that stands twice the last value is read, and the
