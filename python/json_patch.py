@@ -68,7 +68,7 @@ class JsonPatchConflict(JsonPatchException):
 
 
 class JsonPatchTestFailed(JsonPatchException, AssertionError):
-    """Another value stands where a `test` looks."""
+    """Another value stands where a `test` looks, or none."""
 
 
 class JsonPointerException(JsonPatchException):
@@ -201,12 +201,12 @@ def _written(call, room, patch=None):
         out = ctypes.create_string_buffer(room)
         status = call(out, room, report)
         if status == _OK:
-            return ctypes.string_at(out, report.size)
+            return out[: report.size]
         # a text, or the path of a refusal, for which there was no room
         if status == _NO_ROOM or report.size > room:
             room = report.size
             continue
-        raise _fault(status, report, ctypes.string_at(out, report.size).decode(), patch)
+        raise _fault(status, report, out[: report.size].decode(), patch)
 
 
 def _text(value, told, no_text, not_whole):
@@ -260,6 +260,9 @@ class JsonPatch:
         try:
             patch = json.loads(patch_str)
         except (RecursionError, ValueError) as error:
+            # that is what a number of some thousand digits raises
+            if type(error) is ValueError:
+                raise _InvalidNumber("patch: NotWhole", kind="NotWhole") from error
             raise _NoPatchText(f"patch: {error}", kind="NotJson") from error
         return cls(patch)
 

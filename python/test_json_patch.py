@@ -269,6 +269,8 @@ class Interface(unittest.TestCase):
                 JsonPatch.from_string(text)
             self.assertIsInstance(caught.exception, ValueError)
             self.assertEqual(caught.exception.kind, "NotJson")
+        with self.assertRaises(NumberNotWhole):
+            JsonPatch.from_string('[{"op":"add","path":"","value":1' + "0" * 5000 + "}]")
         for value in ("\ud800", nested(128), holding_itself()):
             patch = [{"op": "add", "path": "", "value": value}]
             self.assertRefused([InvalidJsonPatch], {}, patch)
