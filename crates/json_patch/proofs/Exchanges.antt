@@ -11,7 +11,7 @@ use Rattle.json_patch.proofs.Common.{Refused, members_view-insert_entry}
 use Rattle.std.specs.List.{remove}
 use Rattle.std.specs.Vec.{with_item}
 use Rattle.json_patch.specs.declared.edits.Edit.{Edit}
-use Rattle.json_patch.specs.declared.edits.Edit.TheVariants.{Take, Swap, Remove, Clear, Undo}
+use Rattle.json_patch.specs.declared.edits.Edit.TheVariants.{Take, Swap, Clear, Undo}
 use Rattle.json_patch.specs.declared.edits.Found.{Found}
 use Rattle.json_patch.specs.declared.edits.Found.TheVariants.{Nothing, Former, Taken}
 use Rattle.json_patch.specs.Marked.{is_mark, seen, pop_item, push_item, mark_child, at_child, undo_slot, take_marked}
@@ -76,13 +76,11 @@ hidden_not b d is = search rules
 
 module _ (t : List ℕ) (es : List Entry) (v : Data) where
   pub removes_none : (edit : Edit) → IsRemoving edit → None ≡ lookup (is_named t) es → made edit v t (object (members_view es)) ≡ None
-  removes_none Remove h is = rw (found_named t es None is) refl
   removes_none Clear h is = rw (found_named t es None is) refl
   removes_none (Undo Nothing) h is = rw (found_named t es None is) refl
   removes_none edit h is = search rules
 
   pub removes_other : (edit : Edit) (x : Value) → IsRemoving edit → Some x ≡ lookup (is_named t) es → is_removable edit (view x) ≡ false → made edit v t (object (members_view es)) ≡ None
-  removes_other Remove x h is other = rw (found_named t es (Some x) is, hidden_not (is_mark (view x)) (view x) other) refl
   removes_other Clear x h is other = rw (found_named t es (Some x) is, other) refl
   removes_other (Undo Nothing) x h is other = rw (found_named t es (Some x) is, hidden_not (is_mark (view x)) (view x) other) refl
   removes_other edit x h is other = search rules
@@ -92,7 +90,6 @@ module _ (t : List ℕ) (es : List Entry) (v : Data) where
 
   removed : (edit : Edit) (x : Value) (new : List Entry) → IsRemoving edit → Some x ≡ lookup (is_named t) es → is_removable edit (view x) ≡ true → new ≡ remove_entry (is_named t) es
       → (made edit v t (object (members_view es)) ≡ Some (object (members_view new))) × Finds edit t (object (members_view es)) Taken (view x)
-  removed Remove x new h is there left = (rw (found_named t es (Some x) is, shown_not (is_mark (view x)) (view x) there) (gone new left), found_member t es (Some x) x refl is)
   removed Clear x new h is there left = (rw (found_named t es (Some x) is, there) (gone new left), tt)
   removed (Undo Nothing) x new h is there left = (rw (found_named t es (Some x) is, shown_not (is_mark (view x)) (view x) there) (gone new left), found_member t es (Some x) x refl is)
   removed edit x new h is there left = search rules

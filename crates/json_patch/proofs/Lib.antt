@@ -43,6 +43,7 @@ pub mod MarkedCounts
 pub mod MarkedUndos
 pub mod Shown
 pub mod Exchanges
+pub mod Unmarked
 pub mod Logged
 pub mod LoggedEdits
 pub mod LoggedRuns

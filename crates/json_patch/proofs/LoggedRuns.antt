@@ -36,6 +36,14 @@ kept_open Undo kept false empty is some undone none = let e : Undo ≡ Nothing =
 pub kept_last : (keep kept : Keep) (last empty : Bool) → kept ≡ kept_at keep last empty → keep ≡ Undo → last ≡ true → empty ≡ true → kept ≡ Nothing
 kept_last keep kept last empty is undo so none = is ∙ rw (undo, so, none) refl
 
+-- what nothing is kept of comes first
+pub kept_alone : (keep kept : Keep) (last empty : Bool) → kept ≡ kept_at keep last empty → (keep ≡ Nothing → ⊥) → kept ≡ Nothing → empty ≡ true
+kept_alone Nothing kept last empty is some none = absurd (some refl)
+kept_alone Inverse kept last empty is some none = let e : Inverse ≡ Nothing = sym is ∙ none in cc
+kept_alone Undo kept true true is some none = refl
+kept_alone Undo kept true false is some none = let e : Undo ≡ Nothing = sym is ∙ none in cc
+kept_alone Undo kept false empty is some none = let e : Undo ≡ Nothing = sym is ∙ none in cc
+
 -- ---- a single operation
 
 pub free_alone : (op : Operation) → TakesNoMemory op → IsFree op Nothing

@@ -5,7 +5,7 @@ use Rattle.std.specs.String.{string_bytes, string_capacity}
 use Rattle.serde_json.specs.Data.{Data, array, object, Items, no_items, item}
 use Rattle.serde_json.specs.Events.{items_len}
 use Rattle.serde_json.specs.Find.{get_member, get_item}
-use Rattle.json_patch.specs.Document.{Segment, child}
+use Rattle.json_patch.specs.Document.{IsDocument, Segment, child}
 use Rattle.jsonptr.specs.Text.{Pointer, encoded}
 use Rattle.json_patch.specs.Attempt.{Excuses}
 use Rattle.json_patch.specs.ChangeComputed.{without, remove_item, set_child, drop_child, after_change, pointee}
@@ -139,10 +139,16 @@ abbrev pub IsLight : Edit → Type 0
 IsLight Insert = ⊥
 IsLight edit = Unit {0}
 
+-- ---- where there is no mark
+
+-- `Remove` is made of documents alone
+abbrev pub IsUnmarkedFor : Edit → Data → Type 0
+IsUnmarkedFor Remove d = IsDocument d
+IsUnmarkedFor edit d = Unit {0}
+
 -- ---- the edits of a member
 
 abbrev pub IsRemoving : Edit → Type 0
-IsRemoving Remove = Unit {0}
 IsRemoving Clear = Unit {0}
 IsRemoving (Undo Nothing) = Unit {0}
 IsRemoving edit = ⊥

@@ -5,9 +5,10 @@ ghost use Rattle.serde_json.specs.Data.{Data, array, object};
 ghost use Rattle.serde_json.specs.View.{view, items_view, members_view};
 ghost use Rattle.jsonptr.specs.Pointers.{token_of, tokens_left, tokens_of};
 ghost use Rattle.json_patch.specs.ChangeComputed.{after_change, insert_item};
+ghost use Rattle.json_patch.specs.Document.{IsDocument};
 ghost use Rattle.json_patch.specs.Exchange.{AreFitting, Exchanges, ExchangesIn, FindsAt, FindsRoot, FindsWhere, Fits};
-ghost use Rattle.json_patch.specs.Exchange.{IsLight, IsRead, IsRemoving, IsSwapping, is_removable, is_swappable};
-ghost use Rattle.json_patch.specs.Exchange.{swapped, made, made_root, made_where, room};
+ghost use Rattle.json_patch.specs.Exchange.{IsLight, IsRead, IsRemoving, IsSwapping, IsUnmarkedFor, is_removable};
+ghost use Rattle.json_patch.specs.Exchange.{is_swappable, swapped, made, made_root, made_where, room};
 ghost use Rattle.json_patch.specs.declared.edits.Edit.TheVariants.{Clear, Insert, Remove, Swap, Sweep, Take, Undo};
 ghost use Rattle.json_patch.specs.declared.edits.Found.TheVariants.{Former, Nothing, Taken};
 ghost use Rattle.json_patch.specs.NoMemory.{AreUnescaped, NeverShort};
@@ -28,7 +29,7 @@ pub(crate) enum Edit {
     Insert,
     /// Takes away what stands there and leaves a mark, which is the caller's value.
     Take,
-    /// Takes away what stands there, and leaves no mark.
+    /// Takes away what stands there, and leaves no mark. It is made where there is none.
     Remove,
     /// Puts the value in place of what stands there.
     Swap,
@@ -127,7 +128,8 @@ pub(crate) fn make(
     edit: Edit,
     value: &mut Value,
 ) -> Result<Found, StepFault>
-    requires { IsMarked (view doc.old) }
+    requires marked { IsMarked (view doc.old) }
+    requires unmarked { IsUnmarkedFor edit (view doc.old) }
     ensures makes { Exchanges result
         (made_where edit (view value.old) (view doc.old) (tokens_of path.entry))
         (FindsWhere edit (view doc.old) (tokens_of path.entry))
@@ -170,7 +172,8 @@ fn edit_at(
     edit: Edit,
     value: &mut Value,
 ) -> Result<Found, StepFault>
-    requires { IsMarked (view target.old) }
+    requires marked { IsMarked (view target.old) }
+    requires unmarked { IsUnmarkedFor edit (view target.old) }
     ensures makes { Exchanges result
         (after_change (made edit (view value.old) (token_of last.entry)) (view target.old) (tokens_left parent.entry))
         (FindsAt edit (view target.old) (tokens_left parent.entry) (token_of last.entry))
@@ -206,7 +209,8 @@ fn edit_in(
     edit: Edit,
     value: &mut Value,
 ) -> Result<Found, StepFault>
-    requires { IsMarked (view container.old) }
+    requires marked { IsMarked (view container.old) }
+    requires unmarked { IsUnmarkedFor edit (view container.old) }
     ensures makes { ExchangesIn result edit (token_of token.entry)
         (view container.old) (view container.new) (view value.old) (view value.new) }
     ensures no_memory { IsLight edit → Fits (room names.old) (token_of token.entry) → NeverShort result }
@@ -226,7 +230,8 @@ fn edit_members(
     edit: Edit,
     value: &mut Value,
 ) -> Result<Found, StepFault>
-    requires { AreMarkedMembers (members_view members.old.entries) }
+    requires marked { AreMarkedMembers (members_view members.old.entries) }
+    requires unmarked { IsUnmarkedFor edit (object (members_view members.old.entries)) }
     ensures makes { ExchangesIn result edit (token_of token.entry)
         (object (members_view members.old.entries)) (object (members_view members.new.entries))
         (view value.old) (view value.new) }
@@ -239,9 +244,8 @@ fn edit_members(
     let decoded = names.decode(token)?;
     let name = names.name(token, decoded);
     match edit {
-        Edit::Remove | Edit::Clear | Edit::Undo(Found::Nothing) => {
-            remove_member(members, name, edit, value)
-        }
+        Edit::Remove => remove_value(members, name, value),
+        Edit::Clear | Edit::Undo(Found::Nothing) => remove_member(members, name, edit, value),
         Edit::Sweep => sweep_member(members, name),
         _ => swap_member(members, name, edit, value),
     }
@@ -269,6 +273,25 @@ fn insert_member(
             Err(StepFault::Memory(AllocError))
         }
     }
+}
+
+/// Takes away the member. None is a mark, so the one that goes needn't be looked at first.
+fn remove_value(
+    members: &mut Map<String, Value>,
+    name: &str,
+    value: &mut Value,
+) -> Result<Found, StepFault>
+    requires { IsDocument (object (members_view members.old.entries)) }
+    ensures makes { ExchangesIn result Remove name.now
+        (object (members_view members.old.entries)) (object (members_view members.new.entries))
+        (view value.old) (view value.new) }
+    ensures no_memory { NeverShort result }
+{
+    let Some(member) = members.remove(name) else {
+        return Err(StepFault::Refused(PatchErrorKind::InvalidPointer));
+    };
+    *value = member;
+    Ok(Found::Taken)
 }
 
 /// Takes away the member, where the edit takes this one.

@@ -9,7 +9,7 @@ ghost use Rattle.jsonptr.specs.Text.{IsProperPrefix};
 ghost use Rattle.json_patch.specs.Attempt.{ComesTo, FailsAs};
 ghost use Rattle.json_patch.specs.ChangeComputed.{pointee};
 ghost use Rattle.json_patch.specs.Document.{IsDocument};
-ghost use Rattle.json_patch.specs.Exchange.{AreFitting, room};
+ghost use Rattle.json_patch.specs.Exchange.{AreFitting, IsUnmarkedFor, room};
 ghost use Rattle.json_patch.specs.NoMemory.{AreUnescaped, NeverShort};
 ghost use Rattle.json_patch.specs.InverseComputed.{block, undo_add};
 ghost use Rattle.json_patch.specs.Logged.{AreRoomy, IsFor, IsFree, IsKept, IsRoomy, IsTakenFrom, IsTest, IsUndone, Keeps};
@@ -114,6 +114,7 @@ impl<'a> Log<'a> {
     ) -> Result<(), StepFault>
         requires marked { IsValue (view doc.old) }
         requires document { IsDocument (seen (view doc.old)) }
+        requires alone { keep ≡ Nothing → IsDocument (view doc.old) }
         requires whole { IsWholeOp (operation_of operation.now) }
         ensures comes { ComesTo result (after_step (seen (view doc.old)) (operation_of operation.now))
             (seen (view doc.new)) }
@@ -160,6 +161,7 @@ impl<'a> Log<'a> {
     ) -> Result<(), StepFault>
         requires marked { IsValue (view doc.old) }
         requires value { IsFor edit (view value) }
+        requires alone { keep ≡ Nothing → IsDocument (view doc.old) }
         ensures comes { ComesTo result
             (after_step (seen (view doc.old)) (operation_at edit (tokens_of path.entry) (view value)))
             (seen (view doc.new)) }
@@ -186,6 +188,7 @@ impl<'a> Log<'a> {
     ) -> Result<(), StepFault>
         requires marked { IsValue (view doc.old) }
         requires value { IsFor edit (view value) }
+        requires document { IsDocument (view doc.old) }
         ensures comes { ComesTo result
             (after_step (seen (view doc.old)) (operation_at edit (tokens_of path.entry) (view value)))
             (seen (view doc.new)) }
@@ -246,7 +249,8 @@ impl<'a> Log<'a> {
         value: &mut Value,
         keep: Keep,
     ) -> Result<(), StepFault>
-        requires { IsValue (view doc.old) }
+        requires marked { IsValue (view doc.old) }
+        requires unmarked { IsUnmarkedFor edit (view doc.old) }
         ensures logs { LogsEdit result edit keep path.entry from.entry self.old self.new
             (view doc.old) (view doc.new) (view value.old) (view value.new) }
         ensures grows { room self.old.names ≤ room self.new.names }
@@ -266,7 +270,7 @@ impl<'a> Log<'a> {
     }
 }
 
-/// The edit that leaves no mark.
+/// The edit that leaves no mark, for a document that has none.
 fn lasting(edit: Edit) -> Edit
     ensures { result ≡ lasting edit }
 {

@@ -1,7 +1,9 @@
 use Rattle.json_patch.proofs.Common.{◌≡◌, ◌+◌, ◌<◌, ◌++◌, ◌∙◌, ◌⊎◌, inl, inr, Ok, Vec, Global, length, true, refl, sym}
-use Rattle.json_patch.proofs.Common.{ap, rules, arith, ⊎_elim, view, operation_of, block, PatchOperation}
+use Rattle.json_patch.proofs.Common.{ap, rules, arith, [], ⊎_elim, view, operation_of, block, PatchOperation}
+use Rattle.std.proofs.lemmas.Bool.{eqb-true}
+use Rattle.std.proofs.lemmas.List.{nil_from_length}
 use Rattle.json_patch.proofs.LoggedEdits.{document_marks, logs_counts, logs_kept}
-use Rattle.json_patch.proofs.LoggedRuns.{kept_inverse, kept_last, kept_open}
+use Rattle.json_patch.proofs.LoggedRuns.{kept_alone, kept_inverse, kept_last, kept_open}
 use Rattle.json_patch.proofs.MarkedRuns.{document_seen, document_value}
 use Rattle.json_patch.proofs.ProgramRuns.{free_at, inverse_more, not_stopped, reported_names, state_document, test_at}
 use Rattle.json_patch.proofs.ProgramRuns.{state_more, whole_at}
@@ -24,6 +26,15 @@ loop-number-init c =
 
 pub step-requires-clause-document : goal.step-requires-clause-document
 step-requires-clause-document c = state_document (view c.args.doc.now) (seen (view c.loop-number.doc)) c.args.patch.now c.loop-number.number c.requires.document c.requires.whole c.loop-number.invariant.state
+
+-- where nothing is logged, the document is the first one
+pub step-requires-clause-alone : goal.step-requires-clause-alone
+step-requires-clause-alone c = λ nothing.
+    let first = kept_alone c.args.keep c.at-kept.result _ _ c.at-kept.ensures c.requires.kept nothing in
+    let count = eqb-true _ _ (sym c.is_empty.ensures ∙ first) in
+    let none : c.loop-number.log.changes.items ≡ [] = nil_from_length _ (omega (arith, count)) in
+    let same = rw none at (c.loop-number.invariant.leads (inl c.loop-number-test.true)).1 in
+    rw same c.requires.document
 
 pub step-requires-clause-whole : goal.step-requires-clause-whole
 step-requires-clause-whole c = whole_at c.args.patch.now c.loop-number.number c.index-patch-number.result c.loop-number-test.true c.index-patch-number.is c.requires.whole

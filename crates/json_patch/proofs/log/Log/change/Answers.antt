@@ -1,6 +1,10 @@
 use Rattle.json_patch.proofs.Common.{view}
 use Rattle.json_patch.proofs.LoggedEdits.{edit_comes, edit_keeps, edit_logs, edit_value, logs_as}
+use Rattle.json_patch.proofs.Unmarked.{unmarked_logged}
 use Rattle.json_patch.proofs.log.Log.change.Goals as goal
+
+pub log_edit-requires-clause-unmarked : goal.log_edit-requires-clause-unmarked
+log_edit-requires-clause-unmarked c = unmarked_logged c.args.edit (view c.args.value) _ c.requires.value
 
 pub returns-clause-comes : goal.returns-clause-comes
 returns-clause-comes c = edit_comes _ c.args.edit c.args.keep c.args.path _ _ _ _ (view c.args.value) _ c.requires.value c.requires.marked c.log_edit.ensures.logs

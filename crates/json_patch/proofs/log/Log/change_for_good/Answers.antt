@@ -1,7 +1,11 @@
 use Rattle.json_patch.proofs.Common.{Ok, Err, refl, view, tokens_of}
 use Rattle.json_patch.proofs.Exchanges.{unescaped_fit}
 use Rattle.json_patch.proofs.LoggedEdits.{lasting_comes, lasting_counts, lasting_value, logs_none}
+use Rattle.json_patch.proofs.Unmarked.{unmarked_whole}
 use Rattle.json_patch.proofs.log.Log.change_for_good.Goals as goal
+
+pub make-requires-clause-unmarked : goal.make-requires-clause-unmarked
+make-requires-clause-unmarked c = unmarked_whole c.lasting.result _ c.requires.document
 
 pub returns-in-Ok-clause-comes : goal.returns-in-Ok-clause-comes
 returns-in-Ok-clause-comes c = lasting_comes (Ok c.in-Ok._found) c.args.edit (tokens_of c.args.path) (view c.args.doc.now) (view c.make.new.doc) (view c.args.value) (view c.make.new.value) c.requires.value c.requires.marked (rw c.lasting.ensures at c.in-Ok.ensures.makes)

@@ -8,11 +8,11 @@ use Rattle.json_patch.proofs.log.Log.relocate.Goals as goal
 pub returns-in_err-value-clause-logs : goal.returns-in_err-value-clause-logs
 returns-in_err-value-clause-logs c = logs_as c.from_residual.result c.args.keep _ _ _ _ (logs_none _ _ _ _ c.in_err-value.ensures.grows refl c.in_err-value.ensures.unchanged)
 
-pub log_edit-requires : goal.log_edit-requires
-log_edit-requires c = source_value _ _ (view c.in_ok-value.value) c.args.from c.args.path c.requires.marked c.in_ok-value.ensures.taken
+pub log_edit-requires-clause-marked : goal.log_edit-requires-clause-marked
+log_edit-requires-clause-marked c = source_value _ _ (view c.in_ok-value.value) c.args.from c.args.path c.requires.marked c.in_ok-value.ensures.taken
 
-pub make-requires : goal.make-requires
-make-requires c = (move_value _ _ (view c.in_ok-value.value) c.args.from c.args.path c.requires.marked c.in_ok-value.ensures.taken (Err c.in-Err.fault) c.args.keep (record { names = c.take_source.new.names; changes = c.args.self.now.changes }) c.log_edit.new.self (view c.log_edit.new.doc) (view c.log_edit.new.value) c.in-Err.ensures.logs).0
+pub make-requires-clause-marked : goal.make-requires-clause-marked
+make-requires-clause-marked c = (move_value _ _ (view c.in_ok-value.value) c.args.from c.args.path c.requires.marked c.in_ok-value.ensures.taken (Err c.in-Err.fault) c.args.keep (record { names = c.take_source.new.names; changes = c.args.self.now.changes }) c.log_edit.new.self (view c.log_edit.new.doc) (view c.log_edit.new.value) c.in-Err.ensures.logs).0
 
 pub unreachable-requires : goal.unreachable-requires
 unreachable-requires c =
