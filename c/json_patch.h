@@ -86,7 +86,7 @@ typedef struct {
  * - It is not called from a signal handler, nor in the forked child of a process with threads.
  * - malloc, realloc and free are of one allocator, and align a block to each power of two up to 16
  *   that divides its size.
- * - The stack has room: for some 20 kB, and 900 bytes for each level of a document, which is gone
+ * - The stack has room: for some 20 kB, and 700 bytes for each level of a document, which is gone
  *   through by recursion (a text has at most 127 levels, but a patch can nest what it copies or moves
  *   deeper).
  *
