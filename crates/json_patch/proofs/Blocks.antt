@@ -102,8 +102,6 @@ pub inverse_length : (ops : List Operation) (d : Data) → length (inverse d ops
 inverse_length [] d = omega arith
 inverse_length (op ∷ ops) d = search (rules, length-append, inverse_length ops)
 
--- ---- the blocks and the inverse that are computed are those that the definitions name, and no others are
-
 -- ---- a last token as a number
 
 pub settled : (t : List ℕ) (ds : Items) (i : ℕ) → Aims (array ds) t (place i) → place_of (settled_token (Some (array ds)) t) ≡ Some i
@@ -187,9 +185,7 @@ pub inverse_accepted : (d : Data) (ops : List Operation) (I : List Operation) �
 inverse_accepted d [] I h = (d, refl)
 inverse_accepted d (op ∷ ops) I h = let i : (e : Data) × Accepts h.0 ops e = inverse_accepted h.0 ops h.1 h.4 in (i.0, (h.0, h.3, i.1))
 
--- ---- the inverse in the words of the definitions
-
--- ---- what is computed, both ways
+-- ---- the blocks and the inverse that are computed are those that the definitions name, and no others are
 
 module _ (d : Data) (op : Operation) (hd : IsDocument d) (hv : IsWholeOp op) where
   pub step_left : (e : Data) → Leaves d op e ↔ (after_step d op ≡ Ok e)

@@ -88,8 +88,6 @@ put_taken t (array ds) w (place i) h names is =
     ∙ ap (λ x. Some (array x)) (insert_remove i w ds is)
 put_taken t p w s h names is = search (rules, put_without)
 
--- ---- each operation's block gives back the document before it
-
 -- ---- pointers in two parts
 
 pub altered_append : (f : Data → Option Data) (d : Data) (P Q : Pointer) → after_change f d (P ++ Q) ≡ after_change (λ c. after_change f c Q) d P

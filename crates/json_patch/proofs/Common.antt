@@ -50,7 +50,7 @@ pub use Rattle.json_patch.specs.ChangeComputed.{last_of, drop_child, take_from, 
 pub use Rattle.json_patch.specs.ChangeComputed.{after_add, put_in, insert_item, set_item, slot_in, slot_of}
 pub use Rattle.json_patch.specs.Document.{Segment, child, IsDocument, key, place, look, sight, value_at, AreMembers}
 pub use Rattle.json_patch.specs.Document.{IsBelowMembers, AreDocuments, sight_of}
-pub use Rattle.json_patch.specs.Filled.{IsFilled, IsFilledMember, by_key, stays, left, fills, Fills, FillsAt, Logs}
+pub use Rattle.json_patch.specs.Filled.{IsFilled, IsFilledMember, by_key, stays, left, fills, Fills, FillsAt, LogsMember}
 pub use Rattle.json_patch.specs.Filled.{IsPrunedMember, ArePruned, with_member, former_value, restore_members}
 pub use Rattle.json_patch.specs.Filled.{members_before, Prunes}
 pub use Rattle.json_patch.specs.NoMemory.{TakeNoMemory, AreTestsThenRemove, AreUnescaped, TakesNoMemory, IsUnescaped}
@@ -61,7 +61,7 @@ pub use Rattle.json_patch.specs.InverseComputed.{settled_token, undo_at}
 pub use Rattle.json_patch.specs.Merged.{IsMerged, IsMergedMember, goes, merges, replaces}
 pub use Rattle.json_patch.specs.MergedComputed.{after_merge, members_after_merge, members_of}
 pub use Rattle.json_patch.specs.Operation.{Operation, test, IsWholeOp, AreWhole, operation_of, operations, add, move}
-pub use Rattle.json_patch.specs.Operation.{remove, replace, copy, path_of, from_of, Parts, parts_of, IsMove}
+pub use Rattle.json_patch.specs.Operation.{remove, replace, copy, path_of, from_of, Parts, parts_of}
 pub use Rattle.json_patch.specs.PartsView.{parts_view}
 pub use Rattle.json_patch.specs.PatchValue.{IfUnreadAlone, OfKind, ReadsItems, ReadsOperation, ReadsPatch, RefusesItem}
 pub use Rattle.json_patch.specs.PatchValue.{RefusesFields, RefusesOperation, name_of, field_names, IsObject, Lacks}
@@ -92,7 +92,7 @@ pub use Rattle.json_patch.specs.declared.error.ReadKind.TheVariants.{NotAnObject
 pub use Rattle.json_patch.specs.declared.error.ReadKind.TheVariants.{ValueNotWhole}
 pub use Rattle.json_patch.specs.declared.error.StepFault.{StepFault}
 pub use Rattle.json_patch.specs.declared.error.StepFault.TheVariants.{Refused}
-pub use Rattle.json_patch.specs.declared.merging.Former.{Filled, Nothing, Replaced, fold-Former}
+pub use Rattle.json_patch.specs.declared.merging.Before.{Absent, Filled, Replaced, fold-Before}
 pub use Rattle.json_patch.specs.declared.operation.PatchOperation.{PatchOperation}
 pub use denote.Shadow.{shadow}
 pub use denote.Text.{Utf8}

@@ -79,8 +79,6 @@ pub swaps_item : (t : List ℕ) (m : Vec Value Global) (len i : ℕ) (v w x : Va
     → after_change (λ c. Some (view v)) (array (items_view m.items)) (t ∷ []) ≡ Some (array (items_view (set m.items i w)))
 swaps_item t m len i v w x e at is same = rw (at.1, item_child t m len i x e at is, ← same) (ap (λ ds. Some (array ds)) (sym (items_view-set m.items i w)))
 
--- ---- maps
-
 -- ---- the item that a token names, and the place at which it puts a new one, by the index that is read of it
 
 -- a refusal that `?` made of an index's
@@ -115,8 +113,6 @@ slot_within t index len n h is le = search (rules, not_next, bytes_eq, place_is_
 abbrev pub within : (Data → Option Data) → List ℕ → Data → Option Data
 within f t d = option_and_then (λ s. option_and_then (λ c. option_map (λ e. set_child s e d) (f c)) (child s d)) (segment_of d t)
 
--- ---- at a child that is there
-
 -- ---- at values
 
 pub walks_to_item : {T : Type 0} (r : Result T StepFault) (wanted : Option Data) (f : Data → Option Data) (t : List ℕ) (old new : Value) (m : Vec Value Global) (len i : ℕ) (v w : Value)
@@ -147,8 +143,6 @@ found_at_item t P rest old m len i v way o e at is = search (rules, view-Array, 
 
 pub found_at_member : (t : List ℕ) (P rest : Pointer) (old : Value) (m : BTreeMap (String Global) Value) (v : Value) → P ≡ t ∷ rest → old ≡ Object m → Some v ≡ lookup (is_named t) m.entries → pointee (view old) P ≡ pointee (view v) rest
 found_at_member t P rest old m v way o is = search (rules, view-Object, member_child)
-
--- ---- an edit of the members
 
 -- ---- where nothing stands
 

@@ -23,8 +23,6 @@ use Rattle.json_patch.proofs.BlocksLeadBack.{found_document}
 use Rattle.json_patch.proofs.Blocks.{inverse_is, inverse_only, inverse_accepted}
 use Rattle.json_patch.proofs.Parents.{undo_add_in}
 
--- ---- a run that is about one part of the document changes that part alone, as the run without the shared beginning changes it
-
 -- ---- one part replaced, and again
 
 set_set : (s : Segment) (d c b a : Data) → IsDocument d → IsDocument b → IsDocument a → child s d ≡ Some c → set_child s a (set_child s b d) ≡ set_child s a d
@@ -214,9 +212,7 @@ ran_under d S b [] hd hv at within = (found_document d S b hd at, (d, replaced_i
 ran_under d S b (op ∷ ops) hd hv at within =
     on_step d S b op ops (after_step b (strip S op)) hd hv.0 at within.0 refl (λ x m hx here. ran_under x S m ops hx hv.1 here within.1)
 
--- ---- locality in the words of the definitions
-
--- ---- one step
+-- ---- one step, in the words of the definitions
 
 module _ (d : Data) (S : Pointer) (b : Data) (op : Operation) (hd : IsDocument d) (hv : IsWholeOp op) (at : StandsAt d S b) (within : IsWithin S op) where
   pub local_leaves : (e : Data) → Leaves b (strip S op) e → (x : Data) × IsReplaced d S e x × Leaves d op x
@@ -293,9 +289,7 @@ location_stays d S L b ops x hd hv h within acc =
     let he : IsDocument g.0 = accepts_document b (strip_all S ops) g.0 (stands_document d S b hd (L, h)) (all_whole_stripped S ops hv) g.1 in
     (g.0, resolves_replaced d S L b g.0 x h (replaced_exact d S g.0 x hd he g.2))
 
--- ---- what undoes a step or a run below a pointer is what undoes it on what stands there, with the pointer's tokens in front
-
--- ---- an add
+-- ---- what undoes an add
 
 with_under : {X : Type 0} (S : Pointer) (o : Option X) (f g : X → List Operation) → ((w : X) → o ≡ Some w → f w ≡ extend_all S (g w)) → with_found o f ≡ extend_all S (with_found o g)
 with_under S o f g h = search rules

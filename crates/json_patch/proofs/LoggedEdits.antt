@@ -10,7 +10,7 @@ use Rattle.json_patch.specs.ChangeComputed.{pointee, after_remove, last_of}
 use Rattle.json_patch.specs.Exchange.{AreFitting, Exchanges, Finds, FindsWhere, made_where, room}
 use Rattle.json_patch.specs.InverseComputed.{block, undo_add}
 use Rattle.json_patch.specs.Logged.{IsFor, IsKept, IsKeptBack, IsLogged, IsRoomy, IsTakenFrom, IsUndone, Keeps, Logs}
-use Rattle.json_patch.specs.Logged.{LogsEdit, kept_block, kept_blocks, place_of, put_back, takes, taken, held, LogsAs}
+use Rattle.json_patch.specs.Logged.{LogsEdit, kept_block, kept_blocks, place_undone, put_back, takes, taken, held, LogsAs}
 use Rattle.json_patch.specs.Logged.{Counts, lasting}
 use Rattle.json_patch.specs.Marked.{IsMarked, IsValue, seen, the_mark}
 use Rattle.json_patch.specs.MarkedComputed.{marks, marks_items, marks_members}
@@ -25,7 +25,7 @@ use Rattle.json_patch.specs.declared.edits.Found.TheVariants.{Nothing, Former, T
 use Rattle.json_patch.specs.declared.error.StepFault.TheVariants.{Memory}
 use Rattle.json_patch.specs.declared.log.Change.{Change}
 use Rattle.json_patch.specs.declared.log.Keep.{Keep}
-use Rattle.json_patch.specs.declared.log.Keep.TheVariants.{Inverse, Undo as undo_alone, Nothing as keep_nothing}
+use Rattle.json_patch.specs.declared.log.Keep.TheVariants.{Inverse, Undo as undo_alone, Neither}
 use Rattle.json_patch.specs.declared.log.Kept.{Kept}
 use Rattle.json_patch.specs.declared.log.Log.{Log}
 use Rattle.json_patch.proofs.Logged.{leads_pushed, roomy_more, roomy_pushed}
@@ -122,7 +122,7 @@ logs_one olds news c d e grows ends fits undone counted = record {
 
 -- ---- what the inverse says
 
-place_same : (edit : Edit) (d : Data) (P : Pointer) (v : Data) → place_of edit d P ≡ place_to_undo d (operation_at edit P v)
+place_same : (edit : Edit) (d : Data) (P : Pointer) (v : Data) → place_undone edit d P ≡ place_to_undo d (operation_at edit P v)
 place_same Insert d P v = refl
 place_same Swap d P v = refl
 place_same edit d P v = refl
@@ -199,22 +199,22 @@ module _ (r : Result (Unit {0}) StepFault) (edit : Edit) (keep : Keep) (P : Poin
   edit_keeps = by_result r h
     where
       by_result : (r : Result (Unit {0}) StepFault) → LogsEdit r edit keep P None olds news d e v w → IfOk r (λ x. Keeps keep olds news (block (seen d) (operation_at edit (tokens_of P) v)))
-      by_result (Ok x) g = λ is. kept_one olds news g.0 (place_of edit (seen d) (tokens_of P)) None v _ g.1.ends (rw is at g.1.kept)
+      by_result (Ok x) g = λ is. kept_one olds news g.0 (place_undone edit (seen d) (tokens_of P)) None v _ g.1.ends (rw is at g.1.kept)
           (edit_undoes edit v v d e (tokens_of P) g.0.found (view g.0.value) (suits edit v hv) hd g.1.finds g.1.makes ∙ ap (λ Q. undo_found Q g.0.found (view g.0.value) ∷ []) (sym (place_same edit (seen d) (tokens_of P) v)))
       by_result (Err fault) g = tt
 
 -- ---- what isn't undone
 
 pub logs_as : (r : Result (Unit {0}) StepFault) (keep : Keep) (olds news : Log) (d e : Data) → Logs olds news d e → LogsAs r keep olds news d e
-logs_as (Ok x) keep_nothing olds news d e l = l.counts
+logs_as (Ok x) Neither olds news d e l = l.counts
 logs_as r keep olds news d e l = search rules
 
-pub logs_kept : (r : Result (Unit {0}) StepFault) (keep : Keep) (olds news : Log) (d e : Data) → (keep ≡ keep_nothing → ⊥) → LogsAs r keep olds news d e → Logs olds news d e
-logs_kept (Ok x) keep_nothing olds news d e kept l = absurd (kept refl)
+pub logs_kept : (r : Result (Unit {0}) StepFault) (keep : Keep) (olds news : Log) (d e : Data) → (keep ≡ Neither → ⊥) → LogsAs r keep olds news d e → Logs olds news d e
+logs_kept (Ok x) Neither olds news d e kept l = absurd (kept refl)
 logs_kept r keep olds news d e kept l = search rules
 
 pub logs_counts : (r : Result (Unit {0}) StepFault) (keep : Keep) (olds news : Log) (d e : Data) → LogsAs r keep olds news d e → Counts olds news d e
-logs_counts (Ok x) keep_nothing olds news d e l = l
+logs_counts (Ok x) Neither olds news d e l = l
 logs_counts (Ok x) Inverse olds news d e l = l.counts
 logs_counts (Ok x) undo_alone olds news d e l = l.counts
 logs_counts (Err fault) keep olds news d e l = l.counts

@@ -7,11 +7,9 @@ use Rattle.json_patch.specs.Marked.{IsSeen, seen}
 use Rattle.json_patch.specs.MarkedComputed.{marks}
 use Rattle.json_patch.specs.declared.log.Change.{Change}
 use Rattle.json_patch.specs.declared.log.Keep.{Keep}
-use Rattle.json_patch.specs.declared.log.Keep.TheVariants.{Inverse, Undo, Nothing}
+use Rattle.json_patch.specs.declared.log.Keep.TheVariants.{Inverse, Undo, Neither}
 use Rattle.json_patch.specs.NoMemory.{TakesNoMemory}
 use Rattle.json_patch.specs.declared.log.Log.{Log}
-
--- ---- counting
 
 -- ---- marks that go
 
@@ -26,27 +24,27 @@ all_gone p d h none = sym (unmarked_seen p none) ∙ h.is
 pub kept_inverse : (keep : Keep) (last empty : Bool) → keep ≡ Inverse → kept_at keep last empty ≡ Inverse
 kept_inverse keep last empty is = rw is refl
 
-pub kept_open : (keep kept : Keep) (last empty : Bool) → kept ≡ kept_at keep last empty → (keep ≡ Nothing → ⊥) → (last ≡ false) ⊎ (keep ≡ Inverse) → kept ≡ Nothing → ⊥
-kept_open Nothing kept last empty is some undone none = absurd (some refl)
-kept_open Inverse kept last empty is some undone none = let e : Inverse ≡ Nothing = sym is ∙ none in cc
+pub kept_open : (keep kept : Keep) (last empty : Bool) → kept ≡ kept_at keep last empty → (keep ≡ Neither → ⊥) → (last ≡ false) ⊎ (keep ≡ Inverse) → kept ≡ Neither → ⊥
+kept_open Neither kept last empty is some undone none = absurd (some refl)
+kept_open Inverse kept last empty is some undone none = let e : Inverse ≡ Neither = sym is ∙ none in cc
 kept_open Undo kept true empty is some (inl other) none = cc
 kept_open Undo kept true empty is some (inr other) none = cc
-kept_open Undo kept false empty is some undone none = let e : Undo ≡ Nothing = sym is ∙ none in cc
+kept_open Undo kept false empty is some undone none = let e : Undo ≡ Neither = sym is ∙ none in cc
 
-pub kept_last : (keep kept : Keep) (last empty : Bool) → kept ≡ kept_at keep last empty → keep ≡ Undo → last ≡ true → empty ≡ true → kept ≡ Nothing
+pub kept_last : (keep kept : Keep) (last empty : Bool) → kept ≡ kept_at keep last empty → keep ≡ Undo → last ≡ true → empty ≡ true → kept ≡ Neither
 kept_last keep kept last empty is undo so none = is ∙ rw (undo, so, none) refl
 
 -- what nothing is kept of comes first
-pub kept_alone : (keep kept : Keep) (last empty : Bool) → kept ≡ kept_at keep last empty → (keep ≡ Nothing → ⊥) → kept ≡ Nothing → empty ≡ true
-kept_alone Nothing kept last empty is some none = absurd (some refl)
-kept_alone Inverse kept last empty is some none = let e : Inverse ≡ Nothing = sym is ∙ none in cc
+pub kept_alone : (keep kept : Keep) (last empty : Bool) → kept ≡ kept_at keep last empty → (keep ≡ Neither → ⊥) → kept ≡ Neither → empty ≡ true
+kept_alone Neither kept last empty is some none = absurd (some refl)
+kept_alone Inverse kept last empty is some none = let e : Inverse ≡ Neither = sym is ∙ none in cc
 kept_alone Undo kept true true is some none = refl
-kept_alone Undo kept true false is some none = let e : Undo ≡ Nothing = sym is ∙ none in cc
-kept_alone Undo kept false empty is some none = let e : Undo ≡ Nothing = sym is ∙ none in cc
+kept_alone Undo kept true false is some none = let e : Undo ≡ Neither = sym is ∙ none in cc
+kept_alone Undo kept false empty is some none = let e : Undo ≡ Neither = sym is ∙ none in cc
 
 -- ---- a single operation
 
-pub free_alone : (op : Operation) → TakesNoMemory op → IsFree op Nothing
+pub free_alone : (op : Operation) → TakesNoMemory op → IsFree op Neither
 free_alone op h = search rules
 
 pub counted_alone : (olds news : Log) (d e : Data) (cs : List Change) → olds.changes.items ≡ [] → news.changes.items ≡ cs → marks d ≡ 0 → Counts olds news d e → marks e + held cs ≤ takes cs

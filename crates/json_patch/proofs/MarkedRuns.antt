@@ -42,8 +42,6 @@ mutual
 pub document_value : (v : Data) → IsDocument v → IsValue v
 document_value v h = (document_marked v h, document_is v h)
 
--- ---- equality
-
 -- ---- what is shown
 
 pointee_marked : (p c : Data) (P : Pointer) → IsMarked p → pointee p P ≡ Some c → IsMarked c

@@ -7,15 +7,15 @@ use Rattle.json_patch.proofs.Common.{IsOk, Bool, true, false, is_some, suc, ◌+
 use Rattle.json_patch.proofs.Common.{unwrap_or, Ordering, nat_cmp, refl, map-append, slice_cmp, null, object}
 use Rattle.json_patch.proofs.Common.{no_members, get, as_null, as_object, Object, the_lemmas, members_view-insert_entry}
 use Rattle.json_patch.proofs.Common.{view-lookup, view-Object, sight_of, key, IsFilled, IsFilledMember, by_key, stays}
-use Rattle.json_patch.proofs.Common.{left, fills, Fills, FillsAt, Logs, IsPrunedMember, ArePruned, with_member}
+use Rattle.json_patch.proofs.Common.{left, fills, Fills, FillsAt, LogsMember, IsPrunedMember, ArePruned, with_member}
 use Rattle.json_patch.proofs.Common.{former_value, restore_members, members_before, ⊤, AllocError, insert_entry}
-use Rattle.json_patch.proofs.Common.{match_ordering, Sight, Prunes, IsMerged, members_of, Filled, Replaced, Nothing}
-use Rattle.json_patch.proofs.Common.{fold-Former}
+use Rattle.json_patch.proofs.Common.{match_ordering, Sight, Prunes, IsMerged, members_of, Filled, Replaced, Absent}
+use Rattle.json_patch.proofs.Common.{fold-Before}
 use Rattle.std.proofs.Common.{string_cmp, IsErr}
 use Rattle.json_patch.specs.Filled.{replaces}
 use Rattle.std.specs.Borrow.{Bor}
-use Rattle.json_patch.specs.declared.merging.Former.{Former, the_lemmas as of_formers}
-use Rattle.json_patch.specs.declared.merging.Former.TheOpen.{Former-F}
+use Rattle.json_patch.specs.declared.merging.Before.{Before, the_lemmas as of_formers}
+use Rattle.json_patch.specs.declared.merging.Before.TheOpen.{Before-F}
 use Rattle.json_patch.proofs.Members.{below_absent, found_first, skips, put_members, without_members, get_without}
 use Rattle.json_patch.proofs.Members.{get_without_other, member_document}
 use Rattle.json_patch.proofs.Writes.{is_named, AreInOrder, members_view-remove_entry, members_view-set_value}
@@ -164,24 +164,24 @@ restored_last : (log : List (Bor (List ℕ) × (Option Data → Option Data))) (
 restored_last [] e ms = refl
 restored_last (f ∷ log) e ms = ap (λ ns. with_member f.0.now (f.1 (get_member f.0.now ns)) ns) (restored_last log e ms)
 
-pub before_last : (log : List (Bor (List ℕ) × Former)) (e : Bor (List ℕ) × Former) (ms : Members) → members_before (log ++ e ∷ []) ms ≡ members_before log (with_member e.0.now (former_value e.1 (get_member e.0.now ms)) ms)
-before_last log e ms = ap (λ l. restore_members l ms) (map-append (λ (f : Bor (List ℕ) × Former). (f.0, former_value f.1)) log (e ∷ [])) ∙ restored_last (map (λ (f : Bor (List ℕ) × Former). (f.0, former_value f.1)) log) (e.0, former_value e.1) ms
+pub before_last : (log : List (Bor (List ℕ) × Before)) (e : Bor (List ℕ) × Before) (ms : Members) → members_before (log ++ e ∷ []) ms ≡ members_before log (with_member e.0.now (former_value e.1 (get_member e.0.now ms)) ms)
+before_last log e ms = ap (λ l. restore_members l ms) (map-append (λ (f : Bor (List ℕ) × Before). (f.0, former_value f.1)) log (e ∷ [])) ∙ restored_last (map (λ (f : Bor (List ℕ) × Before). (f.0, former_value f.1)) log) (e.0, former_value e.1) ms
 
 -- ---- a member is put back
 
-pub puts_back : (t : List ℕ) (es new : List Entry) (f : Former) (d w : Value) → AreInOrder es → Some d ≡ lookup (is_named t) es → new ≡ set_value (is_named t) es w → former_value f (Some (view d)) ≡ Some (view w)
+pub puts_back : (t : List ℕ) (es new : List Entry) (f : Before) (d w : Value) → AreInOrder es → Some d ≡ lookup (is_named t) es → new ≡ set_value (is_named t) es w → former_value f (Some (view d)) ≡ Some (view w)
     → members_view new ≡ with_member t (former_value f (get_member t (members_view es))) (members_view es)
 puts_back t es new f d w order found is back = search (rules, view-lookup t es, members_view-set_value t es w d order (sym found), view-lookup, members_view-set_value)
 
-pub puts_nothing_back : (t : List ℕ) (es new : List Entry) (f : Former) → None ≡ lookup (is_named t) es → new ≡ es → former_value f None ≡ None
+pub puts_nothing_back : (t : List ℕ) (es new : List Entry) (f : Before) → None ≡ lookup (is_named t) es → new ≡ es → former_value f None ≡ None
     → members_view new ≡ with_member t (former_value f (get_member t (members_view es))) (members_view es)
 puts_nothing_back t es new f found is back = search (rules, view-lookup, without_absent)
 
-pub takes_out : (t : List ℕ) (es new : List Entry) (f : Former) → new ≡ remove_entry (is_named t) es → ((o : Option Data) → former_value f o ≡ None)
+pub takes_out : (t : List ℕ) (es new : List Entry) (f : Before) → new ≡ remove_entry (is_named t) es → ((o : Option Data) → former_value f o ≡ None)
     → members_view new ≡ with_member t (former_value f (get_member t (members_view es))) (members_view es)
 takes_out t es new f is back = ap members_view is ∙ members_view-remove_entry t es ∙ ap (λ o. with_member t o (members_view es)) (sym (back (get_member t (members_view es))))
 
-pub restored_object : (log : Vec (Bor (List ℕ) × Former) Global) (old new : Value) (m n : BTreeMap (String Global) Value) → old ≡ Object m → new ≡ Object n → members_view n.entries ≡ members_before log.items (members_view m.entries)
+pub restored_object : (log : Vec (Bor (List ℕ) × Before) Global) (old new : Value) (m n : BTreeMap (String Global) Value) → old ≡ Object m → new ≡ Object n → members_view n.entries ≡ members_before log.items (members_view m.entries)
     → former_value (Filled log) (Some (view old)) ≡ Some (view new)
 restored_object log old new m n is after back = rw (is, after, view-Object m, view-Object n, back) (search (rules, of_formers))
 
@@ -208,17 +208,17 @@ pub filled_whole : (target patch dest former : Value) → (sight_of (view patch)
     → IsFilled (view target) (view patch) (view dest) × IsDocument (view dest) × (former_value (Replaced former) (Some (view dest)) ≡ Some (view target))
 filled_whole target patch dest former other is was hp = (subst (IsFilled (view target) (view patch)) (sym is) (filled_itself (view patch) (view target) other), subst IsDocument (sym is) hp, rw was (search (rules, of_formers)))
 
-pub of_objects : (r : Result Former AllocError) (old new patch : Value) (m n ps : BTreeMap (String Global) Value) → old ≡ Object m → new ≡ Object n → patch ≡ Object ps
+pub of_objects : (r : Result Before AllocError) (old new patch : Value) (m n ps : BTreeMap (String Global) Value) → old ≡ Object m → new ≡ Object n → patch ≡ Object ps
     → Fills r (object (members_view m.entries)) (object (members_view ps.entries)) (object (members_view n.entries)) → Fills r (view old) (view patch) (view new)
 of_objects r old new patch m n ps is after named h = rw (is, after, named, view-Object m, view-Object n, view-Object ps) h
 
-pub fills_found : (r : Result Former AllocError) (t name : List ℕ) (es new : List Entry) (d w : Value) (q : Data) → name ≡ t → AreInOrder es → Some d ≡ lookup (is_named name) es → new ≡ set_value (is_named name) es w
+pub fills_found : (r : Result Before AllocError) (t name : List ℕ) (es new : List Entry) (d w : Value) (q : Data) → name ≡ t → AreInOrder es → Some d ≡ lookup (is_named name) es → new ≡ set_value (is_named name) es w
     → Fills r (view d) q (view w) → FillsAt r t (members_view es) q (members_view new)
 fills_found (Ok former) t name es new d w q named order found is step = subst (λ k. FillsAt (Ok former) k (members_view es) q (members_view new)) named (λ h hq. let f = step (found_document name es d found h) hq in search (rules, found_at, members_view-set_value, unwrap_or))
 fills_found (Err e) t name es new d w q named order found is step = subst (λ k. FillsAt (Err e) k (members_view es) q (members_view new)) named (λ h hq. let f = step (found_document name es d found h) hq in search (rules, found_at, members_view-set_value, members_view-set_same))
 
 pub fills_missing : (t : List ℕ) (es new : List Entry) (k : String Global) (w : Value) (q : Data) → None ≡ lookup (is_named t) es → string_bytes k ≡ t → new ≡ insert_entry string_cmp es k w → view w ≡ q
-    → FillsAt (Ok Nothing) t (members_view es) q (members_view new)
+    → FillsAt (Ok Absent) t (members_view es) q (members_view new)
 fills_missing t es new k w q found named is same h hq =
     let here = found_at t es None found in (
       q,
@@ -228,17 +228,17 @@ fills_missing t es new k w q found named is same h hq =
       search (rules, of_formers) ∙ sym here,
     )
 
-pub logs_nothing : (r : Result ⊤ AllocError) (t : List ℕ) (was now : List (Bor (List ℕ) × Former)) (P : Result Former AllocError → Type 0) → IsErr r → now ≡ was → ((e : AllocError) → P (Err e)) → Logs r t was now P
+pub logs_nothing : (r : Result ⊤ AllocError) (t : List ℕ) (was now : List (Bor (List ℕ) × Before)) (P : Result Before AllocError → Type 0) → IsErr r → now ≡ was → ((e : AllocError) → P (Err e)) → LogsMember r t was now P
 logs_nothing (Ok done) t was now P bad is h = search rules
 logs_nothing (Err e) t was now P bad is h = (is, h e)
 
 -- one more change
-pub fills_back : (r : Result ⊤ AllocError) (t : List ℕ) (was now : List (Bor (List ℕ) × Former)) (ms ns : Members) (q : Data) → Logs r t was now (λ x. FillsAt x t ms q ns) → AreMembers ms → IsDocument q
+pub fills_back : (r : Result ⊤ AllocError) (t : List ℕ) (was now : List (Bor (List ℕ) × Before)) (ms ns : Members) (q : Data) → LogsMember r t was now (λ x. FillsAt x t ms q ns) → AreMembers ms → IsDocument q
     → members_before now ns ≡ members_before was ms
 fills_back (Ok done) t was now ms ns q h hm hq = let f = h.4 hm hq in rw (h.3, f.1, sym h.2) (search (rules, before_last, get_member-put, back_at))
 fills_back (Err e) t was now ms ns q h hm hq = search rules
 
-pub fills_step : (r : Result ⊤ AllocError) (t : List ℕ) (was now : List (Bor (List ℕ) × Former)) (ms ns : Members) (q : Data) → Logs r t was now (λ x. FillsAt x t ms q ns) → AreMembers ms → IsDocument q → IsOk r → q ≢ null
+pub fills_step : (r : Result ⊤ AllocError) (t : List ℕ) (was now : List (Bor (List ℕ) × Before)) (ms ns : Members) (q : Data) → LogsMember r t was now (λ x. FillsAt x t ms q ns) → AreMembers ms → IsDocument q → IsOk r → q ≢ null
     → (o : Option Data) × ChangesAt t ms ns o × IsFilledMember (get_member t ms) (Some q) o
 fills_step (Ok done) t was now ms ns q h hm hq ok other = let f = h.4 hm hq in (Some f.0, changes_put t f.0 ms ns hm f.3 f.1, fills other f.2)
 fills_step (Err e) t was now ms ns q h hm hq ok other = search rules
@@ -249,17 +249,17 @@ abbrev total : List (Bor (List ℕ) × ℕ) → ℕ
 total [] = 0
 total (e ∷ es) = suc (e.1 + total es)
 
-abbrev weight_step : Former-F ℕ → ℕ
-weight_step Former-F.Nothing = 0
-weight_step (Former-F.Replaced v) = 0
-weight_step (Former-F.Filled log) = suc (total log.items)
+abbrev weight_step : Before-F ℕ → ℕ
+weight_step Before-F.Absent = 0
+weight_step (Before-F.Replaced v) = 0
+weight_step (Before-F.Filled log) = suc (total log.items)
 
-abbrev pub weight : Former → ℕ
-weight = fold-Former ℕ weight_step
+abbrev pub weight : Before → ℕ
+weight = fold-Before ℕ weight_step
 
-abbrev pub weights : List (Bor (List ℕ) × Former) → ℕ
+abbrev pub weights : List (Bor (List ℕ) × Before) → ℕ
 weights log = total (map (λ e. (e.0, weight e.1)) log)
 
-pub weights_last : (log : List (Bor (List ℕ) × Former)) (e : Bor (List ℕ) × Former) → weights (log ++ e ∷ []) ≡ suc (weight e.1 + weights log)
+pub weights_last : (log : List (Bor (List ℕ) × Before)) (e : Bor (List ℕ) × Before) → weights (log ++ e ∷ []) ≡ suc (weight e.1 + weights log)
 weights_last [] e = refl
 weights_last (f ∷ log) e = rw (weights_last log e) (omega arith)

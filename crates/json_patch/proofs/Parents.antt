@@ -1,4 +1,4 @@
--- An operation as a change of its container, which the walk finds at all tokens but the last.
+-- An operation as a change of its container, to which all tokens but the last lead.
 use Rattle.json_patch.proofs.Common.{common_steps, ◌≡◌, ℕ, List, [], ◌∷◌, ◌++◌, not, true, false, Bool, IsTrue, Option}
 use Rattle.json_patch.proofs.Common.{Some, None, option_map, option_and_then, Err, refl, sym, ap, ◌∙◌, rules, arith}
 use Rattle.json_patch.proofs.Common.{append_cancel_left, Data, Pointer, IsProperPrefix, child, move, segment_of}
@@ -42,5 +42,3 @@ move_nowhere d F P out none = rw (not_begins F P out, none) (search rules)
 
 pub not_inside : (F P : Pointer) → (IsTrue false ↔ IsProperPrefix F P) → IsProperPrefix F P → ⊥
 not_inside F P h p = let yes : false ≡ true = h.1 p in cc
-
--- ---- without memory

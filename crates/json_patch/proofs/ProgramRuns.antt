@@ -3,7 +3,7 @@ use Rattle.json_patch.proofs.Common.{◌≡◌, ◌+◌, ◌<◌, ◌≤◌, ℕ
 use Rattle.json_patch.proofs.Common.{Some, option_map, Result, Ok, Err, refl, sym, ap, ◌∙◌, subst, add-one, arith}
 use Rattle.json_patch.proofs.Common.{rules, Data, ComesTo, IsDocument, block, inverse, Operation, AreWhole, IsWholeOp}
 use Rattle.json_patch.proofs.Common.{operation_of, operations, path_of, Accepts, RefusesAt, IsAccepted, after_step}
-use Rattle.json_patch.proofs.Common.{Leaves, Refuses, PatchErrorKind, PatchOperation, StepFault, ◌-◌, slice_get}
+use Rattle.json_patch.proofs.Common.{Leaves, Refuses, PatchErrorKind, PatchOperation, StepFault, slice_get}
 use Rattle.json_patch.proofs.Common.{TakeNoMemory, TakesNoMemory, AreTestsThenRemove, NeverShort, ArePlain, IsInverse}
 use Rattle.json_patch.specs.Faulting.{Reports}
 use Rattle.json_patch.specs.Refusal.{NamesFirst, IfRefused}
@@ -11,7 +11,7 @@ use Rattle.json_patch.specs.declared.error.PatchFault.{PatchFault}
 use Rattle.json_patch.specs.declared.error.StepFault.TheVariants.{Refused as step_refused, Memory as step_short}
 use Rattle.json_patch.specs.Logged.{IsFree, IsTest}
 use Rattle.json_patch.specs.declared.log.Keep.{Keep}
-use Rattle.json_patch.specs.declared.log.Keep.TheVariants.{Nothing}
+use Rattle.json_patch.specs.declared.log.Keep.TheVariants.{Neither}
 use Rattle.json_patch.proofs.StepOutcomes.{leaves_document, stepped_leaves, stepped_refuses}
 use Rattle.json_patch.proofs.Runs.{accepted, accepts_document, accepts_ran}
 use Rattle.json_patch.proofs.Blocks.{inverse_back, inverse_joined, inverse_length, inverse_whole, inverse_is}
@@ -120,10 +120,10 @@ free_within (x ∷ os) (suc k) o less is h = free_within os k o (omega arith) is
 free_within os k o less is h = search rules
 
 -- a `test`, or the last operation, of which nothing is kept
-pub free_at : (os : List PatchOperation) (k : ℕ) (o : PatchOperation) (kept : Keep) → k < length os → IsAt os k o → (suc k ≡ length os → kept ≡ Nothing) → AreTestsThenRemove (operations os) → IsFree (operation_of o) kept
+pub free_at : (os : List PatchOperation) (k : ℕ) (o : PatchOperation) (kept : Keep) → k < length os → IsAt os k o → (suc k ≡ length os → kept ≡ Neither) → AreTestsThenRemove (operations os) → IsFree (operation_of o) kept
 free_at (x ∷ []) zero o kept less is last h = rw (is, last refl) (last_free (operation_of x) h)
   where
-    last_free : (op : Operation) → AreTestsThenRemove (op ∷ []) → IsFree op Nothing
+    last_free : (op : Operation) → AreTestsThenRemove (op ∷ []) → IsFree op Neither
     last_free op h = search rules
 free_at (x ∷ y ∷ os) zero o kept less is last h = rw is (first_free (operation_of x) (operation_of y) h)
   where

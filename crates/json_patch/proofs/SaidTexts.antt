@@ -1,5 +1,5 @@
 -- A text says one document and one patch at most, and where it says one it has no fault but want of memory.
-use Rattle.json_patch.proofs.Common.{◌≡◌, ℕ, List, Some, None, refl, rules, sym, ◌∙◌, subst, AllocError, Data}
+use Rattle.json_patch.proofs.Common.{◌≡◌, ℕ, List, Some, None, refl, sym, ◌∙◌, subst, AllocError, Data}
 use Rattle.json_patch.proofs.Common.{Operation, IsDocument, ReadsPatch}
 use Rattle.serde_json.specs.Read.{read}
 use Rattle.json_patch.specs.Texts.{SaysDocument, SaysPatch, NoDocument, NoPatch}

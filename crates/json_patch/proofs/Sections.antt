@@ -1,6 +1,6 @@
 -- A list of operations below a pointer changes nothing elsewhere.
 use Rattle.json_patch.proofs.Common.{◌≡◌, List, [], ◌∷◌, ◌++◌, Option, Some, None, refl, sym, ap, ◌∙◌, subst}
-use Rattle.json_patch.proofs.Common.{append_assoc, Data, Pointer, IsPrefix, IsProperPrefix, IsDocument, Segment, look}
+use Rattle.json_patch.proofs.Common.{Data, Pointer, IsPrefix, IsProperPrefix, IsDocument, Segment, look}
 use Rattle.json_patch.proofs.Common.{Resolves, StandsAt, HasTarget, IsAdded, Operation, add, remove, replace, move}
 use Rattle.json_patch.proofs.Common.{copy, test, AreWhole, Leaves, Accepts, IsReplaced, IsWithin, AreWithin, pointee}
 use Rattle.json_patch.specs.Shared.{KeepsElsewhere}

@@ -1,5 +1,5 @@
 -- What is found in a marked document.
-use Rattle.json_patch.proofs.Common.{◌≡◌, Option, Some, None, option_map, refl, sym, ap, ◌∙◌, rules, Data, pointee}
+use Rattle.json_patch.proofs.Common.{◌≡◌, Option, Some, option_map, sym, ap, ◌∙◌, Data, pointee}
 use Rattle.json_patch.proofs.Common.{Pointer}
 use Rattle.json_patch.proofs.MarkedChanges.{found_seen}
 use Rattle.json_patch.proofs.MarkedRuns.{found_value}

@@ -1,15 +1,12 @@
 -- Where a token puts a new child, and what that leaves.
-use Rattle.json_patch.proofs.Common.{◌≡◌, ℕ, ◌<◌, ◌≤◌, List, [], ◌∷◌, ⊎_elim, Bool, if◌then◌else◌, leb, bytes_eq}
-use Rattle.json_patch.proofs.Common.{Option, Some, None, option_map, option_and_then, refl, ap, arith, rules}
+use Rattle.json_patch.proofs.Common.{◌≡◌, ℕ, ◌<◌, ◌≤◌, List, [], ◌∷◌, ⊎_elim, bytes_eq}
+use Rattle.json_patch.proofs.Common.{Option, Some, option_map, option_and_then, refl, ap, arith, rules}
 use Rattle.json_patch.proofs.Common.{bytes_eq-Decides, Data, array, object, Items, Members, put, get_member-put}
 use Rattle.json_patch.proofs.Common.{get_member-put_other, next_is_no_place, IsDocument, Segment, key, place, look}
 use Rattle.json_patch.proofs.Common.{sight, value_at, Aims, PutsAt, IsBeside, slot_of, put_in, insert_item, cases_lt}
 use Rattle.json_patch.proofs.Common.{nat_tests, items_len}
 use Rattle.json_patch.proofs.Members.{put_members, get_insert, get_insert_later, get_insert_before, insert_items}
 use Rattle.json_patch.proofs.Locations.{option_map_some}
-
-within : (b : Bool) (j n i : ℕ) → leb j n ≡ b → (if b then Some j else None) ≡ Some i → (j ≡ i) × (j ≤ n)
-within b j n i is h = search rules
 
 pub slot_aims : (t : List ℕ) (ds : Items) (i : ℕ) → slot_of t ds ≡ Some i → Aims (array ds) t (place i)
 slot_aims t ds i h = (search rules)

@@ -18,13 +18,6 @@ use Rattle.json_patch.proofs.SameDocuments.{same-is, same-refl}
 again : (o : Option Data) → o ≡ option_and_then (λ q. Some q) o
 again o = search rules
 
-inside : (g : Data → Data) (h : Data → Option Data) (o : Option Data) → option_map g (option_and_then h o) ≡ option_and_then (λ q. option_map g (h q)) o
-inside g h o = search rules
-
-within : (g : Data → Data) (f : Data → Option Data) (h : Data → Option Data) (o : Option Data)
-    → option_map g (option_and_then (λ p. option_and_then h (f p)) o) ≡ option_and_then (λ p. option_and_then (λ q. option_map g (h q)) (f p)) o
-within g f h o = search rules
-
 abbrev Walks : (Data → Option Data) → Data → List (List ℕ) → Type 0
 Walks f d P = after_change f d P ≡ option_and_then (λ p. option_and_then (λ q. after_replace d P q) (f p)) (pointee d P)
 
@@ -45,8 +38,6 @@ front_append u t (w ∷ P) = ap (λ Q. u ∷ Q) (front_append w t P)
 pub last_append : (u t : List ℕ) (P : List (List ℕ)) → last_of u (P ++ t ∷ []) ≡ t
 last_append u t [] = refl
 last_append u t (w ∷ P) = last_append w t P
-
--- ---- an operation leaves, or is refused for, exactly what is computed
 
 -- ---- proper prefixes
 

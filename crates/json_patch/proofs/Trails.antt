@@ -1,6 +1,6 @@
 -- What a trail says of its first patch, and of all.
-use Rattle.json_patch.proofs.Common.{◌≡◌, List, [], ◌∷◌, Ok, Err, refl, sym, ◌∙◌, subst, Data, IsDocument, Operation}
-use Rattle.json_patch.proofs.Common.{AreWhole, Accepts, IsAccepted, after_run, Outcome}
+use Rattle.json_patch.proofs.Common.{◌≡◌, List, [], ◌∷◌, Ok, Err, refl, sym, ◌∙◌, subst, Data, IsDocument}
+use Rattle.json_patch.proofs.Common.{AreWhole, IsAccepted, after_run, Outcome}
 use Rattle.json_patch.specs.Operation.{operations_of}
 use Rattle.json_patch.specs.Trails.{AreEachWhole, IfEnds, IsTrail, LeadsTo}
 use Rattle.json_patch.specs.declared.operation.Patch.{Patch}

@@ -1,23 +1,10 @@
--- A recorded run, undone.
-use Rattle.json_patch.proofs.Common.{common_steps, ◌≡◌, ◌<◌, ◌-◌, ℕ, List, ◌∷◌, length, get_or, sym, ◌∙◌, arith, rules}
-use Rattle.json_patch.proofs.Common.{operations, PatchOperation, [], ◌++◌, Option, Some, None, Result, Ok, Err, IfOk}
+-- Where what undoes an add works.
+use Rattle.json_patch.proofs.Common.{◌≡◌, ℕ, List, ◌∷◌, sym, ◌∙◌, rules}
+use Rattle.json_patch.proofs.Common.{[], ◌++◌, Option, Some, None, Result, Ok, Err, IfOk}
 use Rattle.json_patch.proofs.Common.{ap, append_assoc, Data, Pointer, ReplacesLast, next_token, decimal_token, pointee}
 use Rattle.json_patch.proofs.Common.{settled_token, undo_add, undo_in, path_of, count_in, AllocError}
 use Rattle.json_patch.proofs.Locations.{split_is, split_whole}
 use Rattle.json_patch.proofs.Parents.{no_last}
-
--- ---- operations that can be undone with no memory, by their number
-
--- ---- an operation that can be undone, by its number
-
-same_at : (os : List PatchOperation) (k : ℕ) (x o : PatchOperation) → k < length os → get_or os k x ≡ get_or os k o
-same_at os k x o less = grind (arith, common_steps)
-
--- ---- `test`s and then at most one `remove`
-
--- ---- a recorded run, undone
-
--- ---- where what undoes an operation works
 
 settled_other : (o : Option Data) (t : List ℕ) → (t ≡ next_token → ⊥) → settled_token o t ≡ t
 settled_other o t other = search rules
@@ -41,10 +28,8 @@ place_other d P F t is other = is ∙ ap (λ u. F ++ u ∷ []) (sym (settled_oth
 pub place_no_list : (d : Data) (P F : Pointer) (t : List ℕ) → P ≡ F ++ t ∷ [] → t ≡ next_token → None ≡ count_in (pointee d F) → P ≡ path_of (undo_add d P)
 place_no_list d P F t is next none = search (rules, settled_last (pointee d F) (sym none), place_settled d P F t is, settled_last, place_settled)
 
--- the place in the document, where the tokens of S lead to d
+-- the place, where P is S and then R
 pub place_numbered : (r : Result Pointer AllocError) (d : Data) (S P R F : Pointer) (t u : List ℕ) (n : ℕ) → P ≡ S ++ R → R ≡ F ++ t ∷ [] → t ≡ next_token → Some n ≡ count_in (pointee d F) → u ≡ decimal_token n → IfOk r (ReplacesLast P u)
     → IfOk r (λ Q. Q ≡ S ++ path_of (undo_add d R))
 place_numbered (Ok Q) d S P R F t u n whole is next count named at = search (rules, append_assoc S F (t ∷ []), append_assoc S F (u ∷ []), settled_next (pointee d F) n (sym count), place_settled d R F t is, append_assoc, settled_next, place_settled)
 place_numbered (Err e) d S P R F t u n whole is next count named at = at
-
--- ---- without memory

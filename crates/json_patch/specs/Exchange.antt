@@ -122,9 +122,9 @@ abbrev pub room : Names → ℕ
 room names = string_capacity names.text
 
 -- the token's name was decoded, or is the token as it stands
-abbrev pub IsRead : Bool → Names → List ℕ → Type 0
-IsRead true names t = string_bytes names.text ≡ t
-IsRead false names t = IsUnescaped t
+abbrev pub IsDecoded : Bool → Names → List ℕ → Type 0
+IsDecoded true names t = string_bytes names.text ≡ t
+IsDecoded false names t = IsUnescaped t
 
 -- a token whose name takes no memory
 abbrev pub Fits : ℕ → List ℕ → Type 0

@@ -11,8 +11,8 @@ use Rattle.json_patch.specs.ChangeComputed.{without}
 use Rattle.json_patch.specs.Document.{IsDocument, AreMembers, sight_of}
 use Rattle.json_patch.specs.Sight.{Sight}
 use Rattle.json_patch.specs.Merged.{IsMerged, IsMergedMember}
-use Rattle.json_patch.specs.declared.merging.Former.{Former, Filled, fold-Former}
-use Rattle.json_patch.specs.declared.merging.Former.TheOpen.{Former-F}
+use Rattle.json_patch.specs.declared.merging.Before.{Before, Filled, fold-Before}
+use Rattle.json_patch.specs.declared.merging.Before.TheOpen.{Before-F}
 
 mutual
   -- w is d with the merge patch p merged into it, but for the members that p removes
@@ -36,40 +36,40 @@ restore_members [] ms = ms
 restore_members (e ∷ log) ms = let ns = restore_members log ms in with_member e.0.now (e.1 (get_member e.0.now ns)) ns
 
 -- one level, with what is within already seen as what takes it back
-abbrev pub former_value_step : Former-F (Option Data → Option Data) → Option Data → Option Data
-former_value_step Former-F.Nothing now = None
-former_value_step (Former-F.Replaced v) None = None
-former_value_step (Former-F.Replaced v) (Some d) = Some (view v)
-former_value_step (Former-F.Filled log) (Some (object ms)) = Some (object (restore_members log.items ms))
-former_value_step (Former-F.Filled log) now = now
+abbrev pub former_value_step : Before-F (Option Data → Option Data) → Option Data → Option Data
+former_value_step Before-F.Absent now = None
+former_value_step (Before-F.Replaced v) None = None
+former_value_step (Before-F.Replaced v) (Some d) = Some (view v)
+former_value_step (Before-F.Filled log) (Some (object ms)) = Some (object (restore_members log.items ms))
+former_value_step (Before-F.Filled log) now = now
 
 -- what stood where now this stands
-abbrev pub former_value : Former → Option Data → Option Data
-former_value = fold-Former (Option Data → Option Data) former_value_step
+abbrev pub former_value : Before → Option Data → Option Data
+former_value = fold-Before (Option Data → Option Data) former_value_step
 
 -- the members before the changes of this log
-abbrev pub members_before : List (Bor (List ℕ) × Former) → Members → Members
+abbrev pub members_before : List (Bor (List ℕ) × Before) → Members → Members
 members_before log ms = restore_members (map (λ e. (e.0, former_value e.1)) log) ms
 
 -- a document is filled, and what was found leads back; or it is as it was
-abbrev pub Fills : Result Former AllocError → Data → Data → Data → Type 0
+abbrev pub Fills : Result Before AllocError → Data → Data → Data → Type 0
 Fills (Ok former) d p w = IsDocument d → IsDocument p → IsFilled d p w × IsDocument w × (former_value former (Some w) ≡ Some d)
 Fills (Err e) d p w = IsDocument d → IsDocument p → w ≡ d
 
 -- the same of members
-abbrev pub FillsAll : Result (Vec (Bor (List ℕ) × Former) Global) AllocError → Members → Members → Members → Type 0
+abbrev pub FillsAll : Result (Vec (Bor (List ℕ) × Before) Global) AllocError → Members → Members → Members → Type 0
 FillsAll (Ok log) ms ps ns = Fills (Ok (Filled log)) (object ms) (object ps) (object ns)
 FillsAll (Err e) ms ps ns = Fills (Err e) (object ms) (object ps) (object ns)
 
 -- and of the member at the name t
-abbrev pub FillsAt : Result Former AllocError → List ℕ → Members → Data → Members → Type 0
+abbrev pub FillsAt : Result Before AllocError → List ℕ → Members → Data → Members → Type 0
 FillsAt (Ok former) t ms q ns = AreMembers ms → IsDocument q → (w : Data) × (ns ≡ put t w ms) × IsFilled (unwrap_or (get_member t ms) null) q w × IsDocument w × (former_value former (Some w) ≡ get_member t ms)
 FillsAt (Err e) t ms q ns = AreMembers ms → IsDocument q → ns ≡ ms
 
 -- and the log has what was found, under this name; or it is as it was
-abbrev pub Logs : Result ⊤ AllocError → List ℕ → List (Bor (List ℕ) × Former) → List (Bor (List ℕ) × Former) → (Result Former AllocError → Type 0) → Type 0
-Logs (Ok done) t was now Holds = (name : Bor (List ℕ)) × (former : Former) × (name.now ≡ t) × (now ≡ was ++ (name, former) ∷ []) × Holds (Ok former)
-Logs (Err e) t was now Holds = (now ≡ was) × Holds (Err e)
+abbrev pub LogsMember : Result ⊤ AllocError → List ℕ → List (Bor (List ℕ) × Before) → List (Bor (List ℕ) × Before) → (Result Before AllocError → Type 0) → Type 0
+LogsMember (Ok done) t was now Holds = (name : Bor (List ℕ)) × (former : Before) × (name.now ≡ t) × (now ≡ was ++ (name, former) ∷ []) × Holds (Ok former)
+LogsMember (Err e) t was now Holds = (now ≡ was) × Holds (Err e)
 
 -- one member that is filled, whatever it was before, and is left or removed
 abbrev pub IsPrunedMember : Option Data → Option Data → Option Data → Type 0

@@ -23,7 +23,7 @@ use Rattle.json_patch.specs.declared.edits.Found.{Found}
 use Rattle.json_patch.specs.declared.edits.Found.TheVariants.{Taken}
 use Rattle.json_patch.specs.declared.log.Change.{Change}
 use Rattle.json_patch.specs.declared.log.Keep.{Keep}
-use Rattle.json_patch.specs.declared.log.Keep.TheVariants.{Inverse, Undo as undo_alone, Nothing as keep_nothing}
+use Rattle.json_patch.specs.declared.log.Keep.TheVariants.{Inverse, Undo as undo_alone, Neither}
 use Rattle.json_patch.specs.declared.log.Kept.{Kept}
 use Rattle.json_patch.specs.declared.log.Log.{Log}
 
@@ -92,7 +92,7 @@ pub record Logs (olds news : Log) (d e : Data) : Type 0 where
 
 -- what is made with nothing kept can't be undone
 abbrev pub LogsAs : Result (Unit {0}) StepFault → Keep → Log → Log → Data → Data → Type 0
-LogsAs (Ok x) keep_nothing olds news d e = Counts olds news d e
+LogsAs (Ok x) Neither olds news d e = Counts olds news d e
 LogsAs r keep olds news d e = Logs olds news d e
 
 -- ---- what the inverse says
@@ -122,9 +122,9 @@ IsFor Take v = IsMarked v × (is_mark v ≡ true)
 IsFor edit v = ⊥
 
 -- where a change that the edit makes of d at P is undone
-abbrev pub place_of : Edit → Data → Pointer → Pointer
-place_of Insert d P = path_of (undo_add d P)
-place_of edit d P = P
+abbrev pub place_undone : Edit → Data → Pointer → Pointer
+place_undone Insert d P = path_of (undo_add d P)
+place_undone edit d P = P
 
 abbrev pub IsKeptBack : Option PointerOf → Data → Option (Pointer × Value) → Type 0
 IsKeptBack None v None = Unit {0}
@@ -145,7 +145,7 @@ pub record IsLogged (edit : Edit) (keep : Keep) (P : PointerOf) (F : Option Poin
   pub fits : AreFitting (room news.names) (tokens_of P)
   pub makes : made_where edit v d (tokens_of P) ≡ Some e
   pub finds : FindsWhere edit d (tokens_of P) c.found (view c.value)
-  pub kept : IsKept keep (place_of edit (seen d) (tokens_of P)) F v c.kept
+  pub kept : IsKept keep (place_undone edit (seen d) (tokens_of P)) F v c.kept
 
 -- an edit with v of d leaves e, and is logged; or nothing is done
 abbrev pub LogsEdit : Result (Unit {0}) StepFault → Edit → Keep → PointerOf → Option PointerOf → Log → Log → Data → Data → Data → Data → Type 0
@@ -164,7 +164,7 @@ pub record IsTakenFrom (d m : Data) (F P : Pointer) (v : Data) : Type 0 where
 
 -- what is kept of an operation, unless the inverse is: nothing of the last one, where the log is empty
 abbrev pub kept_at : Keep → Bool → Bool → Keep
-kept_at undo_alone true true = keep_nothing
+kept_at undo_alone true true = Neither
 kept_at keep last empty = keep
 
 abbrev pub IsTest : Operation → Type 0
@@ -179,7 +179,7 @@ lasting edit = edit
 -- an operation that takes no memory: a `test`; where nothing is kept, a `remove` at a pointer whose text holds no ~
 abbrev pub IsFree : Operation → Keep → Type 0
 IsFree (add P v) keep = ⊥
-IsFree (remove P) keep_nothing = AreUnescaped P
+IsFree (remove P) Neither = AreUnescaped P
 IsFree (remove P) keep = ⊥
 IsFree (replace P v) keep = ⊥
 IsFree (move F P) keep = ⊥

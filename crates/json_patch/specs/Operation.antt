@@ -77,14 +77,6 @@ path_of op = (parts_of op).path
 abbrev pub from_of : Operation → Option Pointer
 from_of op = (parts_of op).from
 
-abbrev pub IsMove : Operation → Type 0
-IsMove (add P v) = ⊥
-IsMove (remove P) = ⊥
-IsMove (replace P v) = ⊥
-IsMove (move F P) = Unit {0}
-IsMove (copy F P) = ⊥
-IsMove (test P v) = ⊥
-
 -- the operation's value, if it has one, is a document
 abbrev pub IsWholeOp : Operation → Type 0
 IsWholeOp op = IfSome (parts_of op).value IsDocument

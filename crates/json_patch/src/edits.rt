@@ -7,7 +7,7 @@ ghost use Rattle.jsonptr.specs.Pointers.{token_of, tokens_left, tokens_of};
 ghost use Rattle.json_patch.specs.ChangeComputed.{after_change, insert_item};
 ghost use Rattle.json_patch.specs.Document.{IsDocument};
 ghost use Rattle.json_patch.specs.Exchange.{AreFitting, Exchanges, ExchangesIn, FindsAt, FindsRoot, FindsWhere, Fits};
-ghost use Rattle.json_patch.specs.Exchange.{IsLight, IsRead, IsRemoving, IsSwapping, IsUnmarkedFor, is_removable};
+ghost use Rattle.json_patch.specs.Exchange.{IsLight, IsDecoded, IsRemoving, IsSwapping, IsUnmarkedFor, is_removable};
 ghost use Rattle.json_patch.specs.Exchange.{is_swappable, swapped, made, made_root, made_where, room};
 ghost use Rattle.json_patch.specs.declared.edits.Edit.TheVariants.{Clear, Insert, Remove, Swap, Sweep, Take, Undo};
 ghost use Rattle.json_patch.specs.declared.edits.Found.TheVariants.{Former, Nothing, Taken};
@@ -84,7 +84,7 @@ impl Names {
     /// Whether the token's name is in `text` now, where it was decoded; else it is the token as it
     /// stands, which holds no escape.
     fn decode(&mut self, token: Token<'_>) -> Result<bool, AllocError>
-        ensures name { IfOk result (λ decoded. IsRead decoded self.new (token_of token.entry)) }
+        ensures name { IfOk result (λ decoded. IsDecoded decoded self.new (token_of token.entry)) }
         ensures no_memory { Fits (room self.old) (token_of token.entry) → IsOk result }
         ensures grows { room self.old ≤ room self.new }
     {
@@ -97,7 +97,7 @@ impl Names {
 
     /// The member's name that the token stands for, which was read last.
     fn name<'n>(&'n self, token: Token<'n>, decoded: bool) -> &'n str
-        requires { IsRead decoded self.now (token_of token) }
+        requires { IsDecoded decoded self.now (token_of token) }
         ensures { result.now ≡ token_of token.entry }
     {
         if decoded {

@@ -14,7 +14,7 @@ ghost use Rattle.json_patch.specs.NoMemory.{AreUnescaped, NeverShort};
 ghost use Rattle.json_patch.specs.InverseComputed.{block, undo_add};
 ghost use Rattle.json_patch.specs.Logged.{AreRoomy, IsFor, IsFree, IsKept, IsRoomy, IsTakenFrom, IsTest, IsUndone, Keeps};
 ghost use Rattle.json_patch.specs.Logged.{LeadsBack, LogsAs, LogsEdit, held, kept_at, kept_block, kept_blocks, lasting};
-ghost use Rattle.json_patch.specs.Logged.{place_of, taken, takes, count_some, count_true};
+ghost use Rattle.json_patch.specs.Logged.{place_undone, taken, takes, count_some, count_true};
 ghost use Rattle.json_patch.specs.MarkedComputed.{marks};
 ghost use Rattle.json_patch.specs.Marked.{IsSeen, IsValue, seen};
 ghost use Rattle.json_patch.specs.Operation.{IsWholeOp, move as move_at, operation_of, operations, path_of};
@@ -22,7 +22,7 @@ ghost use Rattle.json_patch.specs.Operation.{remove as remove_at, test as test_a
 ghost use Rattle.json_patch.specs.RunComputed.{after_copy, after_step};
 ghost use Rattle.json_patch.specs.SeenEdits.{operation_at, undo_found};
 ghost use Rattle.json_patch.specs.declared.edits.Edit.TheVariants.{Take};
-ghost use Rattle.json_patch.specs.declared.log.Keep.TheVariants.{Inverse, Nothing};
+ghost use Rattle.json_patch.specs.declared.log.Keep.TheVariants.{Inverse, Neither};
 
 use crate::edits::{Edit, Found, Names, make};
 use crate::equality::shows;
@@ -49,8 +49,8 @@ pub(crate) enum Keep {
     Inverse,
     /// What undoes them.
     Undo,
-    /// Nothing: of the last one, after which nothing can fail.
-    Nothing,
+    /// Neither: of the last one, after which nothing can fail.
+    Neither,
 }
 
 impl Keep {
@@ -60,7 +60,7 @@ impl Keep {
         ensures { result ≡ kept_at self last empty }
     {
         match self {
-            Keep::Undo if last && empty => Keep::Nothing,
+            Keep::Undo if last && empty => Keep::Neither,
             keep => keep,
         }
     }
@@ -114,7 +114,7 @@ impl<'a> Log<'a> {
     ) -> Result<(), StepFault>
         requires marked { IsValue (view doc.old) }
         requires document { IsDocument (seen (view doc.old)) }
-        requires alone { keep ≡ Nothing → IsDocument (view doc.old) }
+        requires alone { keep ≡ Neither → IsDocument (view doc.old) }
         requires whole { IsWholeOp (operation_of operation.now) }
         ensures comes { ComesTo result (after_step (seen (view doc.old)) (operation_of operation.now))
             (seen (view doc.new)) }
@@ -161,7 +161,7 @@ impl<'a> Log<'a> {
     ) -> Result<(), StepFault>
         requires marked { IsValue (view doc.old) }
         requires value { IsFor edit (view value) }
-        requires alone { keep ≡ Nothing → IsDocument (view doc.old) }
+        requires alone { keep ≡ Neither → IsDocument (view doc.old) }
         ensures comes { ComesTo result
             (after_step (seen (view doc.old)) (operation_at edit (tokens_of path.entry) (view value)))
             (seen (view doc.new)) }
@@ -172,7 +172,7 @@ impl<'a> Log<'a> {
             (block (seen (view doc.old)) (operation_at edit (tokens_of path.entry) (view value)))) }
         ensures no_memory { edit ≡ Take → IsFree (remove_at (tokens_of path.entry)) keep → NeverShort result }
     {
-        if let Keep::Nothing = keep {
+        if let Keep::Neither = keep {
             return self.change_for_good(doc, path, edit, value);
         }
         self.log_edit(doc, path, None, edit, &mut value, keep)
@@ -194,7 +194,7 @@ impl<'a> Log<'a> {
             (seen (view doc.new)) }
         ensures marked { IsValue (view doc.new) }
         ensures unchanged { OnErr result (view doc.new ≡ view doc.old) }
-        ensures logs { LogsAs result Nothing self.old self.new (view doc.old) (view doc.new) }
+        ensures logs { LogsAs result Neither self.old self.new (view doc.old) (view doc.new) }
         ensures no_memory { edit ≡ Take → AreUnescaped (tokens_of path.entry) → NeverShort result }
     {
         match make(&mut self.names, doc, path, lasting(edit), &mut value) {
@@ -331,7 +331,7 @@ fn kept_of(
     keep: Keep,
 ) -> Result<Option<Kept>, AllocError>
     requires { IsValue (view doc.now) }
-    ensures { IfOk result (λ kept. IsKept keep (place_of edit (seen (view doc.now)) (tokens_of path.entry))
+    ensures { IfOk result (λ kept. IsKept keep (place_undone edit (seen (view doc.now)) (tokens_of path.entry))
         from.entry (view value.now) kept) }
 {
     let Keep::Inverse = keep else {

@@ -1,4 +1,4 @@
-//! Marks: the laws, and edits of marked containers.
+//! Marks: what they are, how many there are, and taking them out of a value.
 
 ghost use Rattle.std.specs.Prelude.{◌≡◌, ◌≤◌, false, not, Some, vec_len};
 ghost use Rattle.serde_json.specs.Events.{items_len};
@@ -6,11 +6,7 @@ ghost use Rattle.serde_json.specs.View.{view, items_view, members_view};
 ghost use Rattle.json_patch.specs.Marked.{is_mark, the_mark, AreMarkedItems, seen, seen_items, seen_members};
 ghost use Rattle.json_patch.specs.MarkedComputed.{marks};
 
-use crate::error::{PatchErrorKind, StepFault};
-use jsonptr::{Token, Tokens};
-use serde_json::{Map, Number, Value};
-use std::alloc::Global;
-use std::mem;
+use serde_json::{Map, Value};
 
 /// Whether the value is a mark: a number that isn't whole.
 #[tactic(auto, using(serde_json::specs::declared::value::Value::the_lemmas))]

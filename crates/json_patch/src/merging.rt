@@ -1,7 +1,7 @@
 //! JSON Merge Patch (RFC 7396, section 2).
 
 ghost use Rattle.json_patch.specs.Document.{IsDocument};
-ghost use Rattle.json_patch.specs.Filled.{FillsAll, FillsAt, Logs, Prunes, former_value, members_before, with_member};
+ghost use Rattle.json_patch.specs.Filled.{FillsAll, FillsAt, LogsMember, Prunes, former_value, members_before, with_member};
 ghost use Rattle.json_patch.specs.Merged.{IsMerged};
 ghost use Rattle.serde_json.specs.Find.{get_member};
 ghost use Rattle.serde_json.specs.View.{view, members_view};
@@ -13,13 +13,13 @@ use std::mem;
 
 /// What a merge found at a name that it fills.
 #[derive(Drop)]
-enum Former<'a> {
+enum Before<'a> {
     /// No member of that name.
-    Nothing,
+    Absent,
     /// The value that another replaced.
     Replaced(Value),
     /// An object, and what was found in it, by name.
-    Filled(Vec<(&'a str, Former<'a>)>),
+    Filled(Vec<(&'a str, Before<'a>)>),
 }
 
 /// Merges a merge patch into a document (RFC 7396, section 2).
@@ -62,7 +62,7 @@ fn fill<'a>(
     alloc: Global,
     changes: &'a Map<String, Value>,
     members: &mut Map<String, Value>,
-) -> Result<Vec<(&'a str, Former<'a>)>, AllocError>
+) -> Result<Vec<(&'a str, Before<'a>)>, AllocError>
     ensures { FillsAll result (members_view members.old.entries) (members_view changes.now.entries)
         (members_view members.new.entries) }
 {
@@ -83,33 +83,33 @@ fn fill_member<'a>(
     name: &'a String,
     change: &'a Value,
     members: &mut Map<String, Value>,
-    log: &mut Vec<(&'a str, Former<'a>)>,
+    log: &mut Vec<(&'a str, Before<'a>)>,
 ) -> Result<(), AllocError>
-    ensures { Logs result (string_bytes name.now) log.old.items log.new.items
+    ensures { LogsMember result (string_bytes name.now) log.old.items log.new.items
         (λ r. FillsAt r (string_bytes name.now) (members_view members.old.entries)
         (view change.now) (members_view members.new.entries)) }
 {
     log.reserve(1)?;
     let Some(member) = members.get_mut(name.as_str()) else {
         drop(members.insert(name.clone()?, change.clone()?)?);
-        log.push_reserved((name.as_str(), Former::Nothing));
+        log.push_reserved((name.as_str(), Before::Absent));
         return Ok(());
     };
     if let Value::Object(changes) = change {
         if let Value::Object(within) = member {
-            let former = Former::Filled(fill(alloc, changes, within)?);
+            let former = Before::Filled(fill(alloc, changes, within)?);
             log.push_reserved((name.as_str(), former));
             return Ok(());
         }
     }
-    let former = Former::Replaced(mem::replace(member, change.clone()?));
+    let former = Before::Replaced(mem::replace(member, change.clone()?));
     log.push_reserved((name.as_str(), former));
     Ok(())
 }
 
 /// Takes back the changes of this log, the last one first.
 #[cycle(restoring)]
-fn restore(mut log: Vec<(&str, Former<'_>)>, members: &mut Map<String, Value>)
+fn restore(mut log: Vec<(&str, Before<'_>)>, members: &mut Map<String, Value>)
     ensures { members_view members.new.entries
         ≡ members_before log.entry.items (members_view members.old.entries) }
 {
@@ -119,18 +119,18 @@ fn restore(mut log: Vec<(&str, Former<'_>)>, members: &mut Map<String, Value>)
 }
 
 #[cycle(restoring)]
-fn restore_member(name: &str, former: Former<'_>, members: &mut Map<String, Value>)
+fn restore_member(name: &str, former: Before<'_>, members: &mut Map<String, Value>)
     ensures { let ms = members_view members.old.entries in members_view members.new.entries
         ≡ with_member name.now (former_value former.entry (get_member name.now ms)) ms }
 {
     match former {
-        Former::Nothing => drop(members.remove(name)),
-        Former::Replaced(value) => {
+        Before::Absent => drop(members.remove(name)),
+        Before::Replaced(value) => {
             if let Some(member) = members.get_mut(name) {
                 *member = value;
             }
         }
-        Former::Filled(log) => {
+        Before::Filled(log) => {
             if let Some(member) = members.get_mut(name) {
                 if let Value::Object(inner) = member {
                     restore(log, inner);

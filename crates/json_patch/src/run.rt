@@ -14,7 +14,7 @@ ghost use Rattle.json_patch.specs.Operation.{AreWhole, IsWholeOp, operation_of, 
 ghost use Rattle.json_patch.specs.Refusal.{IfRefused, NamesFirst, IfShort};
 ghost use Rattle.json_patch.specs.Run.{Accepts, IsAccepted};
 ghost use Rattle.json_patch.specs.RunComputed.{after_step};
-ghost use Rattle.json_patch.specs.declared.log.Keep.TheVariants.{Inverse, Nothing, Undo};
+ghost use Rattle.json_patch.specs.declared.log.Keep.TheVariants.{Inverse, Neither, Undo};
 
 use crate::error::{PatchError, PatchFault, StepFault};
 use crate::log::{Keep, Log, clear_marks, inverse_of, undo_all, undo_room};
@@ -138,7 +138,7 @@ fn run(
 ) -> Result<Vec<PatchOperation>, PatchFault>
     requires document { IsDocument (view doc.old) }
     requires whole { AreWhole (operations patch.now) }
-    requires kept { keep ≡ Nothing → ⊥ }
+    requires kept { keep ≡ Neither → ⊥ }
     ensures accepted { OnOk result (Accepts (view doc.old) (operations patch.now) (view doc.new)) }
     ensures inverse { IfOk result (λ undo. keep ≡ Inverse
         → operations undo.items ≡ inverse (view doc.old) (operations patch.now)) }
@@ -171,10 +171,10 @@ fn run_one(alloc: Global, doc: &mut Value, operation: &PatchOperation) -> Result
     requires whole { IsWholeOp (operation_of operation.now) }
     ensures comes { ComesTo result (after_step (view doc.old) (operation_of operation.now)) (view doc.new) }
     ensures unchanged { OnErr result (view doc.new ≡ view doc.old) }
-    ensures no_memory { IsFree (operation_of operation.now) Nothing → NeverShort result }
+    ensures no_memory { IsFree (operation_of operation.now) Neither → NeverShort result }
 {
     let mut log = Log::new(alloc);
-    if let Err(fault) = log.step(doc, operation, Keep::Nothing) {
+    if let Err(fault) = log.step(doc, operation, Keep::Neither) {
         return Err(fault);
     }
     let Log { mut names, changes } = log;

@@ -1,4 +1,4 @@
-use Rattle.json_patch.proofs.Common.{◌≡◌, ◌≤◌, ◌-◌, arith, view}
+use Rattle.json_patch.proofs.Common.{◌≡◌, arith, view}
 use Rattle.json_patch.proofs.LoggedRuns.{all_gone, seen_through}
 use Rattle.json_patch.specs.Marked.{seen}
 use Rattle.json_patch.specs.MarkedComputed.{marks}

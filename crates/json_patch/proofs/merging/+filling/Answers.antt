@@ -1,6 +1,6 @@
 use Rattle.json_patch.proofs.Common.{◌≡◌, ◌≢◌, sight_of, string_bytes, rules, refl, sym, ap, ◌∙◌, view, Object}
-use Rattle.json_patch.proofs.Common.{the_lemmas, stays, left, by_key, Ok, Err, Sight, Nothing, Replaced, Filled}
-use Rattle.json_patch.specs.declared.merging.Former.{the_lemmas as of_formers}
+use Rattle.json_patch.proofs.Common.{the_lemmas, stays, left, by_key, Ok, Err, Sight, Absent, Replaced, Filled}
+use Rattle.json_patch.specs.declared.merging.Before.{the_lemmas as of_formers}
 use Rattle.json_patch.proofs.MergeFills.{starts, steps_at, changes_nothing, next_document, null_here, other_here}
 use Rattle.json_patch.proofs.MergeFills.{other_value, filled_whole, of_objects, fills_found, fills_missing, fills_back}
 use Rattle.json_patch.proofs.MergeFills.{fills_step, logs_nothing}
@@ -34,7 +34,7 @@ fill-returns t c hs hp =
     let h = c.loop-name.invariant hs hp in (by_key refl refl (λ k. h.0.passed k (search rules)), h.0.document, search (rules, of_formers))
 
 pub fill_member-returns-in_default : goal.fill_member-returns-in_default
-fill_member-returns-in_default t c = (c.as_str-in_default.result, Nothing, c.as_str-in_default.ensures.value, search rules, fills_missing (string_bytes c.args.name.now) c.args.members.now.entries c.insert.new.self.entries c.in_ok-clone.field-0 c.in_ok-clone-2.field-0 (view c.args.change.now) (rw c.as_str.ensures.value at c.in_default.ensures.value) (search rules) (search rules) (search rules))
+fill_member-returns-in_default t c = (c.as_str-in_default.result, Absent, c.as_str-in_default.ensures.value, search rules, fills_missing (string_bytes c.args.name.now) c.args.members.now.entries c.insert.new.self.entries c.in_ok-clone.field-0 c.in_ok-clone-2.field-0 (view c.args.change.now) (rw c.as_str.ensures.value at c.in_default.ensures.value) (search rules) (search rules) (search rules))
 
 pub fill_member-returns-in_err-fill : goal.fill_member-returns-in_err-fill
 fill_member-returns-in_err-fill t c = logs_nothing _ _ _ _ _ (search rules) (search rules) (λ e. fills_found (Err e) _ c.as_str.result.now c.args.members.now.entries _ c.in-Some.member.now _ (view c.args.change.now) c.as_str.ensures.value c.get_mut.ensures.ordered c.in-Some.ensures.value (c.get_mut.follows.holds _).0 (λ hd hp. of_objects (Err e) _ _ _ _ c.fill.new.members c.in-Object.changes (c.in-Object-member.is ∙ ap Object (sym c.in-Object-member.within-is)) (search (rules, the_lemmas)) c.in-Object.is c.in_err-fill.ensures hd hp))

@@ -1,5 +1,5 @@
 use Rattle.json_patch.proofs.Common.{◌≡◌, suc, rules, arith, sym, ap, ◌∙◌, Object, the_lemmas}
-use Rattle.json_patch.specs.declared.merging.Former.{the_lemmas as of_formers}
+use Rattle.json_patch.specs.declared.merging.Before.{the_lemmas as of_formers}
 use Rattle.json_patch.proofs.MergeFills.{before_last, weights_last, puts_back, puts_nothing_back, takes_out}
 use Rattle.json_patch.proofs.MergeFills.{restored_object, weight, weights}
 use Rattle.json_patch.proofs.merging.+restoring.Goals as goal
@@ -10,8 +10,8 @@ restore-restore_member-requires t c = search (rules, weights, weight, weights_la
 pub restore-loop-name-preserved : goal.restore-loop-name-preserved
 restore-loop-name-preserved t c = search (rules, weights, weight, weights_last, before_last)
 
-pub restore_member-returns-in-Nothing : goal.restore_member-returns-in-Nothing
-restore_member-returns-in-Nothing t c = takes_out c.args.name.now c.args.members.now.entries _ c.args.former c.remove.ensures.entries (λ o. search (rules, c.in-Nothing.is, of_formers))
+pub restore_member-returns-in-Absent : goal.restore_member-returns-in-Absent
+restore_member-returns-in-Absent t c = takes_out c.args.name.now c.args.members.now.entries _ c.args.former c.remove.ensures.entries (λ o. search (rules, c.in-Absent.is, of_formers))
 
 pub restore_member-returns-in-Some : goal.restore_member-returns-in-Some
 restore_member-returns-in-Some t c = puts_back c.args.name.now c.args.members.now.entries _ c.args.former c.in-Some.member.now c.in-Replaced.value c.get_mut.ensures.ordered c.in-Some.ensures.value (c.get_mut.follows.holds c.in-Replaced.value).0 (search (rules, c.in-Replaced.is, of_formers))

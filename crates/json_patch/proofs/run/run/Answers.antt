@@ -1,4 +1,4 @@
-use Rattle.json_patch.proofs.Common.{◌≡◌, ◌+◌, ◌<◌, ◌++◌, ◌∙◌, ◌⊎◌, inl, inr, Ok, Vec, Global, length, true, refl, sym}
+use Rattle.json_patch.proofs.Common.{◌≡◌, ◌+◌, ◌<◌, ◌++◌, ◌∙◌, inl, inr, Ok, Vec, Global, length, refl, sym}
 use Rattle.json_patch.proofs.Common.{ap, rules, arith, [], ⊎_elim, view, operation_of, block, PatchOperation}
 use Rattle.std.proofs.lemmas.Bool.{eqb-true}
 use Rattle.std.proofs.lemmas.List.{nil_from_length}

@@ -2,7 +2,7 @@ use Rattle.json_patch.proofs.Common.{◌∙◌, Ok, sym, ap, view}
 use Rattle.json_patch.proofs.LoggedEdits.{document_marks, logs_counts}
 use Rattle.json_patch.proofs.LoggedRuns.{counted_alone}
 use Rattle.json_patch.proofs.MarkedRuns.{document_seen, document_value}
-use Rattle.json_patch.specs.declared.log.Keep.TheVariants.{Nothing}
+use Rattle.json_patch.specs.declared.log.Keep.TheVariants.{Neither}
 use Rattle.json_patch.proofs.run.run_one.Goals as goal
 
 pub step-requires-clause-marked : goal.step-requires-clause-marked
@@ -17,7 +17,7 @@ returns-in-Err-clause-comes c = rw (document_seen (view c.args.doc.now) c.requir
 pub clear_marks-requires-clause-counts : goal.clear_marks-requires-clause-counts
 clear_marks-requires-clause-counts c =
     counted_alone c.new-log.result c.step.new.self (view c.args.doc.now) (view c.step.new.doc) c.deref.result.now c.new-log.ensures (sym c.deref.ensures.value) (document_marks (view c.args.doc.now) c.requires.document)
-    (logs_counts (Ok c.in_default.field-0) Nothing c.new-log.result c.step.new.self (view c.args.doc.now) (view c.step.new.doc) c.in_default.ensures.logs)
+    (logs_counts (Ok c.in_default.field-0) Neither c.new-log.result c.step.new.self (view c.args.doc.now) (view c.step.new.doc) c.in_default.ensures.logs)
 
 pub returns-clause-comes : goal.returns-clause-comes
 returns-clause-comes c = rw (document_seen (view c.args.doc.now) c.requires.document) at c.in_default.ensures.comes ∙ ap Ok (sym c.clear_marks.ensures)

@@ -1,4 +1,4 @@
-use Rattle.json_patch.proofs.Common.{◌∙◌, Ok, Err, arith, is_err, refl, sym, true≢false, view}
+use Rattle.json_patch.proofs.Common.{◌∙◌, Ok, Err, arith, refl, sym, true≢false, view}
 use Rattle.json_patch.proofs.Exchanges.{fitting_more}
 use Rattle.json_patch.proofs.Logged.{exchanged}
 use Rattle.json_patch.proofs.LoggedEdits.{goes_back, logs_as, logs_earlier, logs_none, move_comes, move_keeps}
