@@ -33,6 +33,11 @@ class Parting:
         the value at `from` is gone."""
         return [found(self.without_source(), self.path[:-1]), found(self.document, (self.source or [])[:-1])]
 
+    def leads_into_text(self):
+        """Whether a text stands where `path` or `from` still has tokens left."""
+        ways = [(self.without_source(), self.path), (self.document, self.source or [])]
+        return any(isinstance(found(document, way[:end]), str) for document, way in ways for end in range(len(way)))
+
     def without_source(self):
         if self.op != "move":
             return self.document
@@ -120,13 +125,13 @@ CLASSES = [
     (PYTHON, "refuses to replace the member named '-'",
      lambda at: at.theirs[0] == "refused" and at.op == "replace" and at.path[-1:] == ["-"] and isinstance(at.parents()[0], dict)),
     (PYTHON, "takes from a text by TypeError",
-     lambda at: at.raised("TypeError") and at.path and any(map(is_atom, at.parents()))),
+     lambda at: at.raised("TypeError") and at.path and (any(map(is_atom, at.parents())) or at.leads_into_text())),
     (PYTHON, "takes from the '-' of a list by TypeError",
      lambda at: at.raised("TypeError") and "-" in (at.source or at.path)),
     (PYTHON, "reads an index with leading zeros as its number",
      lambda at: at.only_here_refused() and any(map(has_leading_zero, (at.source or []) + at.path))),
     (PYTHON, "finds the characters of a text by their numbers",
-     lambda at: at.only_here_refused() and any(isinstance(parent, str) for parent in at.parents())),
+     lambda at: at.only_here_refused() and at.leads_into_text()),
     (PYTHON, "takes true for 1 and false for 0 in a test",
      lambda at: at.op == "test" and at.ours[3:4] == ("TestFailed",) and at.only_here_refused()),
     (PYTHON, "moves an item of a list inside itself",
