@@ -4,13 +4,15 @@ use Rattle.json_patch.proofs.Common.{sym, ap, ◌∙◌, subst, rules, arith, ap
 use Rattle.json_patch.proofs.Common.{no_items, item, Members, no_members, member, view, Pointer, StepFault, Refused}
 use Rattle.json_patch.proofs.Common.{PatchErrorKind, InvalidPointer, Attempts, ComesTo, IsDocument, AreDocuments}
 use Rattle.json_patch.proofs.Common.{AreMembers, IfOk, Value, after_add}
+use Rattle.std.specs.Prelude.{IfErr, OnErr, OnOk}
 use Rattle.jsonptr.specs.Pointers.{tokens_of}
+use Rattle.json_patch.specs.Attempt.{Excuses}
 use Rattle.jsonptr.specs.declared.pointer.Pointer.{Pointer as PointerOf}
 use Rattle.json_patch.specs.ChangeComputed.{pointee, after_remove, last_of}
 use Rattle.json_patch.specs.Exchange.{AreFitting, Exchanges, Finds, FindsWhere, made_where, room}
 use Rattle.json_patch.specs.InverseComputed.{block, undo_add}
-use Rattle.json_patch.specs.Logged.{IsFor, IsKept, IsKeptBack, IsLogged, IsRoomy, IsTakenFrom, IsUndone, Keeps, Logs}
-use Rattle.json_patch.specs.Logged.{LogsEdit, kept_block, kept_blocks, place_undone, put_back, takes, taken, held, LogsAs}
+use Rattle.json_patch.specs.Logged.{IsEnd, IsFor, IsKept, IsKeptBack, IsMade, IsRoomy, IsTakenFrom, IsUndone, Keeps}
+use Rattle.json_patch.specs.Logged.{Logs, LogsAs, kept_block, kept_blocks, place_undone, put_back, takes, taken, held}
 use Rattle.json_patch.specs.Logged.{Counts, lasting}
 use Rattle.json_patch.specs.Marked.{IsMarked, IsValue, seen, the_mark}
 use Rattle.json_patch.specs.MarkedComputed.{marks, marks_items, marks_members}
@@ -78,9 +80,11 @@ comes_of (Ok x) o d e h = ap (or_refused InvalidPointer) h
 comes_of (Err (Refused kind)) o d e h = rw (h.0.1, h.0.0) refl
 comes_of (Err (Memory error)) o d e h = tt
 
-edit_left : (r : Result (Unit {0}) StepFault) (edit : Edit) (keep : Keep) (P : PointerOf) (F : Option PointerOf) (olds news : Log) (d e v w : Data) → LogsEdit r edit keep P F olds news d e v w → Attempts r (made_where edit v d (tokens_of P)) d e
-edit_left (Ok x) edit keep P F olds news d e v w h = h.1.makes
-edit_left (Err fault) edit keep P F olds news d e v w h = (h.0, h.1)
+edit_left : (r : Result (Unit {0}) StepFault) (edit : Edit) (keep : Keep) (P : PointerOf) (F : Option PointerOf) (olds news : Log) (d e v w : Data)
+    → OnOk r ((c : Change) × IsEnd P F olds news c × IsMade edit keep c d v e) → IfErr r (λ fault. Excuses fault (made_where edit v d (tokens_of P)))
+    → OnErr r ((e ≡ d) × (w ≡ v) × (news.changes.items ≡ olds.changes.items)) → Attempts r (made_where edit v d (tokens_of P)) d e
+edit_left (Ok x) edit keep P F olds news d e v w logged refused unchanged = rw logged.1.at at logged.2.makes
+edit_left (Err fault) edit keep P F olds news d e v w logged refused unchanged = (refused, unchanged.0)
 
 -- ---- the log with one change more
 
@@ -168,9 +172,11 @@ edit_counts edit v d e P found w hv hd finds made =
     let put : put_marks edit v ≤ taken found None = puts edit v d e P found w hv finds made in
     omega arith
 
-module _ (r : Result (Unit {0}) StepFault) (edit : Edit) (keep : Keep) (P : PointerOf) (olds news : Log) (d e v w : Data) (hv : IsFor edit v) (hd : IsValue d) (h : LogsEdit r edit keep P None olds news d e v w) where
+module _ (r : Result (Unit {0}) StepFault) (edit : Edit) (keep : Keep) (P : PointerOf) (olds news : Log) (d e v w : Data) (hv : IsFor edit v) (hd : IsValue d)
+    (logged : OnOk r ((c : Change) × IsEnd P None olds news c × IsMade edit keep c d v e)) (refused : IfErr r (λ fault. Excuses fault (made_where edit v d (tokens_of P))))
+    (unchanged : OnErr r ((e ≡ d) × (w ≡ v) × (news.changes.items ≡ olds.changes.items))) where
   seen_left : Attempts r (seen_where edit (seen v) (seen d) (tokens_of P)) (seen d) (seen e) × IsValue e
-  seen_left = attempt_seen r _ _ d e hd (where_seen edit v d (tokens_of P) (suits edit v hv) hd) (edit_left r edit keep P None olds news d e v w h)
+  seen_left = attempt_seen r _ _ d e hd (where_seen edit v d (tokens_of P) (suits edit v hv) hd) (edit_left r edit keep P None olds news d e v w logged refused unchanged)
 
   pub edit_comes : ComesTo r (after_step (seen d) (operation_at edit (tokens_of P) v)) (seen e)
   edit_comes = subst (λ x. ComesTo r x (seen e)) (step_of edit v (seen d) (tokens_of P) hv) (comes_of r _ (seen d) (seen e) seen_left.0)
@@ -179,28 +185,32 @@ module _ (r : Result (Unit {0}) StepFault) (edit : Edit) (keep : Keep) (P : Poin
   edit_value = seen_left.1
 
   pub edit_logs : room olds.names ≤ room news.names → Logs olds news d e
-  edit_logs grows = by_result r h
+  edit_logs grows = by_result r logged unchanged
     where
       -- what the log's new end has of the edit's place
-      roomy_at : (c : Change) → IsLogged edit keep P None olds news d e v c → IsRoomy (room news.names) c
+      roomy_at : (c : Change) → IsEnd P None olds news c → IsRoomy (room news.names) c
       roomy_at c l = rw (l.at, l.from) (l.fits, tt)
 
-      undone_at : (c : Change) → IsLogged edit keep P None olds news d e v c → IsUndone c e d
-      undone_at c l = rw (l.at, l.from) (edit_value.0, (d, where_back edit v d e (tokens_of P) c.found (view c.value) (reverses edit v hv) hd.0 l.finds l.makes, refl))
+      undone_at : (c : Change) → IsEnd P None olds news c → IsMade edit keep c d v e → IsUndone c e d
+      undone_at c l m = rw l.from (edit_value.0, (d, where_back edit v d e (tokens_of c.path) c.found (view c.value) (reverses edit v hv) hd.0 m.finds m.makes, refl))
 
-      counted : (c : Change) → IsLogged edit keep P None olds news d e v c → marks e + found_marks c.found (view c.value) ≤ marks d + taken c.found c.from
-      counted c l = rw l.from (edit_counts edit v d e (tokens_of P) c.found (view c.value) hv hd.0 l.finds l.makes)
+      counted : (c : Change) → IsEnd P None olds news c → IsMade edit keep c d v e → marks e + found_marks c.found (view c.value) ≤ marks d + taken c.found c.from
+      counted c l m = rw l.from (edit_counts edit v d e (tokens_of c.path) c.found (view c.value) hv hd.0 m.finds m.makes)
 
-      by_result : (r : Result (Unit {0}) StepFault) → LogsEdit r edit keep P None olds news d e v w → Logs olds news d e
-      by_result (Ok x) g = logs_one olds news g.0 d e grows g.1.ends (roomy_at g.0 g.1) (undone_at g.0 g.1) (counted g.0 g.1)
-      by_result (Err fault) g = logs_none olds news d e grows g.3 g.1
+      by_result : (r : Result (Unit {0}) StepFault) → OnOk r ((c : Change) × IsEnd P None olds news c × IsMade edit keep c d v e) → OnErr r ((e ≡ d) × (w ≡ v) × (news.changes.items ≡ olds.changes.items)) → Logs olds news d e
+      by_result (Ok x) g same = logs_one olds news g.0 d e grows g.1.ends (roomy_at g.0 g.1) (undone_at g.0 g.1 g.2) (counted g.0 g.1 g.2)
+      by_result (Err fault) g same = logs_none olds news d e grows same.2 same.0
 
   pub edit_keeps : IfOk r (λ x. Keeps keep olds news (block (seen d) (operation_at edit (tokens_of P) v)))
-  edit_keeps = by_result r h
+  edit_keeps = by_result r logged
     where
-      by_result : (r : Result (Unit {0}) StepFault) → LogsEdit r edit keep P None olds news d e v w → IfOk r (λ x. Keeps keep olds news (block (seen d) (operation_at edit (tokens_of P) v)))
-      by_result (Ok x) g = λ is. kept_one olds news g.0 (place_undone edit (seen d) (tokens_of P)) None v _ g.1.ends (rw is at g.1.kept)
-          (edit_undoes edit v v d e (tokens_of P) g.0.found (view g.0.value) (suits edit v hv) hd g.1.finds g.1.makes ∙ ap (λ Q. undo_found Q g.0.found (view g.0.value) ∷ []) (sym (place_same edit (seen d) (tokens_of P) v)))
+      -- what the log's new end says
+      says : (c : Change) → IsEnd P None olds news c → IsMade edit keep c d v e → Keeps keep olds news (block (seen d) (operation_at edit (tokens_of P) v))
+      says c l m = λ is. kept_one olds news c (place_undone edit (seen d) (tokens_of P)) None v _ l.ends (rw (is, l.at, l.from) at m.kept)
+          (edit_undoes edit v v d e (tokens_of P) c.found (view c.value) (suits edit v hv) hd (rw l.at at m.finds) (rw l.at at m.makes) ∙ ap (λ Q. undo_found Q c.found (view c.value) ∷ []) (sym (place_same edit (seen d) (tokens_of P) v)))
+
+      by_result : (r : Result (Unit {0}) StepFault) → OnOk r ((c : Change) × IsEnd P None olds news c × IsMade edit keep c d v e) → IfOk r (λ x. Keeps keep olds news (block (seen d) (operation_at edit (tokens_of P) v)))
+      by_result (Ok x) g = says g.0 g.1 g.2
       by_result (Err fault) g = tt
 
 -- ---- what isn't undone
@@ -282,9 +292,11 @@ module _ (d m v : Data) (F : PointerOf) (P : PointerOf) (hd : IsValue d) (t : Is
   pub goes_back : (e w : Data) → e ≡ m → w ≡ v → made_where (Undo Taken) w e (tokens_of F) ≡ Some d
   goes_back e w left same = rw (left, same) source_back
 
-  module _ (r : Result (Unit {0}) StepFault) (keep : Keep) (olds news : Log) (e w : Data) (h : LogsEdit r Insert keep P (Some F) olds news m e v w) where
+  module _ (r : Result (Unit {0}) StepFault) (keep : Keep) (olds news : Log) (e w : Data)
+      (logged : OnOk r ((c : Change) × IsEnd P (Some F) olds news c × IsMade Insert keep c m v e)) (refused : IfErr r (λ fault. Excuses fault (made_where Insert v m (tokens_of P))))
+      (unchanged : OnErr r ((e ≡ m) × (w ≡ v) × (news.changes.items ≡ olds.changes.items))) where
     put_seen : Attempts r (seen_where Insert (seen v) (seen m) (tokens_of P)) (seen m) (seen e) × IsValue e
-    put_seen = attempt_seen r _ _ m e left.1 (where_seen Insert v m (tokens_of P) stood.1 left.1) (edit_left r Insert keep P (Some F) olds news m e v w h)
+    put_seen = attempt_seen r _ _ m e left.1 (where_seen Insert v m (tokens_of P) stood.1 left.1) (edit_left r Insert keep P (Some F) olds news m e v w logged refused unchanged)
 
     pub move_comes : ComesTo r (after_step (seen d) (move (tokens_of F) (tokens_of P))) (seen e)
     move_comes = moves r (seen d) (seen m) (seen e) (seen v) (tokens_of F) (tokens_of P) t.out left.0 stood.0 put_seen.0
@@ -292,31 +304,36 @@ module _ (d m v : Data) (F : PointerOf) (P : PointerOf) (hd : IsValue d) (t : Is
     pub move_value : IsValue e
     move_value = put_seen.1
 
-  module _ (keep : Keep) (olds news : Log) (e w : Data) (h : LogsEdit (Ok tt) Insert keep P (Some F) olds news m e v w) where
-    undone_move : IsUndone h.0 e d
+  module _ (keep : Keep) (olds news : Log) (e : Data) (c : Change) (l : IsEnd P (Some F) olds news c) (put : IsMade Insert keep c m v e) where
+    put_there : made_where Insert v m (tokens_of P) ≡ Some e
+    put_there = rw l.at at put.makes
+
+    found_in : FindsWhere Insert m (tokens_of P) c.found (view c.value)
+    found_in = rw l.at at put.finds
+
+    undone_move : IsUndone c e d
     undone_move =
-        let l = h.1 in
         rw (l.at, l.from) (
-          (move_value (Ok tt) keep olds news e w h).0,
+          (move_value (Ok tt) keep olds news e v (c, l, put) tt tt).0,
           (
             m,
-            where_back Insert v m e (tokens_of P) h.0.found (view h.0.value) stood.1.1 left.1.0 l.finds l.makes,
-            (left.1.0, λ f x out. rw (put_comes_out v m e (tokens_of P) h.0.found f (view h.0.value) x stood.1.1 l.finds l.makes out) source_back),
+            where_back Insert v m e (tokens_of P) c.found (view c.value) stood.1.1 left.1.0 found_in put_there,
+            (left.1.0, λ f x out. rw (put_comes_out v m e (tokens_of P) c.found f (view c.value) x stood.1.1 found_in put_there out) source_back),
           ),
         )
 
-    counted_move : marks e + found_marks h.0.found (view h.0.value) ≤ marks d + taken h.0.found (Some F)
+    counted_move : marks e + found_marks c.found (view c.value) ≤ marks d + taken c.found (Some F)
     counted_move =
-        let put : marks e + found_marks h.0.found (view h.0.value) ≡ marks m + marks v = where_counts Insert v m e (tokens_of P) h.0.found (view h.0.value) stood.1 left.1.0 h.1.finds h.1.makes in
+        let sums : marks e + found_marks c.found (view c.value) ≡ marks m + marks v = where_counts Insert v m e (tokens_of P) c.found (view c.value) stood.1 left.1.0 found_in put_there in
         let took : marks m + marks v ≡ marks d + marks t.mark = where_counts Take t.mark d m (tokens_of F) Taken v t.marks hd.0 t.finds t.makes in
         let one : marks t.mark ≡ 1 = one_mark t.mark t.marks.1 in
-        let here : taken h.0.found (Some F) ≡ 1 = taken_source h.0.found F in
+        let here : taken c.found (Some F) ≡ 1 = taken_source c.found F in
         omega arith
 
     pub move_logs : room olds.names ≤ room news.names → AreFitting (room news.names) (tokens_of F) → Logs olds news d e
     move_logs grows fits =
-        logs_one olds news h.0 d e grows h.1.ends (rw (h.1.at, h.1.from) (h.1.fits, fits)) undone_move (rw h.1.from counted_move)
+        logs_one olds news c d e grows l.ends (rw (l.at, l.from) (l.fits, fits)) undone_move (rw l.from counted_move)
 
     pub move_keeps : Keeps keep olds news (block (seen d) (move (tokens_of F) (tokens_of P)))
-    move_keeps = λ is. kept_one olds news h.0 (path_of (undo_add (seen m) (tokens_of P))) (Some F) v _ h.1.ends (rw is at h.1.kept)
-        (move_undoes Take t.mark d m (tokens_of F) (tokens_of P) Taken h.0.found v (view h.0.value) tt t.marks hd t.finds t.makes h.1.finds)
+    move_keeps = λ is. kept_one olds news c (path_of (undo_add (seen m) (tokens_of P))) (Some F) v _ l.ends (rw (is, l.at, l.from) at put.kept)
+        (move_undoes Take t.mark d m (tokens_of F) (tokens_of P) Taken c.found v (view c.value) tt t.marks hd t.finds t.makes found_in)

@@ -1,6 +1,5 @@
 -- For private clauses: a log of changes of a marked document, what undoes them, and what the inverse says of them.
 use Rattle.std.specs.Prelude.{◌≡◌, ◌≤◌, ◌+◌, ℕ, List, [], ◌∷◌, ◌++◌, Bool, true, false, Option, Some, None, Result, Ok}
-use Rattle.std.specs.Prelude.{Err}
 use Rattle.serde_json.specs.Data.{Data}
 use Rattle.serde_json.specs.View.{view}
 use Rattle.serde_json.specs.declared.value.Value.{Value}
@@ -15,7 +14,6 @@ use Rattle.json_patch.specs.SeenEdits.{found_marks, undo_found}
 use Rattle.json_patch.specs.NoMemory.{AreUnescaped}
 use Rattle.json_patch.specs.Operation.{Operation, add, remove, replace, move, copy, test, path_of}
 use Rattle.json_patch.specs.InverseComputed.{undo_add}
-use Rattle.json_patch.specs.Attempt.{Excuses}
 use Rattle.json_patch.specs.declared.error.StepFault.{StepFault}
 use Rattle.json_patch.specs.declared.edits.Edit.{Edit}
 use Rattle.json_patch.specs.declared.edits.Edit.TheVariants.{Insert, Take, Remove, Swap, Undo}
@@ -137,20 +135,18 @@ IsKept Inverse P F v None = ⊥
 IsKept Inverse P F v (Some k) = (k.place ≡ P) × IsKeptBack F v k.back
 IsKept keep P F v k = k ≡ None
 
--- the change is the log's new end
-pub record IsLogged (edit : Edit) (keep : Keep) (P : PointerOf) (F : Option PointerOf) (olds news : Log) (d e v : Data) (c : Change) : Type 0 where
+-- the change is the log's new end: at P, with what was taken from F if it was
+pub record IsEnd (P : PointerOf) (F : Option PointerOf) (olds news : Log) (c : Change) : Type 0 where
   pub ends : news.changes.items ≡ olds.changes.items ++ c ∷ []
   pub at : c.path ≡ P
   pub from : c.from ≡ F
   pub fits : AreFitting (room news.names) (tokens_of P)
-  pub makes : made_where edit v d (tokens_of P) ≡ Some e
-  pub finds : FindsWhere edit d (tokens_of P) c.found (view c.value)
-  pub kept : IsKept keep (place_undone edit (seen d) (tokens_of P)) F v c.kept
 
--- an edit with v of d leaves e, and is logged; or nothing is done
-abbrev pub LogsEdit : Result (Unit {0}) StepFault → Edit → Keep → PointerOf → Option PointerOf → Log → Log → Data → Data → Data → Data → Type 0
-LogsEdit (Ok x) edit keep P F olds news d e v w = (c : Change) × IsLogged edit keep P F olds news d e v c
-LogsEdit (Err fault) edit keep P F olds news d e v w = Excuses fault (made_where edit v d (tokens_of P)) × (e ≡ d) × (w ≡ v) × (news.changes.items ≡ olds.changes.items)
+-- the edit makes the change of d, with v, and leaves e
+pub record IsMade (edit : Edit) (keep : Keep) (c : Change) (d v e : Data) : Type 0 where
+  pub makes : made_where edit v d (tokens_of c.path) ≡ Some e
+  pub finds : FindsWhere edit d (tokens_of c.path) c.found (view c.value)
+  pub kept : IsKept keep (place_undone edit (seen d) (tokens_of c.path)) c.from v c.kept
 
 -- v, which a `move` to P takes from F of d, was taken, which leaves m
 pub record IsTakenFrom (d m : Data) (F P : Pointer) (v : Data) : Type 0 where

@@ -6,14 +6,14 @@ ghost use Rattle.serde_json.specs.Data.{Data};
 ghost use Rattle.serde_json.specs.View.{view};
 ghost use Rattle.jsonptr.specs.Pointers.{tokens_of};
 ghost use Rattle.jsonptr.specs.Text.{IsProperPrefix};
-ghost use Rattle.json_patch.specs.Attempt.{ComesTo, FailsAs};
+ghost use Rattle.json_patch.specs.Attempt.{ComesTo, Excuses, FailsAs};
 ghost use Rattle.json_patch.specs.ChangeComputed.{pointee};
 ghost use Rattle.json_patch.specs.Document.{IsDocument};
-ghost use Rattle.json_patch.specs.Exchange.{AreFitting, IsUnmarkedFor, room};
+ghost use Rattle.json_patch.specs.Exchange.{AreFitting, IsUnmarkedFor, made_where, room};
 ghost use Rattle.json_patch.specs.NoMemory.{AreUnescaped, NeverShort};
 ghost use Rattle.json_patch.specs.InverseComputed.{block, undo_add};
-ghost use Rattle.json_patch.specs.Logged.{AreRoomy, IsFor, IsFree, IsKept, IsRoomy, IsTakenFrom, IsTest, IsUndone, Keeps};
-ghost use Rattle.json_patch.specs.Logged.{LeadsBack, LogsAs, LogsEdit, held, kept_at, kept_block, kept_blocks, lasting};
+ghost use Rattle.json_patch.specs.Logged.{AreRoomy, IsEnd, IsFor, IsFree, IsKept, IsMade, IsRoomy, IsTakenFrom, IsTest};
+ghost use Rattle.json_patch.specs.Logged.{IsUndone, Keeps, LeadsBack, LogsAs, held, kept_at, kept_block, kept_blocks, lasting};
 ghost use Rattle.json_patch.specs.Logged.{place_undone, taken, takes, count_some, count_true};
 ghost use Rattle.json_patch.specs.MarkedComputed.{marks};
 ghost use Rattle.json_patch.specs.Marked.{IsSeen, IsValue, seen};
@@ -22,6 +22,7 @@ ghost use Rattle.json_patch.specs.Operation.{remove as remove_at, test as test_a
 ghost use Rattle.json_patch.specs.RunComputed.{after_copy, after_step};
 ghost use Rattle.json_patch.specs.SeenEdits.{operation_at, undo_found};
 ghost use Rattle.json_patch.specs.declared.edits.Edit.TheVariants.{Take};
+ghost use Rattle.json_patch.specs.declared.log.Change.{Change};
 ghost use Rattle.json_patch.specs.declared.log.Keep.TheVariants.{Inverse, Neither};
 
 use crate::edits::{Edit, Found, Names, make};
@@ -251,8 +252,12 @@ impl<'a> Log<'a> {
     ) -> Result<(), StepFault>
         requires marked { IsValue (view doc.old) }
         requires unmarked { IsUnmarkedFor edit (view doc.old) }
-        ensures logs { LogsEdit result edit keep path.entry from.entry self.old self.new
-            (view doc.old) (view doc.new) (view value.old) (view value.new) }
+        ensures logged { OnOk result ((c : Change) × IsEnd path.entry from.entry self.old self.new c
+            × IsMade edit keep c (view doc.old) (view value.old) (view doc.new)) }
+        ensures refused { IfErr result (λ fault. Excuses fault
+            (made_where edit (view value.old) (view doc.old) (tokens_of path.entry))) }
+        ensures unchanged { OnErr result ((view doc.new ≡ view doc.old) × (view value.new ≡ view value.old)
+            × (self.new.changes.items ≡ self.old.changes.items)) }
         ensures grows { room self.old.names ≤ room self.new.names }
     {
         let kept = kept_of(self.names.alloc, doc, path, from, edit, value, keep)?;

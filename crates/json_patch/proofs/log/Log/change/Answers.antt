@@ -7,13 +7,13 @@ pub log_edit-requires-clause-unmarked : goal.log_edit-requires-clause-unmarked
 log_edit-requires-clause-unmarked c = unmarked_logged c.args.edit (view c.args.value) _ c.requires.value
 
 pub returns-clause-comes : goal.returns-clause-comes
-returns-clause-comes c = edit_comes _ c.args.edit c.args.keep c.args.path _ _ _ _ (view c.args.value) _ c.requires.value c.requires.marked c.log_edit.ensures.logs
+returns-clause-comes c = edit_comes _ c.args.edit c.args.keep c.args.path _ _ _ _ (view c.args.value) _ c.requires.value c.requires.marked c.log_edit.ensures.logged c.log_edit.ensures.refused c.log_edit.ensures.unchanged
 
 pub returns-clause-marked : goal.returns-clause-marked
-returns-clause-marked c = edit_value _ c.args.edit c.args.keep c.args.path _ _ _ _ (view c.args.value) _ c.requires.value c.requires.marked c.log_edit.ensures.logs
+returns-clause-marked c = edit_value _ c.args.edit c.args.keep c.args.path _ _ _ _ (view c.args.value) _ c.requires.value c.requires.marked c.log_edit.ensures.logged c.log_edit.ensures.refused c.log_edit.ensures.unchanged
 
 pub returns-clause-logs : goal.returns-clause-logs
-returns-clause-logs c = logs_as _ c.args.keep _ _ _ _ (edit_logs _ c.args.edit c.args.keep c.args.path _ _ _ _ (view c.args.value) _ c.requires.value c.requires.marked c.log_edit.ensures.logs c.log_edit.ensures.grows)
+returns-clause-logs c = logs_as _ c.args.keep _ _ _ _ (edit_logs _ c.args.edit c.args.keep c.args.path _ _ _ _ (view c.args.value) _ c.requires.value c.requires.marked c.log_edit.ensures.logged c.log_edit.ensures.refused c.log_edit.ensures.unchanged c.log_edit.ensures.grows)
 
 pub returns-clause-keeps : goal.returns-clause-keeps
-returns-clause-keeps c = edit_keeps _ c.args.edit c.args.keep c.args.path _ _ _ _ (view c.args.value) _ c.requires.value c.requires.marked c.log_edit.ensures.logs
+returns-clause-keeps c = edit_keeps _ c.args.edit c.args.keep c.args.path _ _ _ _ (view c.args.value) _ c.requires.value c.requires.marked c.log_edit.ensures.logged c.log_edit.ensures.refused c.log_edit.ensures.unchanged

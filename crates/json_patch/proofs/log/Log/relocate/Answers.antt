@@ -12,38 +12,38 @@ pub log_edit-requires-clause-marked : goal.log_edit-requires-clause-marked
 log_edit-requires-clause-marked c = source_value _ _ (view c.in_ok-value.value) c.args.from c.args.path c.requires.marked c.in_ok-value.ensures.taken
 
 pub make-requires-clause-marked : goal.make-requires-clause-marked
-make-requires-clause-marked c = (move_value _ _ (view c.in_ok-value.value) c.args.from c.args.path c.requires.marked c.in_ok-value.ensures.taken (Err c.in-Err.fault) c.args.keep (record { names = c.take_source.new.names; changes = c.args.self.now.changes }) c.log_edit.new.self (view c.log_edit.new.doc) (view c.log_edit.new.value) c.in-Err.ensures.logs).0
+make-requires-clause-marked c = (move_value _ _ (view c.in_ok-value.value) c.args.from c.args.path c.requires.marked c.in_ok-value.ensures.taken (Err c.in-Err.fault) c.args.keep (record { names = c.take_source.new.names; changes = c.args.self.now.changes }) c.log_edit.new.self (view c.log_edit.new.doc) (view c.log_edit.new.value) tt c.in-Err.ensures.refused c.in-Err.ensures.unchanged).0
 
 pub unreachable-requires : goal.unreachable-requires
 unreachable-requires c =
-    let back = exchanged _ _ _ _ _ _ _ _ (goes_back _ _ (view c.in_ok-value.value) c.args.from c.args.path c.requires.marked c.in_ok-value.ensures.taken _ _ c.in-Err.ensures.logs.1 c.in-Err.ensures.logs.2)
+    let back = exchanged _ _ _ _ _ _ _ _ (goes_back _ _ (view c.in_ok-value.value) c.args.from c.args.path c.requires.marked c.in_ok-value.ensures.taken _ _ c.in-Err.ensures.unchanged.0 c.in-Err.ensures.unchanged.1)
     (c.make.ensures.no_memory tt (fitting_more _ _ _ c.log_edit.ensures.grows c.in_ok-value.ensures.fits)) c.make.ensures.makes in
     true≢false (sym c.if-is_err.true ∙ c.is_err.ensures.value ∙ back.2)
 
 pub returns-in-Err-clause-comes : goal.returns-in-Err-clause-comes
-returns-in-Err-clause-comes c = move_comes _ _ (view c.in_ok-value.value) c.args.from c.args.path c.requires.marked c.in_ok-value.ensures.taken (Err c.in-Err.fault) c.args.keep (record { names = c.take_source.new.names; changes = c.args.self.now.changes }) c.log_edit.new.self (view c.log_edit.new.doc) (view c.log_edit.new.value) c.in-Err.ensures.logs
+returns-in-Err-clause-comes c = move_comes _ _ (view c.in_ok-value.value) c.args.from c.args.path c.requires.marked c.in_ok-value.ensures.taken (Err c.in-Err.fault) c.args.keep (record { names = c.take_source.new.names; changes = c.args.self.now.changes }) c.log_edit.new.self (view c.log_edit.new.doc) (view c.log_edit.new.value) tt c.in-Err.ensures.refused c.in-Err.ensures.unchanged
 
 pub returns-in-Err-clause-marked : goal.returns-in-Err-clause-marked
-returns-in-Err-clause-marked c = rw ((exchanged _ _ _ _ _ _ _ _ (goes_back _ _ (view c.in_ok-value.value) c.args.from c.args.path c.requires.marked c.in_ok-value.ensures.taken _ _ c.in-Err.ensures.logs.1 c.in-Err.ensures.logs.2)
+returns-in-Err-clause-marked c = rw ((exchanged _ _ _ _ _ _ _ _ (goes_back _ _ (view c.in_ok-value.value) c.args.from c.args.path c.requires.marked c.in_ok-value.ensures.taken _ _ c.in-Err.ensures.unchanged.0 c.in-Err.ensures.unchanged.1)
     (c.make.ensures.no_memory tt (fitting_more _ _ _ c.log_edit.ensures.grows c.in_ok-value.ensures.fits)) c.make.ensures.makes).0) c.requires.marked
 
 pub returns-in-Err-clause-unchanged : goal.returns-in-Err-clause-unchanged
 returns-in-Err-clause-unchanged c =
-    (exchanged _ _ _ _ _ _ _ _ (goes_back _ _ (view c.in_ok-value.value) c.args.from c.args.path c.requires.marked c.in_ok-value.ensures.taken _ _ c.in-Err.ensures.logs.1 c.in-Err.ensures.logs.2)
+    (exchanged _ _ _ _ _ _ _ _ (goes_back _ _ (view c.in_ok-value.value) c.args.from c.args.path c.requires.marked c.in_ok-value.ensures.taken _ _ c.in-Err.ensures.unchanged.0 c.in-Err.ensures.unchanged.1)
     (c.make.ensures.no_memory tt (fitting_more _ _ _ c.log_edit.ensures.grows c.in_ok-value.ensures.fits)) c.make.ensures.makes).0
 
 pub returns-in-Err-clause-logs : goal.returns-in-Err-clause-logs
-returns-in-Err-clause-logs c = logs_none _ _ _ _ (omega (arith, c.take_source.ensures.grows, c.log_edit.ensures.grows, c.make.ensures.grows)) c.in-Err.ensures.logs.3 ((exchanged _ _ _ _ _ _ _ _ (goes_back _ _ (view c.in_ok-value.value) c.args.from c.args.path c.requires.marked c.in_ok-value.ensures.taken _ _ c.in-Err.ensures.logs.1 c.in-Err.ensures.logs.2)
+returns-in-Err-clause-logs c = logs_none _ _ _ _ (omega (arith, c.take_source.ensures.grows, c.log_edit.ensures.grows, c.make.ensures.grows)) c.in-Err.ensures.unchanged.2 ((exchanged _ _ _ _ _ _ _ _ (goes_back _ _ (view c.in_ok-value.value) c.args.from c.args.path c.requires.marked c.in_ok-value.ensures.taken _ _ c.in-Err.ensures.unchanged.0 c.in-Err.ensures.unchanged.1)
     (c.make.ensures.no_memory tt (fitting_more _ _ _ c.log_edit.ensures.grows c.in_ok-value.ensures.fits)) c.make.ensures.makes).0)
 
 pub returns-clause-comes : goal.returns-clause-comes
-returns-clause-comes c = move_comes _ _ (view c.in_ok-value.value) c.args.from c.args.path c.requires.marked c.in_ok-value.ensures.taken (Ok c.in_default.field-0) c.args.keep (record { names = c.take_source.new.names; changes = c.args.self.now.changes }) c.log_edit.new.self (view c.log_edit.new.doc) (view c.log_edit.new.value) c.in_default.ensures.logs
+returns-clause-comes c = move_comes _ _ (view c.in_ok-value.value) c.args.from c.args.path c.requires.marked c.in_ok-value.ensures.taken (Ok c.in_default.field-0) c.args.keep (record { names = c.take_source.new.names; changes = c.args.self.now.changes }) c.log_edit.new.self (view c.log_edit.new.doc) (view c.log_edit.new.value) c.in_default.ensures.logged tt tt
 
 pub returns-clause-marked : goal.returns-clause-marked
-returns-clause-marked c = move_value _ _ (view c.in_ok-value.value) c.args.from c.args.path c.requires.marked c.in_ok-value.ensures.taken (Ok c.in_default.field-0) c.args.keep (record { names = c.take_source.new.names; changes = c.args.self.now.changes }) c.log_edit.new.self (view c.log_edit.new.doc) (view c.log_edit.new.value) c.in_default.ensures.logs
+returns-clause-marked c = move_value _ _ (view c.in_ok-value.value) c.args.from c.args.path c.requires.marked c.in_ok-value.ensures.taken (Ok c.in_default.field-0) c.args.keep (record { names = c.take_source.new.names; changes = c.args.self.now.changes }) c.log_edit.new.self (view c.log_edit.new.doc) (view c.log_edit.new.value) c.in_default.ensures.logged tt tt
 
 pub returns-clause-logs : goal.returns-clause-logs
-returns-clause-logs c = logs_as (Ok c.in_default.field-0) c.args.keep _ _ _ _ (logs_earlier _ (record { names = c.take_source.new.names; changes = c.args.self.now.changes }) _ _ _ c.take_source.ensures.grows refl (move_logs _ _ (view c.in_ok-value.value) c.args.from c.args.path c.requires.marked c.in_ok-value.ensures.taken c.args.keep (record { names = c.take_source.new.names; changes = c.args.self.now.changes }) c.log_edit.new.self (view c.log_edit.new.doc) (view c.log_edit.new.value) c.in_default.ensures.logs c.log_edit.ensures.grows (fitting_more _ _ _ c.log_edit.ensures.grows c.in_ok-value.ensures.fits)))
+returns-clause-logs c = logs_as (Ok c.in_default.field-0) c.args.keep _ _ _ _ (logs_earlier _ (record { names = c.take_source.new.names; changes = c.args.self.now.changes }) _ _ _ c.take_source.ensures.grows refl (move_logs _ _ (view c.in_ok-value.value) c.args.from c.args.path c.requires.marked c.in_ok-value.ensures.taken c.args.keep (record { names = c.take_source.new.names; changes = c.args.self.now.changes }) c.log_edit.new.self (view c.log_edit.new.doc) c.in_default.ensures.logged.0 c.in_default.ensures.logged.1 c.in_default.ensures.logged.2 c.log_edit.ensures.grows (fitting_more _ _ _ c.log_edit.ensures.grows c.in_ok-value.ensures.fits)))
 
 pub returns-clause-keeps : goal.returns-clause-keeps
-returns-clause-keeps c = move_keeps _ _ (view c.in_ok-value.value) c.args.from c.args.path c.requires.marked c.in_ok-value.ensures.taken c.args.keep (record { names = c.take_source.new.names; changes = c.args.self.now.changes }) c.log_edit.new.self (view c.log_edit.new.doc) (view c.log_edit.new.value) c.in_default.ensures.logs
+returns-clause-keeps c = move_keeps _ _ (view c.in_ok-value.value) c.args.from c.args.path c.requires.marked c.in_ok-value.ensures.taken c.args.keep (record { names = c.take_source.new.names; changes = c.args.self.now.changes }) c.log_edit.new.self (view c.log_edit.new.doc) c.in_default.ensures.logged.0 c.in_default.ensures.logged.1 c.in_default.ensures.logged.2
