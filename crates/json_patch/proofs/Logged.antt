@@ -1,14 +1,14 @@
 -- A log of changes, undone from its end.
-use Rattle.json_patch.proofs.Common.{◌≡◌, ◌++◌, ◌≤◌, ℕ, List, [], ◌∷◌, false, Option, Some, None, Result, Ok, Err, refl}
-use Rattle.json_patch.proofs.Common.{sym, subst, Data, StepFault, Refused, is_err}
-use Rattle.json_patch.specs.Exchange.{Exchanges}
-use Rattle.json_patch.specs.NoMemory.{NeverShort}
-use Rattle.json_patch.proofs.Exchanges.{fitting_more}
+use Rattle.json_patch.proofs.Common.{◌≡◌, ◌++◌, ◌≤◌, ◌<◌, ℕ, suc, List, [], ◌∷◌, false, Option, Some, None, Result, Ok, Err, refl}
+use Rattle.json_patch.proofs.Common.{◌+◌, add-one, get_or, length, drop, rules, arith, sym, subst, Data, StepFault, Refused, is_err}
+use Rattle.json_patch_edit.specs.Exchange.{Exchanges}
+use Rattle.json_patch_edit.specs.NoMemory.{NeverShort}
+use Rattle.json_patch_edit.proofs.Exchanges.{fitting_more}
 use Rattle.jsonptr.specs.Pointers.{tokens_of}
 use Rattle.jsonptr.specs.declared.pointer.Pointer.{Pointer as PointerOf}
 use Rattle.json_patch.specs.Logged.{IsRoomyFrom, AreRoomy, IsRoomy, IsUndone, LeadsBack}
-use Rattle.json_patch.specs.declared.edits.Found.{Found}
-use Rattle.json_patch.specs.declared.error.StepFault.TheVariants.{Memory}
+use Rattle.json_patch_edit.specs.declared.edits.Found.{Found}
+use Rattle.json_patch_edit.specs.declared.error.StepFault.TheVariants.{Memory}
 use Rattle.json_patch.specs.declared.log.Change.{Change}
 
 -- an exchange that was wanted, and that memory wasn't short for
@@ -42,3 +42,11 @@ roomy_more n m (c ∷ log) le h = ((fitting_more n m (tokens_of c.path) le h.0.0
 pub roomy_pushed : (n : ℕ) (log : List Change) (c : Change) → AreRoomy n log → IsRoomy n c → AreRoomy n (log ++ c ∷ [])
 roomy_pushed n [] c h r = (r, tt)
 roomy_pushed n (b ∷ log) c h r = (h.0, roomy_pushed n log c h.1 r)
+
+-- of what is left of a list, its next change, and what is left after that
+roomy_split : (n : ℕ) (cs : List Change) (k : ℕ) (c : Change) → k < length cs → c ≡ get_or cs k c → AreRoomy n (drop k cs) → IsRoomy n c × AreRoomy n (drop (suc k) cs)
+roomy_split n (x ∷ cs) (suc k) c less is h = roomy_split n cs k c (omega arith) is h
+roomy_split n cs k c less is h = search rules
+
+pub roomy_next : (n : ℕ) (cs : List Change) (k : ℕ) (c : Change) → k < length cs → c ≡ get_or cs k c → AreRoomy n (drop k cs) → IsRoomy n c × AreRoomy n (drop (k + 1) cs)
+roomy_next n cs k c less is h = subst (λ j. IsRoomy n c × AreRoomy n (drop j cs)) (sym (add-one k)) (roomy_split n cs k c less is h)

@@ -1,30 +1,30 @@
 -- A logged edit of a marked document: what it comes to, what undoes it, and what the inverse says of it.
-use Rattle.json_patch.proofs.Common.{◌≡◌, ◌++◌, ◌+◌, ◌≤◌, ℕ, List, [], ◌∷◌, Option, Some, None, Result, Ok, Err, refl}
+use Rattle.json_patch.proofs.Common.{◌≡◌, ◌++◌, ◌+◌, ◌≤◌, ℕ, List, [], ◌∷◌, Option, Some, None, Result, Ok, Err, refl, length-append}
 use Rattle.json_patch.proofs.Common.{sym, ap, ◌∙◌, subst, rules, arith, append_assoc, Data, array, object, Items}
 use Rattle.json_patch.proofs.Common.{no_items, item, Members, no_members, member, view, Pointer, StepFault, Refused}
 use Rattle.json_patch.proofs.Common.{PatchErrorKind, InvalidPointer, Attempts, ComesTo, IsDocument, AreDocuments}
 use Rattle.json_patch.proofs.Common.{AreMembers, IfOk, Value, after_add}
 use Rattle.std.specs.Prelude.{IfErr, OnErr, OnOk}
 use Rattle.jsonptr.specs.Pointers.{tokens_of}
-use Rattle.json_patch.specs.Attempt.{Excuses}
+use Rattle.json_patch_edit.specs.Attempt.{Excuses}
 use Rattle.jsonptr.specs.declared.pointer.Pointer.{Pointer as PointerOf}
-use Rattle.json_patch.specs.ChangeComputed.{pointee, after_remove, last_of}
-use Rattle.json_patch.specs.Exchange.{AreFitting, Exchanges, Finds, FindsWhere, made_where, room}
-use Rattle.json_patch.specs.InverseComputed.{block, undo_add}
+use Rattle.json_patch_document.specs.ChangeComputed.{pointee, after_remove, last_of}
+use Rattle.json_patch_edit.specs.Exchange.{AreFitting, Exchanges, Finds, FindsWhere, made_where, room}
+use Rattle.json_patch_edit.specs.InverseComputed.{block, undo_add}
 use Rattle.json_patch.specs.Logged.{IsEnd, IsFor, IsKept, IsKeptBack, IsMade, IsRoomy, IsTakenFrom, IsUndone, Keeps}
 use Rattle.json_patch.specs.Logged.{Logs, LogsAs, kept_block, kept_blocks, place_undone, put_back, takes, taken, held}
-use Rattle.json_patch.specs.Logged.{Counts, lasting}
-use Rattle.json_patch.specs.Marked.{IsMarked, IsValue, seen, the_mark}
-use Rattle.json_patch.specs.MarkedComputed.{marks, marks_items, marks_members}
-use Rattle.json_patch.specs.Operation.{Operation, add, move, path_of}
-use Rattle.json_patch.specs.RunComputed.{after_step, or_refused}
-use Rattle.json_patch.specs.SeenEdits.{IsReversible, Suits, place_to_undo, found_marks, operation_at, put_marks}
-use Rattle.json_patch.specs.SeenEdits.{seen_where, undo_found}
-use Rattle.json_patch.specs.declared.edits.Edit.{Edit}
-use Rattle.json_patch.specs.declared.edits.Edit.TheVariants.{Insert, Take, Swap, Undo}
-use Rattle.json_patch.specs.declared.edits.Found.{Found}
-use Rattle.json_patch.specs.declared.edits.Found.TheVariants.{Nothing, Former, Taken}
-use Rattle.json_patch.specs.declared.error.StepFault.TheVariants.{Memory}
+use Rattle.json_patch.specs.Logged.{Tells, lasting}
+use Rattle.json_patch_edit.specs.Marked.{IsMarked, IsValue, seen, the_mark}
+use Rattle.json_patch_edit.specs.MarkedComputed.{marks, marks_items, marks_members}
+use Rattle.json_patch_operation.specs.Operation.{Operation, add, move, path_of}
+use Rattle.json_patch_edit.specs.RunComputed.{after_step, or_refused}
+use Rattle.json_patch_edit.specs.SeenEdits.{IsReversible, Suits, place_to_undo, found_marks, operation_at, put_marks}
+use Rattle.json_patch_edit.specs.SeenEdits.{seen_where, undo_found}
+use Rattle.json_patch_edit.specs.declared.edits.Edit.{Edit}
+use Rattle.json_patch_edit.specs.declared.edits.Edit.TheVariants.{Insert, Take, Swap, Undo}
+use Rattle.json_patch_edit.specs.declared.edits.Found.{Found}
+use Rattle.json_patch_edit.specs.declared.edits.Found.TheVariants.{Nothing, Former, Taken}
+use Rattle.json_patch_edit.specs.declared.error.StepFault.TheVariants.{Memory}
 use Rattle.json_patch.specs.declared.log.Change.{Change}
 use Rattle.json_patch.specs.declared.log.Keep.{Keep}
 use Rattle.json_patch.specs.declared.log.Keep.TheVariants.{Inverse, Undo as undo_alone, Neither}
@@ -33,9 +33,9 @@ use Rattle.json_patch.specs.declared.log.Log.{Log}
 use Rattle.json_patch.proofs.Logged.{leads_pushed, roomy_more, roomy_pushed}
 use Rattle.json_patch.proofs.MarkedCounts.{one_mark, where_counts}
 use Rattle.json_patch.proofs.MarkedEdits.{attempt_seen, exchange_seen, put_comes_out, where_back, where_seen}
-use Rattle.json_patch.proofs.MarkedRuns.{document_seen, document_value}
+use Rattle.json_patch_edit.proofs.MarkedRuns.{document_seen, document_value}
 use Rattle.json_patch.proofs.MarkedUndos.{edit_undoes, found_there, move_undoes, taken_seen}
-use Rattle.json_patch.proofs.StepOutcomes.{not_begins}
+use Rattle.json_patch_edit.proofs.StepOutcomes.{not_begins}
 use Rattle.jsonptr.specs.Text.{IsProperPrefix}
 
 -- ---- a document's values
@@ -103,25 +103,34 @@ blocks_pushed (b ∷ log) c = ap (λ x. x ++ kept_block b.kept b.found (view b.v
 -- a log that is the old one, where the document is
 pub logs_none : (olds news : Log) (d e : Data) → room olds.names ≤ room news.names → news.changes.items ≡ olds.changes.items → e ≡ d → Logs olds news d e
 logs_none olds news d e grows same is = record {
-  roomy = λ h. rw same (roomy_more _ _ olds.changes.items grows h);
+  tells = record {
+    roomy = λ h. rw same (roomy_more _ _ olds.changes.items grows h);
+    counts = rw (same, is) (omega arith);
+    longer = rw same (omega arith);
+  };
   leads = λ p h. rw (same, is) h;
-  counts = rw (same, is) (omega arith);
 }
 
 -- the log had less room before
 pub logs_earlier : (first olds news : Log) (d e : Data) → room first.names ≤ room olds.names → olds.changes.items ≡ first.changes.items → Logs olds news d e → Logs first news d e
 logs_earlier first olds news d e grows same l = record {
-  roomy = λ h. l.roomy (rw same (roomy_more _ _ first.changes.items grows h));
+  tells = record {
+    roomy = λ h. l.tells.roomy (rw same (roomy_more _ _ first.changes.items grows h));
+    counts = rw same at l.tells.counts;
+    longer = rw same at l.tells.longer;
+  };
   leads = λ p h. l.leads p (rw same h);
-  counts = rw same at l.counts;
 }
 
 logs_one : (olds news : Log) (c : Change) (d e : Data) → room olds.names ≤ room news.names → news.changes.items ≡ olds.changes.items ++ c ∷ [] → IsRoomy (room news.names) c → IsUndone c e d
     → marks e + found_marks c.found (view c.value) ≤ marks d + taken c.found c.from → Logs olds news d e
 logs_one olds news c d e grows ends fits undone counted = record {
-  roomy = λ h. rw ends (roomy_pushed _ olds.changes.items c (roomy_more _ _ olds.changes.items grows h) fits);
+  tells = record {
+    roomy = λ h. rw ends (roomy_pushed _ olds.changes.items c (roomy_more _ _ olds.changes.items grows h) fits);
+    counts = rw ends (omega (arith, takes_pushed olds.changes.items c, held_pushed olds.changes.items c));
+    longer = rw ends (omega (arith, length-append olds.changes.items (c ∷ [])));
+  };
   leads = λ p h. rw ends (leads_pushed olds.changes.items c e d p undone h);
-  counts = rw ends (omega (arith, takes_pushed olds.changes.items c, held_pushed olds.changes.items c));
 }
 
 -- ---- what the inverse says
@@ -216,18 +225,18 @@ module _ (r : Result (Unit {0}) StepFault) (edit : Edit) (keep : Keep) (P : Poin
 -- ---- what isn't undone
 
 pub logs_as : (r : Result (Unit {0}) StepFault) (keep : Keep) (olds news : Log) (d e : Data) → Logs olds news d e → LogsAs r keep olds news d e
-logs_as (Ok x) Neither olds news d e l = l.counts
+logs_as (Ok x) Neither olds news d e l = l.tells
 logs_as r keep olds news d e l = search rules
 
 pub logs_kept : (r : Result (Unit {0}) StepFault) (keep : Keep) (olds news : Log) (d e : Data) → (keep ≡ Neither → ⊥) → LogsAs r keep olds news d e → Logs olds news d e
 logs_kept (Ok x) Neither olds news d e kept l = absurd (kept refl)
 logs_kept r keep olds news d e kept l = search rules
 
-pub logs_counts : (r : Result (Unit {0}) StepFault) (keep : Keep) (olds news : Log) (d e : Data) → LogsAs r keep olds news d e → Counts olds news d e
-logs_counts (Ok x) Neither olds news d e l = l
-logs_counts (Ok x) Inverse olds news d e l = l.counts
-logs_counts (Ok x) undo_alone olds news d e l = l.counts
-logs_counts (Err fault) keep olds news d e l = l.counts
+pub logs_tell : (r : Result (Unit {0}) StepFault) (keep : Keep) (olds news : Log) (d e : Data) → LogsAs r keep olds news d e → Tells olds news d e
+logs_tell (Ok x) Neither olds news d e l = l
+logs_tell (Ok x) Inverse olds news d e l = l.tells
+logs_tell (Ok x) undo_alone olds news d e l = l.tells
+logs_tell (Err fault) keep olds news d e l = l.tells
 
 lasting_suits : (edit : Edit) (v : Data) → IsFor edit v → Suits (lasting edit) v
 lasting_suits Insert v h = document_value v h
@@ -257,11 +266,15 @@ module _ (r : Result Found StepFault) (edit : Edit) (P : Pointer) (d e v w : Dat
   pub lasting_value : IsValue e
   lasting_value = lasting_left.1
 
-pub lasting_counts : (edit : Edit) (found : Found) (P : Pointer) (olds news : Log) (d e v w : Data) → IsFor edit v → IsValue d → Exchanges (Ok found) (made_where (lasting edit) v d P) (FindsWhere (lasting edit) d P) d e v w → news.changes.items ≡ olds.changes.items → Counts olds news d e
-lasting_counts edit found P olds news d e v w hv hd h same =
+pub lasting_tells : (edit : Edit) (found : Found) (P : Pointer) (olds news : Log) (d e v w : Data) → IsFor edit v → IsValue d → Exchanges (Ok found) (made_where (lasting edit) v d P) (FindsWhere (lasting edit) d P) d e v w → room olds.names ≤ room news.names → news.changes.items ≡ olds.changes.items → Tells olds news d e
+lasting_tells edit found P olds news d e v w hv hd h grows same =
     let counted : marks e + found_marks found w ≡ marks d + put_marks (lasting edit) v = where_counts (lasting edit) v d e P found w (lasting_suits edit v hv) hd.0 h.1 h.0 in
     let none : put_marks (lasting edit) v ≡ 0 = lasting_puts edit v hv in
-    rw same (omega arith)
+    record {
+      roomy = λ roomy. rw same (roomy_more _ _ olds.changes.items grows roomy);
+      counts = rw same (omega arith);
+      longer = rw same (omega arith);
+    }
 
 -- ---- a `move`
 

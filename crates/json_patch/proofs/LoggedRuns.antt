@@ -2,13 +2,14 @@
 use Rattle.json_patch.proofs.Common.{◌≡◌, ◌+◌, ◌⊎◌, inl, inr, List, Bool, true, false, refl, sym, ap, ◌∙◌, Data}
 use Rattle.json_patch.proofs.Common.{Operation, [], rules, ◌≤◌, arith}
 use Rattle.json_patch.proofs.MarkedCounts.{unmarked_seen}
-use Rattle.json_patch.specs.Logged.{held, kept_at, takes, IsFree, Counts}
-use Rattle.json_patch.specs.Marked.{IsSeen, seen}
-use Rattle.json_patch.specs.MarkedComputed.{marks}
+use Rattle.json_patch_edit.specs.Exchange.{room}
+use Rattle.json_patch.specs.Logged.{AreRoomy, Tells, held, kept_at, takes, IsFree}
+use Rattle.json_patch_edit.specs.Marked.{IsSeen, seen}
+use Rattle.json_patch_edit.specs.MarkedComputed.{marks}
 use Rattle.json_patch.specs.declared.log.Change.{Change}
 use Rattle.json_patch.specs.declared.log.Keep.{Keep}
 use Rattle.json_patch.specs.declared.log.Keep.TheVariants.{Inverse, Undo, Neither}
-use Rattle.json_patch.specs.NoMemory.{TakesNoMemory}
+use Rattle.json_patch_edit.specs.NoMemory.{TakesNoMemory}
 use Rattle.json_patch.specs.declared.log.Log.{Log}
 
 -- ---- marks that go
@@ -47,8 +48,12 @@ kept_alone Undo kept false empty is some none = let e : Undo ≡ Neither = sym i
 pub free_alone : (op : Operation) → TakesNoMemory op → IsFree op Neither
 free_alone op h = search rules
 
-pub counted_alone : (olds news : Log) (d e : Data) (cs : List Change) → olds.changes.items ≡ [] → news.changes.items ≡ cs → marks d ≡ 0 → Counts olds news d e → marks e + held cs ≤ takes cs
-counted_alone olds news d e cs none is unmarked h =
-    let first : takes olds.changes.items ≡ 0 = ap takes none in
-    let before : held olds.changes.items ≡ 0 = ap held none in
-    rw (← is) (omega (arith, h))
+module _ (olds news : Log) (d e : Data) (cs : List Change) (none : olds.changes.items ≡ []) (is : news.changes.items ≡ cs) (t : Tells olds news d e) where
+  pub counted_alone : marks d ≡ 0 → marks e + held cs ≤ takes cs
+  counted_alone unmarked =
+      let first : takes olds.changes.items ≡ 0 = ap takes none in
+      let before : held olds.changes.items ≡ 0 = ap held none in
+      rw (← is) (omega (arith, t.counts))
+
+  pub roomy_alone : AreRoomy (room news.names) cs
+  roomy_alone = rw (← is) (t.roomy (rw none tt))

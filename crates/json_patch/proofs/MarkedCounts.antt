@@ -6,21 +6,21 @@ use Rattle.json_patch.proofs.Common.{number, array, object, Items, no_items, ite
 use Rattle.json_patch.proofs.Common.{without, get_member, get_item, items_len, Segment, key, place, child, segment_of}
 use Rattle.json_patch.proofs.Common.{set_child, drop_child, insert_item, remove_item, set_item, slot_in, after_change}
 use Rattle.json_patch.proofs.Common.{pointee, Pointer, IsBelowMembers, front_of, last_of}
-use Rattle.json_patch.specs.declared.edits.Edit.{Edit}
-use Rattle.json_patch.specs.declared.edits.Edit.TheVariants.{Insert, Take, Remove, Swap, Clear, Sweep}
-use Rattle.json_patch.specs.declared.edits.Found.{Found}
-use Rattle.json_patch.specs.declared.edits.Found.TheVariants.{Nothing, Former, Taken}
-use Rattle.json_patch.proofs.Locations.{option_map_some, split_whole}
-use Rattle.json_patch.proofs.Members.{below_absent, below_more}
-use Rattle.json_patch.proofs.Marked.{child_marked, shown_some}
-use Rattle.json_patch.proofs.MarkedChanges.{shown_there, stands_at, none_at}
+use Rattle.json_patch_edit.specs.declared.edits.Edit.{Edit}
+use Rattle.json_patch_edit.specs.declared.edits.Edit.TheVariants.{Insert, Take, Remove, Swap, Clear, Sweep}
+use Rattle.json_patch_edit.specs.declared.edits.Found.{Found}
+use Rattle.json_patch_edit.specs.declared.edits.Found.TheVariants.{Nothing, Former, Taken}
+use Rattle.json_patch_edit.proofs.Locations.{option_map_some, split_whole}
+use Rattle.json_patch_document.proofs.Members.{below_absent, below_more}
+use Rattle.json_patch_edit.proofs.Marked.{child_marked, shown_some}
+use Rattle.json_patch_edit.proofs.MarkedChanges.{shown_there, stands_at, none_at}
 use Rattle.json_patch.proofs.MarkedUnseen.{if_marked, push_last, sweeps_there}
-use Rattle.json_patch.proofs.BlocksLeadBack.{found_append}
-use Rattle.json_patch.specs.Marked.{is_mark, item_unless, member_unless, seen, seen_items, seen_members, IsMarked}
-use Rattle.json_patch.specs.Marked.{AreMarkedMembers, push_item, pop_item, mark_child}
-use Rattle.json_patch.specs.MarkedComputed.{marks, marks_items, marks_members}
-use Rattle.json_patch.specs.Exchange.{made, made_where, Finds, FindsWhere, clear_in, last_item, sweep_in, sweep_child}
-use Rattle.json_patch.specs.SeenEdits.{Suits, put_marks, found_marks}
+use Rattle.json_patch_edit.proofs.Locations.{found_append}
+use Rattle.json_patch_edit.specs.Marked.{is_mark, item_unless, member_unless, seen, seen_items, seen_members, IsMarked}
+use Rattle.json_patch_edit.specs.Marked.{AreMarkedMembers, push_item, pop_item, mark_child}
+use Rattle.json_patch_edit.specs.MarkedComputed.{marks, marks_items, marks_members}
+use Rattle.json_patch_edit.specs.Exchange.{made, made_where, Finds, FindsWhere, clear_in, last_item, sweep_in, sweep_child}
+use Rattle.json_patch_edit.specs.SeenEdits.{Suits, put_marks, found_marks}
 
 -- ---- in a container
 

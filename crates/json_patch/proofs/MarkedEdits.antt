@@ -2,22 +2,22 @@
 use Rattle.json_patch.proofs.Common.{◌≡◌, ℕ, List, [], ◌∷◌, false, Option, Some, option_and_then_some, Result, Ok, Err}
 use Rattle.json_patch.proofs.Common.{refl, sym, ap, ◌∙◌, subst, rules, Data, child, segment_of, pointee, after_change}
 use Rattle.json_patch.proofs.Common.{front_of, last_of, Pointer, Attempts, StepFault, Refused}
-use Rattle.json_patch.specs.declared.error.StepFault.TheVariants.{Memory}
-use Rattle.json_patch.specs.declared.edits.Edit.{Edit}
-use Rattle.json_patch.specs.declared.edits.Edit.TheVariants.{Insert, Take, Remove, Swap, Undo, Clear, Sweep}
-use Rattle.json_patch.specs.declared.edits.Found.{Found}
-use Rattle.json_patch.specs.declared.edits.Found.TheVariants.{Former}
-use Rattle.json_patch.proofs.Exchanges.{left_of}
-use Rattle.json_patch.proofs.Locations.{option_map_some, split_whole}
-use Rattle.json_patch.proofs.Members.{child_set}
-use Rattle.json_patch.proofs.Parents.{replaced_in}
-use Rattle.json_patch.proofs.BlocksLeadBack.{step_of_set}
-use Rattle.json_patch.proofs.MarkedChanges.{Mirrors, change_seen, change_back, corr_some, corr_none, seen_as, made_seen}
-use Rattle.json_patch.proofs.MarkedChanges.{made_mark, made_back, put_comes_back}
+use Rattle.json_patch_edit.specs.declared.error.StepFault.TheVariants.{Memory}
+use Rattle.json_patch_edit.specs.declared.edits.Edit.{Edit}
+use Rattle.json_patch_edit.specs.declared.edits.Edit.TheVariants.{Insert, Take, Remove, Swap, Undo, Clear, Sweep}
+use Rattle.json_patch_edit.specs.declared.edits.Found.{Found}
+use Rattle.json_patch_edit.specs.declared.edits.Found.TheVariants.{Former}
+use Rattle.json_patch_edit.proofs.Exchanges.{left_of}
+use Rattle.json_patch_edit.proofs.Locations.{option_map_some, split_whole}
+use Rattle.json_patch_document.proofs.Members.{child_set}
+use Rattle.json_patch_laws.proofs.Parents.{replaced_in}
+use Rattle.json_patch_document.proofs.Children.{step_of_set}
+use Rattle.json_patch_edit.proofs.MarkedChanges.{Mirrors, change_seen, change_back, corr_some, corr_none, seen_as, made_seen}
+use Rattle.json_patch_edit.proofs.MarkedChanges.{made_mark, made_back, put_comes_back}
 use Rattle.json_patch.proofs.MarkedUnseen.{change_unseen, made_unseen, swept}
-use Rattle.json_patch.specs.Marked.{is_mark, seen, IsMarked, IsSeen, IsValue, Corresponds}
-use Rattle.json_patch.specs.Exchange.{made, made_where, Finds, FindsWhere, Exchanges}
-use Rattle.json_patch.specs.SeenEdits.{Suits, IsReversible, IsUnseen, seen_made, seen_where}
+use Rattle.json_patch_edit.specs.Marked.{is_mark, seen, IsMarked, IsSeen, IsValue, Corresponds}
+use Rattle.json_patch_edit.specs.Exchange.{made, made_where, Finds, FindsWhere, Exchanges}
+use Rattle.json_patch_edit.specs.SeenEdits.{Suits, IsReversible, IsUnseen, seen_made, seen_where}
 
 -- ---- what is seen
 

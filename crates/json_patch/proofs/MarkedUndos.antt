@@ -3,19 +3,19 @@ use Rattle.json_patch.proofs.Common.{◌≡◌, ℕ, false, Segment, segment_of,
 use Rattle.json_patch.proofs.Common.{option_map, option_and_then, refl, sym, ap, ◌∙◌, subst, rules, Data, array, object}
 use Rattle.json_patch.proofs.Common.{child, pointee, drop_child, set_child, after_remove, front_of, last_of, Pointer}
 use Rattle.json_patch.proofs.Common.{move, add, path_of, undo_in, undo_add, undo_at, block}
-use Rattle.json_patch.specs.declared.edits.Edit.{Edit}
-use Rattle.json_patch.specs.declared.edits.Edit.TheVariants.{Insert, Take, Remove, Swap}
-use Rattle.json_patch.specs.declared.edits.Found.{Found}
-use Rattle.json_patch.specs.declared.edits.Found.TheVariants.{Nothing, Former, Taken}
-use Rattle.json_patch.proofs.Locations.{split_whole}
-use Rattle.json_patch.proofs.BlocksLeadBack.{found_append}
-use Rattle.json_patch.proofs.Marked.{shown_some}
-use Rattle.json_patch.proofs.MarkedChanges.{found_seen, shown_there, stands_at, shown_is, corr_some}
-use Rattle.json_patch.proofs.MarkedRuns.{found_value}
+use Rattle.json_patch_edit.specs.declared.edits.Edit.{Edit}
+use Rattle.json_patch_edit.specs.declared.edits.Edit.TheVariants.{Insert, Take, Remove, Swap}
+use Rattle.json_patch_edit.specs.declared.edits.Found.{Found}
+use Rattle.json_patch_edit.specs.declared.edits.Found.TheVariants.{Nothing, Former, Taken}
+use Rattle.json_patch_edit.proofs.Locations.{split_whole}
+use Rattle.json_patch_edit.proofs.Locations.{found_append}
+use Rattle.json_patch_edit.proofs.Marked.{shown_some}
+use Rattle.json_patch_edit.proofs.MarkedChanges.{found_seen, shown_there, stands_at, shown_is, corr_some}
+use Rattle.json_patch_edit.proofs.MarkedRuns.{found_value}
 use Rattle.json_patch.proofs.MarkedEdits.{changed_there, where_seen}
-use Rattle.json_patch.specs.Marked.{is_mark, shown, seen, IsValue, IsSeen, mark_child}
-use Rattle.json_patch.specs.Exchange.{made, made_where, Finds, FindsWhere}
-use Rattle.json_patch.specs.SeenEdits.{Suits, IsTaking, WantsValue, seen_where, operation_at, undo_found, IsUndoneBy}
+use Rattle.json_patch_edit.specs.Marked.{is_mark, shown, seen, IsValue, IsSeen, mark_child}
+use Rattle.json_patch_edit.specs.Exchange.{made, made_where, Finds, FindsWhere}
+use Rattle.json_patch_edit.specs.SeenEdits.{Suits, IsTaking, WantsValue, seen_where, operation_at, undo_found, IsUndoneBy}
 
 -- ---- the value that an edit found
 

@@ -5,17 +5,17 @@ use Rattle.json_patch.proofs.Common.{slice_cmp, nat_cmp, refl, sym, ap, ◌∙�
 use Rattle.json_patch.proofs.Common.{no_items, item, Members, no_members, member, put, without, get_member, get_item}
 use Rattle.json_patch.proofs.Common.{Segment, child, segment_of, set_child, set_item, after_change, Pointer}
 use Rattle.json_patch.proofs.Common.{IsBelowMembers}
-use Rattle.json_patch.specs.declared.edits.Edit.{Edit}
-use Rattle.json_patch.specs.declared.edits.Edit.TheVariants.{Clear, Sweep}
-use Rattle.json_patch.proofs.Locations.{option_map_some}
-use Rattle.json_patch.proofs.Members.{below_absent, below_more}
-use Rattle.json_patch.proofs.Marked.{child_marked, shown_some, set_marked, set_seen, seen_push, seen_again, seen_marked}
-use Rattle.json_patch.proofs.Marked.{mark_of_seen, pop_items_marked, without_marked}
-use Rattle.json_patch.proofs.MarkedChanges.{seen_as, stays_set, shown_is, shown_there, change_mark}
-use Rattle.json_patch.specs.Marked.{is_mark, shown, member_unless, seen, seen_items, seen_members, IsMarked}
-use Rattle.json_patch.specs.Marked.{AreMarkedMembers, IsSeen, IsValue, push_item, pop_item}
-use Rattle.json_patch.specs.Exchange.{made, clear_in, if_mark, last_item, sweep_child, sweep_in}
-use Rattle.json_patch.specs.SeenEdits.{IsUnseen}
+use Rattle.json_patch_edit.specs.declared.edits.Edit.{Edit}
+use Rattle.json_patch_edit.specs.declared.edits.Edit.TheVariants.{Clear, Sweep}
+use Rattle.json_patch_edit.proofs.Locations.{option_map_some}
+use Rattle.json_patch_document.proofs.Members.{below_absent, below_more}
+use Rattle.json_patch_edit.proofs.Marked.{child_marked, shown_some, set_marked, set_seen, seen_push, seen_again, seen_marked}
+use Rattle.json_patch_edit.proofs.Marked.{mark_of_seen, pop_items_marked, without_marked}
+use Rattle.json_patch_edit.proofs.MarkedChanges.{seen_as, stays_set, shown_is, shown_there, change_mark}
+use Rattle.json_patch_edit.specs.Marked.{is_mark, shown, member_unless, seen, seen_items, seen_members, IsMarked}
+use Rattle.json_patch_edit.specs.Marked.{AreMarkedMembers, IsSeen, IsValue, push_item, pop_item}
+use Rattle.json_patch_edit.specs.Exchange.{made, clear_in, if_mark, last_item, sweep_child, sweep_in}
+use Rattle.json_patch_edit.specs.SeenEdits.{IsUnseen}
 
 -- ---- a child in its own place
 

@@ -1,5 +1,5 @@
 -- A run over a list of operations of the program, one step at a time.
-use Rattle.json_patch.proofs.Common.{◌≡◌, ◌+◌, ◌<◌, ◌≤◌, ℕ, zero, suc, ◌*◌, List, [], ◌∷◌, ◌++◌, length, get_or, take}
+use Rattle.json_patch.proofs.Common.{◌≡◌, ◌+◌, ◌<◌, ◌≤◌, ℕ, zero, suc, ◌*◌, List, [], ◌∷◌, ◌++◌, length, take}
 use Rattle.json_patch.proofs.Common.{Some, option_map, Result, Ok, Err, refl, sym, ap, ◌∙◌, subst, add-one, arith}
 use Rattle.json_patch.proofs.Common.{rules, Data, ComesTo, IsDocument, block, inverse, Operation, AreWhole, IsWholeOp}
 use Rattle.json_patch.proofs.Common.{operation_of, operations, path_of, Accepts, RefusesAt, IsAccepted, after_step}
@@ -7,23 +7,20 @@ use Rattle.json_patch.proofs.Common.{Leaves, Refuses, PatchErrorKind, PatchOpera
 use Rattle.json_patch.proofs.Common.{TakeNoMemory, TakesNoMemory, AreTestsThenRemove, NeverShort, ArePlain, IsInverse}
 use Rattle.json_patch.specs.Faulting.{Reports}
 use Rattle.json_patch.specs.Refusal.{NamesFirst, IfRefused}
-use Rattle.json_patch.specs.declared.error.PatchFault.{PatchFault}
-use Rattle.json_patch.specs.declared.error.StepFault.TheVariants.{Refused as step_refused, Memory as step_short}
+use Rattle.json_patch_operation.specs.declared.error.PatchFault.{PatchFault}
+use Rattle.json_patch_edit.specs.declared.error.StepFault.TheVariants.{Refused as step_refused, Memory as step_short}
 use Rattle.json_patch.specs.Logged.{IsFree, IsTest}
 use Rattle.json_patch.specs.declared.log.Keep.{Keep}
 use Rattle.json_patch.specs.declared.log.Keep.TheVariants.{Neither}
-use Rattle.json_patch.proofs.StepOutcomes.{leaves_document, stepped_leaves, stepped_refuses}
-use Rattle.json_patch.proofs.Runs.{accepted, accepts_document, accepts_ran}
-use Rattle.json_patch.proofs.Blocks.{inverse_back, inverse_joined, inverse_length, inverse_whole, inverse_is}
-use Rattle.json_patch.proofs.Plain.{inverse_plain}
+use Rattle.json_patch_edit.proofs.StepOutcomes.{leaves_document, stepped_leaves, stepped_refuses}
+use Rattle.json_patch_laws.proofs.SharedTokens.{IsAt}
+use Rattle.json_patch_laws.proofs.Runs.{accepted, accepts_document, accepts_ran}
+use Rattle.json_patch_laws.proofs.Blocks.{inverse_back, inverse_joined, inverse_length, inverse_whole, inverse_is}
+use Rattle.json_patch_laws.proofs.Plain.{inverse_plain}
 
 -- the state of the run before the operation at k
 abbrev pub IsState : Data → List PatchOperation → ℕ → Data → Type 0
 IsState d os k m = Accepts d (take k (operations os)) m
-
--- the operation at k
-abbrev pub IsAt : List PatchOperation → ℕ → PatchOperation → Type 0
-IsAt os k o = o ≡ get_or os k o
 
 -- ---- one more step
 

@@ -3,8 +3,8 @@ use Rattle.json_patch.proofs.Common.{◌≡◌, ℕ, List, ◌∷◌, sym, ◌�
 use Rattle.json_patch.proofs.Common.{[], ◌++◌, Option, Some, None, Result, Ok, Err, IfOk}
 use Rattle.json_patch.proofs.Common.{ap, append_assoc, Data, Pointer, ReplacesLast, next_token, decimal_token, pointee}
 use Rattle.json_patch.proofs.Common.{settled_token, undo_add, undo_in, path_of, count_in, AllocError}
-use Rattle.json_patch.proofs.Locations.{split_is, split_whole}
-use Rattle.json_patch.proofs.Parents.{no_last}
+use Rattle.json_patch_edit.proofs.Locations.{split_is, split_whole}
+use Rattle.json_patch_laws.proofs.Parents.{no_last}
 
 settled_other : (o : Option Data) (t : List ℕ) → (t ≡ next_token → ⊥) → settled_token o t ≡ t
 settled_other o t other = search rules

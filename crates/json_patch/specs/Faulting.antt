@@ -1,10 +1,10 @@
 -- For private clauses: the fault of a run, from that of a step.
 use Rattle.std.specs.Prelude.{◌≡◌, ℕ}
 use Rattle.jsonptr.specs.Text.{Pointer}
-use Rattle.json_patch.specs.declared.error.PatchFault.{PatchFault}
-use Rattle.json_patch.specs.declared.error.PatchFault.TheVariants.{Refused, Memory}
-use Rattle.json_patch.specs.declared.error.StepFault.{StepFault}
-use Rattle.json_patch.specs.declared.error.StepFault.TheVariants.{Refused as step_refused}
+use Rattle.json_patch_operation.specs.declared.error.PatchFault.{PatchFault}
+use Rattle.json_patch_operation.specs.declared.error.PatchFault.TheVariants.{Refused, Memory}
+use Rattle.json_patch_edit.specs.declared.error.StepFault.{StepFault}
+use Rattle.json_patch_edit.specs.declared.error.StepFault.TheVariants.{Refused as step_refused}
 
 -- a refusal has the step's number, path and kind; want of memory may take its place
 abbrev pub Reports : StepFault → ℕ → Pointer → PatchFault → Type 0

@@ -1,24 +1,24 @@
 -- For private clauses: a log of changes of a marked document, what undoes them, and what the inverse says of them.
-use Rattle.std.specs.Prelude.{◌≡◌, ◌≤◌, ◌+◌, ℕ, List, [], ◌∷◌, ◌++◌, Bool, true, false, Option, Some, None, Result, Ok}
+use Rattle.std.specs.Prelude.{◌≡◌, ◌≤◌, ◌+◌, ℕ, List, [], ◌∷◌, ◌++◌, Bool, true, false, Option, Some, None, Result, Ok, length}
 use Rattle.serde_json.specs.Data.{Data}
 use Rattle.serde_json.specs.View.{view}
 use Rattle.serde_json.specs.declared.value.Value.{Value}
 use Rattle.jsonptr.specs.Text.{Pointer, IsProperPrefix}
 use Rattle.jsonptr.specs.Pointers.{tokens_of}
 use Rattle.jsonptr.specs.declared.pointer.Pointer.{Pointer as PointerOf}
-use Rattle.json_patch.specs.Document.{IsDocument}
-use Rattle.json_patch.specs.Exchange.{AreFitting, FindsWhere, made_where, room}
-use Rattle.json_patch.specs.Marked.{IsMarked, is_mark, seen}
-use Rattle.json_patch.specs.MarkedComputed.{marks}
-use Rattle.json_patch.specs.SeenEdits.{found_marks, undo_found}
-use Rattle.json_patch.specs.NoMemory.{AreUnescaped}
-use Rattle.json_patch.specs.Operation.{Operation, add, remove, replace, move, copy, test, path_of}
-use Rattle.json_patch.specs.InverseComputed.{undo_add}
-use Rattle.json_patch.specs.declared.error.StepFault.{StepFault}
-use Rattle.json_patch.specs.declared.edits.Edit.{Edit}
-use Rattle.json_patch.specs.declared.edits.Edit.TheVariants.{Insert, Take, Remove, Swap, Undo}
-use Rattle.json_patch.specs.declared.edits.Found.{Found}
-use Rattle.json_patch.specs.declared.edits.Found.TheVariants.{Taken}
+use Rattle.json_patch_document.specs.Document.{IsDocument}
+use Rattle.json_patch_edit.specs.Exchange.{AreFitting, FindsWhere, made_where, room}
+use Rattle.json_patch_edit.specs.Marked.{IsMarked, is_mark, seen}
+use Rattle.json_patch_edit.specs.MarkedComputed.{marks}
+use Rattle.json_patch_edit.specs.SeenEdits.{found_marks, undo_found}
+use Rattle.json_patch_edit.specs.NoMemory.{AreUnescaped}
+use Rattle.json_patch_operation.specs.Operation.{Operation, add, remove, replace, move, copy, test, path_of}
+use Rattle.json_patch_edit.specs.InverseComputed.{undo_add}
+use Rattle.json_patch_edit.specs.declared.error.StepFault.{StepFault}
+use Rattle.json_patch_edit.specs.declared.edits.Edit.{Edit}
+use Rattle.json_patch_edit.specs.declared.edits.Edit.TheVariants.{Insert, Take, Remove, Swap, Undo}
+use Rattle.json_patch_edit.specs.declared.edits.Found.{Found}
+use Rattle.json_patch_edit.specs.declared.edits.Found.TheVariants.{Taken}
 use Rattle.json_patch.specs.declared.log.Change.{Change}
 use Rattle.json_patch.specs.declared.log.Keep.{Keep}
 use Rattle.json_patch.specs.declared.log.Keep.TheVariants.{Inverse, Undo as undo_alone, Neither}
@@ -82,15 +82,20 @@ held (c ∷ log) = found_marks c.found (view c.value) + held log
 abbrev pub Counts : Log → Log → Data → Data → Type 0
 Counts olds news d e = marks e + held news.changes.items + takes olds.changes.items ≤ marks d + held olds.changes.items + takes news.changes.items
 
+-- what clearing needs to know of a change of d to e, or of an attempt at it: how many marks there are, and that the names of their places take no memory
+pub record Tells (olds news : Log) (d e : Data) : Type 0 where
+  pub roomy : AreRoomy (room olds.names) olds.changes.items → AreRoomy (room news.names) news.changes.items
+  pub counts : Counts olds news d e
+  pub longer : length news.changes.items ≤ length olds.changes.items + 1
+
 -- what a change of d to e, or an attempt at it, does to the log
 pub record Logs (olds news : Log) (d e : Data) : Type 0 where
-  pub roomy : AreRoomy (room olds.names) olds.changes.items → AreRoomy (room news.names) news.changes.items
+  pub tells : Tells olds news d e
   pub leads : (p : Data) → LeadsBack olds.changes.items d p → LeadsBack news.changes.items e p
-  pub counts : Counts olds news d e
 
 -- what is made with nothing kept can't be undone
 abbrev pub LogsAs : Result (Unit {0}) StepFault → Keep → Log → Log → Data → Data → Type 0
-LogsAs (Ok x) Neither olds news d e = Counts olds news d e
+LogsAs (Ok x) Neither olds news d e = Tells olds news d e
 LogsAs r keep olds news d e = Logs olds news d e
 
 -- ---- what the inverse says

@@ -8,11 +8,11 @@ use Rattle.std.specs.declared.cmp.Ordering.TheVariants.{Less}
 use Rattle.std.specs.Cmp.Lexicographic.{slice_cmp}
 use Rattle.serde_json.specs.Data.{Num, unsigned, negative, float, Data, null, boolean, number, string, array, object}
 use Rattle.serde_json.specs.Data.{Items, no_items, item, Members, no_members, member}
-use Rattle.json_patch.specs.Document.{IsBelowMembers, IsWhole, IsDocument, AreDocuments, AreMembers}
-use Rattle.json_patch.specs.Operation.{Operation, parts_of, AreWhole, operations_of}
-use Rattle.json_patch.specs.RunComputed.{Outcome, after_run}
-use Rattle.json_patch.specs.Trails.{AreEachWhole, IfEnds, IsTrail}
-use Rattle.json_patch.specs.declared.operation.Patch.{Patch}
+use Rattle.json_patch_document.specs.Document.{IsBelowMembers, IsWhole, IsDocument, AreDocuments, AreMembers}
+use Rattle.json_patch_operation.specs.Operation.{Operation, parts_of, AreWhole, operations_of}
+use Rattle.json_patch_edit.specs.RunComputed.{Outcome, after_run}
+use Rattle.json_patch_laws.specs.Trails.{AreEachWhole, IfEnds, IsTrail}
+use Rattle.json_patch_operation.specs.declared.operation.Patch.{Patch}
 
 IsBelowMembers-prop : (k : List ℕ) (ms : Members) → IsProp (IsBelowMembers k ms)
 IsBelowMembers-prop k no_members p q = refl

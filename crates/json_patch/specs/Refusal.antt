@@ -1,11 +1,11 @@
 -- What the calls say of a patch that isn't applied.
 use Rattle.std.specs.Prelude.{◌≡◌, List, Some, Result, Ok, Err, option_map, slice_get}
 use Rattle.serde_json.specs.Data.{Data}
-use Rattle.json_patch.specs.Operation.{Operation, path_of}
-use Rattle.json_patch.specs.Run.{RefusesAt}
-use Rattle.json_patch.specs.declared.error.PatchError.{PatchError}
-use Rattle.json_patch.specs.declared.error.PatchFault.{PatchFault}
-use Rattle.json_patch.specs.declared.error.PatchFault.TheVariants.{Refused, Memory}
+use Rattle.json_patch_operation.specs.Operation.{Operation, path_of}
+use Rattle.json_patch_laws.specs.Run.{RefusesAt}
+use Rattle.json_patch_operation.specs.declared.error.PatchError.{PatchError}
+use Rattle.json_patch_operation.specs.declared.error.PatchFault.{PatchFault}
+use Rattle.json_patch_operation.specs.declared.error.PatchFault.TheVariants.{Refused, Memory}
 
 -- e names the first operation that is refused on the way from d, with its path, and why
 abbrev pub NamesFirst : Data → List Operation → PatchError → Type 0

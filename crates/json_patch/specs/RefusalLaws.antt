@@ -2,11 +2,11 @@
 use Rattle.std.specs.Prelude.{◌≡◌, ℕ, List, [], ◌∷◌, Some, option_map, slice_get}
 use Rattle.std.proofs.Common.{zero, suc, inl, inr, refl, sym, ap, ◌∙◌}
 use Rattle.serde_json.specs.Data.{Data}
-use Rattle.json_patch.specs.Operation.{Operation, path_of}
+use Rattle.json_patch_operation.specs.Operation.{Operation, path_of}
 use Rattle.json_patch.specs.Refusal.{NamesFirst}
-use Rattle.json_patch.specs.Run.{Ends, RefusesAt}
-use Rattle.json_patch.specs.declared.error.PatchError.{PatchError}
-use Rattle.json_patch.specs.declared.error.PatchErrorKind.{PatchErrorKind}
+use Rattle.json_patch_laws.specs.Run.{Ends, RefusesAt}
+use Rattle.json_patch_operation.specs.declared.error.PatchError.{PatchError}
+use Rattle.json_patch_operation.specs.declared.error.PatchErrorKind.{PatchErrorKind}
 
 same_error : (ops : List Operation) (x y : PatchError) → x.operation ≡ y.operation → x.kind ≡ y.kind
     → option_map path_of (slice_get ops x.operation) ≡ Some x.path → option_map path_of (slice_get ops y.operation) ≡ Some y.path → x ≡ y

@@ -8,39 +8,20 @@
 //! ```
 #![tactic(auto)]
 
-mod apart;
-mod edits;
-mod equality;
-mod error;
-mod filter;
-pub mod laws;
 mod log;
-mod marks;
-mod merging;
-mod operation;
-mod parsing;
-mod printing;
-mod reading;
 mod run;
-mod seen;
 mod shared;
 mod shifts;
-mod walk;
-mod wholeness;
-mod within;
-mod writing;
 
-pub use apart::are_apart;
-pub use equality::same;
-pub use error::{Fault, PatchError, PatchErrorKind, PatchFault, ReadError, ReadFault, ReadKind};
-pub use jsonptr;
-pub use merging::merge;
-pub use operation::{
-    AddOperation, CopyOperation, MoveOperation, Patch, PatchOperation, RemoveOperation,
-    ReplaceOperation, TestOperation,
+pub use json_patch_apart::are_apart;
+pub use json_patch_document::{is_whole, same};
+pub use json_patch_edit::walk::lookup;
+pub use json_patch_laws::laws;
+pub use json_patch_merge::merge;
+pub use json_patch_operation::{
+    AddOperation, CopyOperation, Fault, MoveOperation, Patch, PatchError, PatchErrorKind,
+    PatchFault, PatchOperation, ReadError, ReadFault, ReadKind, RemoveOperation, ReplaceOperation,
+    TestOperation, document_from_str, pretty,
 };
-pub use parsing::document_from_str;
-pub use printing::pretty;
+pub use jsonptr;
 pub use run::{apply_patches, patch, patch_unsafe};
-pub use walk::lookup;
-pub use wholeness::is_whole;

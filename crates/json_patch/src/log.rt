@@ -1,39 +1,41 @@
 //! Operations that are made on a document with marks, and what undoes them.
 
-ghost use Rattle.std.specs.Prelude.{◌≡◌, ◌+◌, ◌*◌, ◌≤◌, ◌++◌, ◌↔◌, [], IfErr, IfOk, IsOk, IsTrue, OnErr, OnOk, Some};
+ghost use Rattle.std.specs.Prelude.{◌≡◌, ◌+◌, ◌*◌, ◌≤◌, ◌++◌, ◌↔◌, [], IfErr, IfOk, IfSome, IsOk, IsTrue, OnErr, OnOk, Some, ℕ};
 ghost use Rattle.std.specs.Prelude.{vec_capacity, vec_len};
-ghost use Rattle.serde_json.specs.Data.{Data};
+ghost use Rattle.serde_json.specs.Data.{Data, null};
 ghost use Rattle.serde_json.specs.View.{view};
 ghost use Rattle.jsonptr.specs.Pointers.{tokens_of};
 ghost use Rattle.jsonptr.specs.Text.{IsProperPrefix};
-ghost use Rattle.json_patch.specs.Attempt.{ComesTo, Excuses, FailsAs};
-ghost use Rattle.json_patch.specs.ChangeComputed.{pointee};
-ghost use Rattle.json_patch.specs.Document.{IsDocument};
-ghost use Rattle.json_patch.specs.Exchange.{AreFitting, IsUnmarkedFor, made_where, room};
-ghost use Rattle.json_patch.specs.NoMemory.{AreUnescaped, NeverShort};
-ghost use Rattle.json_patch.specs.InverseComputed.{block, undo_add};
+ghost use Rattle.json_patch_edit.specs.Attempt.{ComesTo, Excuses, FailsAs};
+ghost use Rattle.json_patch_document.specs.ChangeComputed.{pointee};
+ghost use Rattle.json_patch_document.specs.Document.{IsDocument};
+ghost use Rattle.json_patch_edit.specs.Exchange.{AreFitting, IsUnmarkedFor, made_where, room};
+ghost use Rattle.json_patch_edit.specs.NoMemory.{AreUnescaped, NeverShort};
+ghost use Rattle.json_patch_edit.specs.InverseComputed.{block, undo_add};
 ghost use Rattle.json_patch.specs.Logged.{AreRoomy, IsEnd, IsFor, IsFree, IsKept, IsMade, IsRoomy, IsTakenFrom, IsTest};
 ghost use Rattle.json_patch.specs.Logged.{IsUndone, Keeps, LeadsBack, LogsAs, held, kept_at, kept_block, kept_blocks, lasting};
 ghost use Rattle.json_patch.specs.Logged.{place_undone, taken, takes, count_some, count_true};
-ghost use Rattle.json_patch.specs.MarkedComputed.{marks};
-ghost use Rattle.json_patch.specs.Marked.{IsSeen, IsValue, seen};
-ghost use Rattle.json_patch.specs.Operation.{IsWholeOp, move as move_at, operation_of, operations, path_of};
-ghost use Rattle.json_patch.specs.Operation.{remove as remove_at, test as test_at};
-ghost use Rattle.json_patch.specs.RunComputed.{after_copy, after_step};
-ghost use Rattle.json_patch.specs.SeenEdits.{operation_at, undo_found};
-ghost use Rattle.json_patch.specs.declared.edits.Edit.TheVariants.{Take};
+ghost use Rattle.json_patch_edit.specs.MarkedComputed.{marks};
+ghost use Rattle.json_patch_edit.specs.Marked.{IsSeen, IsValue, seen};
+ghost use Rattle.json_patch_operation.specs.Operation.{IsWholeOp, move as move_at, operation_of, operations, path_of};
+ghost use Rattle.json_patch_operation.specs.Operation.{remove as remove_at, test as test_at};
+ghost use Rattle.json_patch_edit.specs.RunComputed.{after_copy, after_step};
+ghost use Rattle.json_patch_edit.specs.SeenEdits.{operation_at, undo_found};
+ghost use Rattle.json_patch_edit.specs.declared.edits.Edit.TheVariants.{Clear, Take};
 ghost use Rattle.json_patch.specs.declared.log.Change.{Change};
 ghost use Rattle.json_patch.specs.declared.log.Keep.TheVariants.{Inverse, Neither};
 
-use crate::edits::{Edit, Found, Names, make};
-use crate::equality::shows;
-use crate::error::{PatchErrorKind, StepFault};
-use crate::marks::{clear, count_marks, is_mark, mark};
-use crate::operation::{AddOperation, PatchOperation, RemoveOperation, ReplaceOperation};
-use crate::seen::{copy_seen, count_shown, find_shown};
 use crate::shared::shared_pointer;
-use crate::shifts::followed;
-use crate::walk::find;
+use crate::shifts::Place;
+use json_patch_edit::edits::{Edit, Found, Names, make};
+use json_patch_edit::equality::shows;
+use json_patch_edit::error::StepFault;
+use json_patch_edit::marks::{clear, count_marks, is_mark, mark};
+use json_patch_edit::seen::{copy_seen, count_shown, find_shown};
+use json_patch_edit::walk::find;
+use json_patch_operation::{
+    AddOperation, PatchErrorKind, PatchOperation, RemoveOperation, ReplaceOperation,
+};
 use jsonptr::{Pointer, PointerBuf};
 use serde_json::Value;
 use std::alloc::{AllocError, Global};
@@ -353,8 +355,8 @@ fn kept_of(
     Ok(Some(Kept { place, back }))
 }
 
-/// Where what is added to the document at `path` is taken back: there, but that a `-` that stands for
-/// a place in a list gives way to its number.
+/// Where what is added to the document at `path` is taken back: there, but with the index in place of
+/// a `-` that stands for one.
 fn undo_place(alloc: Global, doc: &Value, path: Pointer<'_>) -> Result<PointerBuf, AllocError>
     requires { IsValue (view doc.now) }
     ensures { IfOk result
@@ -445,6 +447,7 @@ pub(crate) fn clear_marks(
     doc: &mut Value,
 )
     requires marked { IsValue (view doc.old) }
+    requires roomy { AreRoomy (room names.old) changes.now }
     requires counts { marks (view doc.old) + held changes.now ≤ takes changes.now }
     ensures { view doc.new ≡ seen (view doc.old) }
 {
@@ -463,10 +466,11 @@ pub(crate) fn clear_marks(
     }
 }
 
-/// Takes out the marks that stand at the places of their changes, and answers how many marks are
+/// Takes out the marks that stand at the places of their changes, and returns how many marks are
 /// left at most, with those in what the changes found.
 fn clear_places(names: &mut Names, changes: &[Change<'_>], doc: &mut Value) -> usize
     requires marked { IsValue (view doc.old) }
+    requires roomy { AreRoomy (room names.old) changes.now }
     requires counts { marks (view doc.old) + held changes.now ≤ takes changes.now }
     ensures cleared { IsSeen (view doc.new) (seen (view doc.old)) }
     ensures left { marks (view doc.new) + held changes.now ≤ result }
@@ -483,7 +487,7 @@ fn clear_places(names: &mut Names, changes: &[Change<'_>], doc: &mut Value) -> u
     left
 }
 
-/// Takes out the marks that have shifted since, and answers how many are left at most, of so many.
+/// Takes out the marks that have shifted since, and returns how many are left at most, of so many.
 fn clear_followed(
     names: &mut Names,
     changes: &[Change<'_>],
@@ -498,21 +502,25 @@ fn clear_followed(
     if changes.len() > MOST_FOLLOWED {
         return left;
     }
+    let mut place = Place::new();
     for number in 0..changes.len() {
         if left == 0 {
             break;
         }
-        let Ok(Some(place)) = followed(names.alloc, &changes[number], &changes[number + 1..]) else {
+        if !place.follow(&changes[number], &changes[number + 1..]) {
+            continue;
+        }
+        let Some(pointer) = place.pointer() else {
             continue;
         };
-        if clear_mark(names, doc, place.as_pointer()) {
+        if names.has_room(pointer) && clear_mark(names, doc, pointer) {
             left -= 1;
         }
     }
     left
 }
 
-/// Takes all marks out of what the operations share, and answers how many.
+/// Takes all marks out of what the operations share, and returns how many.
 fn sweep(names: &mut Names, doc: &mut Value, patch: &[PatchOperation]) -> usize
     requires { IsValue (view doc.old) }
     ensures cleared { IsSeen (view doc.new) (seen (view doc.old)) }
@@ -521,6 +529,9 @@ fn sweep(names: &mut Names, doc: &mut Value, patch: &[PatchOperation]) -> usize
     let Some(shared) = shared_pointer(patch) else {
         return 0;
     };
+    if !names.has_room(shared) {
+        return 0;
+    }
     let Some(part) = find(doc, shared.tokens()) else {
         return 0;
     };
@@ -528,7 +539,8 @@ fn sweep(names: &mut Names, doc: &mut Value, patch: &[PatchOperation]) -> usize
     let mut none = Value::Null;
     match make(names, doc, shared, Edit::Sweep, &mut none) {
         Ok(_found) => count,
-        Err(_fault) => 0,
+        Err(StepFault::Refused(_)) => 0,
+        Err(StepFault::Memory(_)) => unreachable!(),
     }
 }
 
@@ -560,7 +572,9 @@ fn count_taken(changes: &[Change<'_>]) -> usize
 
 /// Where a change left a mark, if it took a value away.
 pub(crate) fn taken_at<'a>(change: &Change<'a>) -> Option<Pointer<'a>>
-    ensures { count_some result ≡ taken change.now.found change.now.from }
+    ensures counted { count_some result ≡ taken change.now.found change.now.from }
+    ensures fits { (n : ℕ) → IsRoomy n change.now
+        → IfSome result (λ place. AreFitting n (tokens_of place)) }
 {
     match change.found {
         Found::Taken => Some(change.path),
@@ -568,16 +582,21 @@ pub(crate) fn taken_at<'a>(change: &Change<'a>) -> Option<Pointer<'a>>
     }
 }
 
-/// Takes away a mark, if one is there.
+/// Takes away a mark, if one is there: then it is found, whatever the memory.
 fn clear_mark(names: &mut Names, doc: &mut Value, place: Pointer<'_>) -> bool
-    requires { IsValue (view doc.old) }
+    requires marked { IsValue (view doc.old) }
+    requires fits { AreFitting (room names.old) (tokens_of place) }
     ensures cleared { IsSeen (view doc.new) (seen (view doc.old)) }
     ensures fewer { marks (view doc.new) + count_true result ≡ marks (view doc.old) }
+    ensures finds { count_true result
+        ≡ count_some (made_where Clear null (view doc.old) (tokens_of place.entry)) }
+    ensures grows { room names.old ≤ room names.new }
 {
     let mut mark = Value::Null;
     match make(names, doc, place, Edit::Clear, &mut mark) {
         Ok(_found) => true,
-        Err(_fault) => false,
+        Err(StepFault::Refused(_)) => false,
+        Err(StepFault::Memory(_)) => unreachable!(),
     }
 }
 

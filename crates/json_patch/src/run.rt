@@ -3,28 +3,28 @@
 ghost use Rattle.std.specs.Prelude.{◌≡◌, ◌≤◌, ◌*◌, [], ℕ, IfOk, IsOk, OnOk, OnErr, length, take};
 ghost use Rattle.serde_json.specs.Data.{Data};
 ghost use Rattle.serde_json.specs.View.{view};
-ghost use Rattle.json_patch.specs.Attempt.{ComesTo};
-ghost use Rattle.json_patch.specs.Document.{IsDocument};
+ghost use Rattle.json_patch_edit.specs.Attempt.{ComesTo};
+ghost use Rattle.json_patch_document.specs.Document.{IsDocument};
 ghost use Rattle.json_patch.specs.Faulting.{Reports};
-ghost use Rattle.json_patch.specs.Inverse.{ArePlain, IsInverse};
-ghost use Rattle.json_patch.specs.InverseComputed.{inverse};
+ghost use Rattle.json_patch_laws.specs.Inverse.{ArePlain, IsInverse};
+ghost use Rattle.json_patch_edit.specs.InverseComputed.{inverse};
 ghost use Rattle.json_patch.specs.Logged.{IsFree, takes};
-ghost use Rattle.json_patch.specs.NoMemory.{AreTestsThenRemove, NeverShort, TakeNoMemory};
-ghost use Rattle.json_patch.specs.Operation.{AreWhole, IsWholeOp, operation_of, operations, operations_of, path_of};
+ghost use Rattle.json_patch_edit.specs.NoMemory.{AreTestsThenRemove, NeverShort, TakeNoMemory};
+ghost use Rattle.json_patch_operation.specs.Operation.{AreWhole, IsWholeOp, operation_of, operations, operations_of, path_of};
 ghost use Rattle.json_patch.specs.Refusal.{IfRefused, NamesFirst, IfShort};
-ghost use Rattle.json_patch.specs.Run.{Accepts, IsAccepted};
-ghost use Rattle.json_patch.specs.RunComputed.{after_step};
+ghost use Rattle.json_patch_laws.specs.Run.{Accepts, IsAccepted};
+ghost use Rattle.json_patch_edit.specs.RunComputed.{after_step};
 ghost use Rattle.json_patch.specs.declared.log.Keep.TheVariants.{Inverse, Neither, Undo};
 
-use crate::error::{PatchError, PatchFault, StepFault};
 use crate::log::{Keep, Log, clear_marks, inverse_of, undo_all, undo_room};
-use crate::operation::{Patch, PatchOperation};
+use json_patch_edit::error::StepFault;
+use json_patch_operation::{Patch, PatchError, PatchFault, PatchOperation};
 use serde_json::Value;
 use std::alloc::{AllocError, Global};
 use std::slice;
 
 /// Applies the operations one after another, or none of them. A refused patch leaves the document
-/// as it was, and so does one for which memory was short.
+/// as it was, and so does one that runs out of memory.
 ///
 /// Every operation is made in place, and a refused list is undone without memory. Of the document
 /// nothing is copied but what a `copy` adds. The empty list takes no memory, and neither does an
@@ -38,7 +38,7 @@ use std::slice;
 ///     Err(PatchFault::Memory(error)) => Err(error),
 /// }
 /// ```
-#[tactic(auto, using(crate::proofs::Runs::accepts_document))]
+#[tactic(auto, using(json_patch_laws::proofs::Runs::accepts_document))]
 pub fn patch(alloc: Global, doc: &mut Value, patch: &[PatchOperation]) -> Result<(), PatchFault>
     requires document { IsDocument (view doc.old) }
     requires whole { AreWhole (operations patch.now) }
@@ -55,7 +55,7 @@ pub fn patch(alloc: Global, doc: &mut Value, patch: &[PatchOperation]) -> Result
 }
 
 /// Applies the operations one after another, in place. A refused operation leaves what the ones
-/// before it made of the document; where memory is short, what some of the first ones made of it
+/// before it made of the document; out of memory, what some of the first ones made of it
 /// is left, and each operation is made whole or not at all. An accepted list of `test`s and of
 /// `remove`s at paths with no `~` takes no memory.
 ///
@@ -94,10 +94,10 @@ pub fn patch_unsafe(
     Ok(())
 }
 
-/// Applies the operations as [`patch`] does, and answers the patch that undoes them: applied to the
+/// Applies the operations as [`patch`] does, and returns the patch that undoes them: applied to the
 /// document that is left, it passes back through every state of the run to the first document. It
 /// holds `add`, `remove` and `replace` alone, at most two for each operation, and no `-` that
-/// stands for a place in a list. What the run took out of the document is moved into it, but for
+/// stands for an index. What the run took out of the document is moved into it, but for
 /// the value of a `move`, which stays in the document and is copied.
 ///
 /// ```rust
@@ -129,7 +129,7 @@ pub fn apply_patches(
     Ok(Patch(run(alloc, doc, patches, Keep::Inverse)?))
 }
 
-/// Makes the operations, or none of them, and answers the inverse, where that is kept.
+/// Makes the operations, or none of them, and returns the inverse, where that is kept.
 fn run(
     alloc: Global,
     doc: &mut Value,
@@ -147,6 +147,7 @@ fn run(
     ensures no_memory { keep ≡ Undo → AreTestsThenRemove (operations patch.now)
         → (e : Data) → Accepts (view doc.old) (operations patch.now) e → IsOk result }
 {
+    let undo = undo_room(alloc, keep, patch.len())?;
     let mut log = Log::new(alloc);
     for number in 0..patch.len() {
         let operation = &patch[number];
@@ -156,10 +157,6 @@ fn run(
             return Err(reported(alloc, number, operation, fault));
         }
     }
-    let Ok(undo) = undo_room(alloc, keep, log.changes.len()) else {
-        undo_all(doc, log);
-        return Err(PatchFault::Memory(AllocError));
-    };
     let Log { mut names, changes } = log;
     clear_marks(&mut names, &changes, patch, doc);
     Ok(inverse_of(keep, changes, undo))

@@ -2,11 +2,11 @@
 
 ghost use Rattle.std.specs.Prelude.{ℕ, List, IfNone, IfSome};
 ghost use Rattle.jsonptr.specs.Pointers.{tokens_of};
-ghost use Rattle.json_patch.specs.Operation.{operation_of, operations};
-ghost use Rattle.json_patch.specs.Shared.{IsShared, IsWithin};
-ghost use Rattle.json_patch.specs.SharedComputed.{IsLongest};
+ghost use Rattle.json_patch_operation.specs.Operation.{operation_of, operations};
+ghost use Rattle.json_patch_operation.specs.Shared.{IsShared, IsWithin};
+ghost use Rattle.json_patch_laws.specs.SharedComputed.{IsLongest};
 
-use crate::operation::PatchOperation;
+use json_patch_operation::PatchOperation;
 use jsonptr::Pointer;
 
 /// The pointer of the tokens that begin the parent of each pointer of the operations.
@@ -23,7 +23,7 @@ pub(crate) fn shared_pointer(patch: &[PatchOperation]) -> Option<Pointer<'_>>
 }
 
 /// The pointer of the tokens that begin the parent of each pointer of the operation.
-#[tactic(auto, using(crate::proofs::SharedTokens::even_if_none, crate::proofs::SharedTokens::root_within, crate::proofs::SharedTokens::parent_longest))]
+#[tactic(auto, using(json_patch_laws::proofs::SharedTokens::even_if_none, json_patch_laws::proofs::SharedTokens::root_within, json_patch_laws::proofs::SharedTokens::parent_longest))]
 fn parent_of(operation: &PatchOperation) -> Option<Pointer<'_>>
     ensures shared { IfSome result
         (λ p. IsLongest (λ T. IsWithin T (operation_of operation.now)) (tokens_of p)) }
@@ -31,9 +31,9 @@ fn parent_of(operation: &PatchOperation) -> Option<Pointer<'_>>
         ((T : List (List ℕ)) → ¬ IsWithin T (operation_of operation.now)) }
 {
     let (parent, _last) = operation.path().split_back()?;
-    match operation.parts().from {
+    match operation.source() {
         Some(from) => {
-            let (source, _last) = from.as_pointer().split_back()?;
+            let (source, _last) = from.split_back()?;
             Some(parent.shared_with(source))
         }
         None => Some(parent),

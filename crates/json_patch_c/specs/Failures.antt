@@ -1,8 +1,8 @@
 -- For private clauses: when a call makes no text, and why. Of want of memory nothing is said.
 use Rattle.std.specs.Prelude.{ℕ, List}
 use Rattle.serde_json.specs.Data.{Data}
-use Rattle.json_patch.specs.declared.error.PatchFault.{PatchFault}
-use Rattle.json_patch.specs.declared.error.PatchFault.TheVariants.{Refused as run_refused, Memory as run_memory}
+use Rattle.json_patch.specs.PatchFault.{PatchFault}
+use Rattle.json_patch.specs.PatchFault.TheVariants.{Refused as run_refused, Memory as run_memory}
 use Rattle.json_patch_c.specs.Texts.{IsDocumentText, IsNoDocumentText, IsNoMergePatchText, IsNoPatchText, StopsAt}
 use Rattle.json_patch_c.specs.Updates.{IsRefusedBy}
 use Rattle.json_patch_c.specs.declared.failure.Failure.{Failure}

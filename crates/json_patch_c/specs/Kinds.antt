@@ -1,10 +1,10 @@
 -- The numbers that C is told for what is at fault.
 use Rattle.std.specs.Prelude.{ℕ, ◌+◌}
 use Rattle.json_patch.specs.PatchValue.{rank}
-use Rattle.json_patch.specs.declared.error.PatchErrorKind.{PatchErrorKind}
-use Rattle.json_patch.specs.declared.error.PatchErrorKind.TheVariants.{TestFailed, InvalidFromPointer, InvalidPointer}
-use Rattle.json_patch.specs.declared.error.PatchErrorKind.TheVariants.{CannotMoveInsideItself}
-use Rattle.json_patch.specs.declared.error.ReadKind.{ReadKind}
+use Rattle.json_patch.specs.PatchErrorKind.{PatchErrorKind}
+use Rattle.json_patch.specs.PatchErrorKind.TheVariants.{TestFailed, InvalidFromPointer, InvalidPointer}
+use Rattle.json_patch.specs.PatchErrorKind.TheVariants.{CannotMoveInsideItself}
+use Rattle.json_patch.specs.ReadKind.{ReadKind}
 
 -- the kind of a refusal
 abbrev pub refusal_kind : PatchErrorKind → ℕ

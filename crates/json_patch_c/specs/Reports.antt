@@ -1,7 +1,7 @@
 -- What a call writes, and what it tells beside its status.
 use Rattle.std.specs.Prelude.{◌≡◌, ◌≤◌, ◌<◌, ℕ, List, length, take, drop}
 use Rattle.jsonptr.specs.Text.{text_of}
-use Rattle.json_patch.specs.declared.error.PatchError.{PatchError}
+use Rattle.json_patch.specs.PatchError.{PatchError}
 use Rattle.json_patch_c.specs.Kinds.{refusal_kind}
 use Rattle.json_patch_c.specs.declared.report.Report.{Report}
 

@@ -1,4 +1,6 @@
--- What texts that come from C say, and what a call makes of two of them.
+-- What texts that come from C say, and what a call makes of two of them. A text is JSON (RFC 8259) where the reader of
+-- JSON reads it: it nests at most 127 levels, and has no number and no escape that the reader refuses, which are a number
+-- past a float's range, such as 1e400, and an unpaired surrogate.
 use Rattle.std.specs.Prelude.{◌≡◌, ◌⊎◌, ℕ, List, Option, Some, None, IsUtf8, unwrap_or}
 use Rattle.serde_json.specs.Data.{Data, array, item, no_items}
 use Rattle.serde_json.specs.Read.{read}
@@ -10,8 +12,8 @@ use Rattle.json_patch.specs.Run.{Accepts, IsAccepted}
 use Rattle.json_patch.specs.Inverse.{IsInverse}
 use Rattle.json_patch.specs.Merged.{IsMerged}
 use Rattle.json_patch.specs.Texts.{SaysDocument, SaysPatch}
-use Rattle.json_patch.specs.declared.error.PatchError.{PatchError}
-use Rattle.json_patch.specs.declared.error.ReadKind.{ReadKind}
+use Rattle.json_patch.specs.PatchError.{PatchError}
+use Rattle.json_patch.specs.ReadKind.{ReadKind}
 use Rattle.json_patch_c.specs.Kinds.{reading_kind}
 
 -- the bytes are UTF-8 that says the document d
@@ -22,7 +24,7 @@ IsDocumentText text d = IsUtf8 text × SaysDocument text d
 abbrev pub IsPatchText : List ℕ → List Operation → Type 0
 IsPatchText text ops = IsUtf8 text × SaysPatch text ops
 
--- the bytes are no UTF-8, or no JSON (RFC 8259)
+-- the bytes are no UTF-8, or no JSON
 abbrev pub IsNoJson : List ℕ → Type 0
 IsNoJson text = IsUtf8 text → read text ≡ None
 

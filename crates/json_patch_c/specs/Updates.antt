@@ -9,7 +9,7 @@ use Rattle.json_patch.specs.Refusal.{NamesFirst}
 use Rattle.json_patch.specs.Resolve.{StandsAt}
 use Rattle.json_patch.specs.Run.{Accepts, IsAccepted}
 use Rattle.json_patch.specs.Step.{Never}
-use Rattle.json_patch.specs.declared.error.PatchError.{PatchError}
+use Rattle.json_patch.specs.PatchError.{PatchError}
 use Rattle.json_patch_c.specs.Texts.{IsDocumentText, IsPatchText}
 
 -- the text says a patch that is accepted on d, with the end e

@@ -5,7 +5,7 @@ ghost use Rattle.serde_json.specs.Data.{Data};
 ghost use Rattle.serde_json.specs.Written.{compact_text};
 ghost use Rattle.json_patch.specs.Operation.{Operation};
 ghost use Rattle.json_patch.specs.PatchValue.{written_patch};
-ghost use Rattle.json_patch.specs.declared.error.PatchError.{PatchError};
+ghost use Rattle.json_patch.specs.PatchError.{PatchError};
 ghost use Rattle.json_patch_c.specs.Reports.{IsPut, Tells, TellsRefusal};
 ghost use Rattle.json_patch_c.specs.Texts.{IsDocumentText, IsNoDocumentText, IsNoMergePatchText, IsNoPatchText};
 ghost use Rattle.json_patch_c.specs.Updates.{IsNoPointer, IsRefusedBy, LeadsNowhere, MergesTo, RecordsTo, StandsAtText};
@@ -31,7 +31,7 @@ pub extern "C" fn json_patch_open(
         × (document_in document.new.held ≡ Some d)
         × (undo_in document.new.held ≡ Some []) }
     ensures no_report { result ≡ 0 → Tells 0 0 0 report.new }
-    // 2: the text says no document. 4: memory was short.
+    // 2: the text says no document. 4: out of memory.
     ensures no_document { result ≡ 2 → IsNoDocumentText text.now report.new.kind
         × Tells 0 0 report.new.kind report.new }
     ensures no_memory { result ≡ 4 → Tells 0 0 0 report.new }
@@ -70,7 +70,7 @@ pub extern "C" fn json_patch_update(
     ensures refused { result ≡ 1 → (d : Data) × (e : PatchError)
         × (document_in document.old.held ≡ Some d) × IsRefusedBy d patch.now e
         × TellsRefusal e out.old out.new report.new }
-    // 3: the text says no patch. 4: memory was short. 6: no document is open.
+    // 3: the text says no patch. 4: out of memory. 6: no document is open.
     ensures no_patch { result ≡ 3 → IsNoPatchText patch.now report.new.operation report.new.kind
         × (report.new.size ≡ 0) }
     ensures no_memory { result ≡ 4 → Tells 0 0 0 report.new }
@@ -150,7 +150,7 @@ pub extern "C" fn json_patch_update_merged(
         × (document_in document.old.held ≡ Some d) × MergesTo d patch.now e
         × (document_in document.new.held ≡ Some e)
         × (undo_in document.new.held ≡ Some []) × Tells 0 0 0 report.new }
-    // 3: the text says no document. 4: memory was short. 6: no document is open.
+    // 3: the text says no document. 4: out of memory. 6: no document is open.
     ensures no_patch { result ≡ 3
         → IsNoMergePatchText patch.now report.new.operation report.new.kind
         × (report.new.size ≡ 0) }
@@ -187,7 +187,7 @@ pub extern "C" fn json_patch_text(
     ensures made { result ≡ 0 → (d : Data)
         × (document_in document.old.held ≡ Some d)
         × IsPut (compact_text d) out.old out.new × Tells (length (compact_text d)) 0 0 report.new }
-    // 4: memory was short. 5: `out` is shorter than the text. 6: no document is open.
+    // 4: out of memory. 5: `out` is shorter than the text. 6: no document is open.
     ensures no_memory { result ≡ 4 → Tells 0 0 0 report.new }
     ensures no_room { result ≡ 5 → (d : Data)
         × (document_in document.old.held ≡ Some d) × (length out.old < length (compact_text d))
@@ -259,7 +259,7 @@ pub extern "C" fn json_patch_text_at(
     ensures made { result ≡ 0 → (d v : Data)
         × (document_in document.old.held ≡ Some d) × StandsAtText d pointer.now v
         × IsPut (compact_text v) out.old out.new × Tells (length (compact_text v)) 0 0 report.new }
-    // 4: memory was short. 5: `out` is shorter than the text. 6: no document is open.
+    // 4: out of memory. 5: `out` is shorter than the text. 6: no document is open.
     ensures no_memory { result ≡ 4 → Tells 0 0 0 report.new }
     ensures no_room { result ≡ 5 → (d v : Data)
         × (document_in document.old.held ≡ Some d) × StandsAtText d pointer.now v

@@ -5,13 +5,14 @@
 //! `json_patch_close` answers a status, and fills a report.
 #![tactic(auto)]
 
-ghost use Rattle.std.specs.Prelude.{◌≡◌, ◌≢◌, ◌≤◌, ◌<◌, length};
+ghost use Rattle.std.specs.Prelude.{◌≡◌, ◌≢◌, ◌≤◌, ◌<◌, List, length};
 ghost use Rattle.serde_json.specs.Data.{Data};
 ghost use Rattle.serde_json.specs.Written.{compact_text};
-ghost use Rattle.json_patch.specs.declared.error.PatchError.{PatchError};
+ghost use Rattle.json_patch.specs.Operation.{Operation};
+ghost use Rattle.json_patch.specs.PatchError.{PatchError};
 ghost use Rattle.json_patch_c.specs.Reports.{IsPut, Tells, TellsRefusal};
-ghost use Rattle.json_patch_c.specs.Texts.{IsDocumentText, IsNoDocumentText, IsNoMergePatchText, IsNoPatchText, Makes};
-ghost use Rattle.json_patch_c.specs.Texts.{MakesBoth, Merges, StopsAt};
+ghost use Rattle.json_patch_c.specs.Texts.{IsDocumentText, IsNoDocumentText, IsNoMergePatchText, IsNoPatchText, IsPatchText};
+ghost use Rattle.json_patch_c.specs.Texts.{Makes, MakesBoth, Merges, StopsAt};
 
 mod calls;
 mod document;
@@ -21,7 +22,7 @@ mod kept;
 mod parts;
 mod report;
 
-use report::{Report, refuse, write};
+use report::{Report, refuse, tell, write};
 use std::alloc::Global;
 
 /// Applies a patch to a document (RFC 6902), and writes the text of the new one at the start of
@@ -45,7 +46,7 @@ pub extern "C" fn json_patch_apply(
         × Tells 0 0 report.new.kind report.new }
     ensures no_patch { result ≡ 3 → ((d : Data) × IsDocumentText document.now d)
         × IsNoPatchText patch.now report.new.operation report.new.kind × (report.new.size ≡ 0) }
-    // 4: memory was short. 5: `out` is shorter than the text.
+    // 4: out of memory. 5: `out` is shorter than the text.
     ensures no_memory { result ≡ 4 → Tells 0 0 0 report.new }
     ensures no_room { result ≡ 5 → (e : Data) × Makes document.now patch.now e
         × (length out.old < length (compact_text e))
@@ -110,7 +111,7 @@ pub extern "C" fn json_patch_merge(
     ensures no_patch { result ≡ 3 → ((d : Data) × IsDocumentText document.now d)
         × IsNoMergePatchText patch.now report.new.operation report.new.kind
         × (report.new.size ≡ 0) }
-    // 4: memory was short. 5: `out` is shorter than the text. It is never 1.
+    // 4: out of memory. 5: `out` is shorter than the text. It is never 1.
     ensures no_memory { result ≡ 4 → Tells 0 0 0 report.new }
     ensures no_room { result ≡ 5 → (e : Data) × Merges document.now patch.now e
         × (length out.old < length (compact_text e))
@@ -122,5 +123,24 @@ pub extern "C" fn json_patch_merge(
     match calls::merged(alloc, document, patch) {
         Ok(text) => write(text.as_bytes(), out, report),
         Err(failure) => refuse(&failure, out, report),
+    }
+}
+
+/// Reads a patch, and does nothing else.
+#[unsafe(no_mangle)]
+pub extern "C" fn json_patch_check(alloc: Global, patch: &[u8], report: &mut Report) -> u8
+    // 0: the text says a patch. 3: it says none.
+    ensures read { result ≡ 0 → (ops : List Operation) × IsPatchText patch.now ops
+        × Tells 0 0 0 report.new }
+    ensures no_patch { result ≡ 3
+        → IsNoPatchText patch.now report.new.operation report.new.kind × (report.new.size ≡ 0) }
+    // 4: out of memory. It is nothing else.
+    ensures no_memory { result ≡ 4 → Tells 0 0 0 report.new }
+    ensures status { result ≤ 4 }
+    ensures never { (result ≢ 1) × (result ≢ 2) }
+{
+    match calls::patch_of(alloc, patch) {
+        Ok(_operations) => tell(0, 0, 0, report),
+        Err(failure) => refuse(&failure, &mut [], report),
     }
 }

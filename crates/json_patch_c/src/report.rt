@@ -1,7 +1,7 @@
 //! What a call tells beside its status, and what it writes.
 
 ghost use Rattle.std.specs.Prelude.{◌≡◌, ◌≢◌, ◌≤◌, ◌<◌, ◌⊎◌, ◌↔◌, IsTrue, length};
-ghost use Rattle.json_patch.specs.declared.error.PatchError.{PatchError};
+ghost use Rattle.json_patch.specs.PatchError.{PatchError};
 ghost use Rattle.json_patch_c.specs.Reports.{IsPut, Tells, TellsRefusal};
 ghost use Rattle.json_patch_c.specs.declared.failure.Failure.TheVariants.{NoDocument, NoPatch, Refused};
 

@@ -11,7 +11,7 @@ use Rattle.json_patch.specs.Operation.{Operation, AreWhole, operations_of}
 use Rattle.json_patch.specs.Run.{Accepts, IsAccepted, Ends}
 use Rattle.json_patch.specs.RunComputed.{Outcome, after_run}
 use Rattle.json_patch.specs.Trails.{IfEnds, IsTrail}
-use Rattle.json_patch.specs.declared.operation.Patch.{Patch}
+use Rattle.json_patch.specs.Patch.{Patch}
 use Rattle.json_patch_editor.specs.History.{documents_along, documents_from, Lead, AreKept, IsTaken, Shifts, Records}
 use Rattle.json_patch_editor.specs.Versions.{Versions, after_apply}
 

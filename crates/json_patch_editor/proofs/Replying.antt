@@ -10,8 +10,8 @@ use Rattle.json_patch.specs.Operation.{Operation, AreWhole}
 use Rattle.json_patch.specs.Refusal.{NamesFirst}
 use Rattle.json_patch.specs.RefusalLaws.{one_refusal, refusal_named}
 use Rattle.json_patch.specs.Run.{Accepts, RefusesAt, Ends}
-use Rattle.json_patch.specs.declared.error.PatchError.{PatchError}
-use Rattle.json_patch.specs.declared.error.PatchErrorKind.{PatchErrorKind}
+use Rattle.json_patch.specs.PatchError.{PatchError}
+use Rattle.json_patch.specs.PatchErrorKind.{PatchErrorKind}
 use Rattle.json_patch_editor.specs.Commands.{Command, apply, undo, redo, Reply, accepted, refused, moved, Replies}
 use Rattle.json_patch_editor.specs.Commands.{RepliesInTurn, AreVersions, IsWholeCommand}
 use Rattle.json_patch_editor.specs.Versions.{Versions, after_apply, after_undo, after_redo, back_to, on_to}

@@ -4,7 +4,7 @@ use Rattle.json_patch.specs.Document.{IsDocument}
 use Rattle.json_patch.specs.Operation.{Operation, AreWhole}
 use Rattle.json_patch.specs.Refusal.{NamesFirst}
 use Rattle.json_patch.specs.Run.{Accepts}
-use Rattle.json_patch.specs.declared.error.PatchError.{PatchError}
+use Rattle.json_patch.specs.PatchError.{PatchError}
 use Rattle.json_patch_editor.specs.Versions.{Versions, after_apply, after_undo, after_redo}
 
 pub data Command : Type 0 where

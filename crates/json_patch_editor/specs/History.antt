@@ -4,7 +4,7 @@ use Rattle.serde_json.specs.Data.{Data}
 use Rattle.json_patch.specs.Operation.{AreWhole, operations_of}
 use Rattle.json_patch.specs.Run.{IsAccepted}
 use Rattle.json_patch.specs.RunComputed.{Outcome, after_run}
-use Rattle.json_patch.specs.declared.operation.Patch.{Patch}
+use Rattle.json_patch.specs.Patch.{Patch}
 use Rattle.std.specs.declared.alloc.AllocError.{AllocError}
 
 abbrev pub documents_from : Outcome → (Data → List Data) → List Data

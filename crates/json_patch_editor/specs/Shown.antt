@@ -1,7 +1,7 @@
 -- What an editor holds.
 use Rattle.std.specs.Prelude.{List}
 use Rattle.serde_json.specs.View.{view}
-use Rattle.json_patch.specs.declared.operation.Patch.{Patch}
+use Rattle.json_patch.specs.Patch.{Patch}
 use Rattle.json_patch_editor.specs.History.{documents_along}
 use Rattle.json_patch_editor.specs.Versions.{Versions}
 use Rattle.json_patch_editor.specs.declared.editor.Editor.{Editor}

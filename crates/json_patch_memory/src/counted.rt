@@ -26,7 +26,7 @@ pub(crate) fn end(rt: &HostRuntime) -> io::Result<()> {
     rt.stderr().write_all(b"\n")
 }
 
-/// The line of an answer, or of why there is none, and of what is left.
+/// The line of a result, or of why there is none, and of what is left.
 pub(crate) fn line<T: Display, E: Display, L: Display>(
     rt: &HostRuntime,
     answer: &Result<T, E>,

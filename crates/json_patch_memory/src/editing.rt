@@ -51,7 +51,7 @@ fn prepare(rt: &HostRuntime, editor: &mut Editor, command: &Value) -> io::Result
     Ok(())
 }
 
-/// A refusal is an answer like others here, and leaves the editor as it was.
+/// A refusal is a reply like others here, and leaves the editor as it was.
 fn run(rt: &HostRuntime, editor: &mut Editor, command: &Command) -> io::Result<()>
     requires { IsWholeCommand command.now }
 {

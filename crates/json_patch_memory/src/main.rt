@@ -1,5 +1,5 @@
 //! Makes one call on one input and tells what came of it, for a test that refuses its requests for
-//! memory one after another: `json_patch_memory CALL TEXT..` writes a line with the answer and with
+//! memory one after another: `json_patch_memory CALL TEXT..` writes a line with the result and with
 //! what the call leaves.
 #![tactic(auto)]
 

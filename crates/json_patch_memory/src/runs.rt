@@ -11,7 +11,7 @@ use serde_json::Value;
 use std::io;
 use std::io::ErrorKind;
 
-/// `done`, in place of an answer that is empty.
+/// `done`, in place of a result that is empty.
 fn done<E>(answer: Result<(), E>) -> Result<&'static str, E> {
     match answer {
         Ok(()) => Ok("done"),

@@ -10,7 +10,7 @@ use Rattle.json_patch.specs.Run.{Accepts, Ends}
 use Rattle.json_patch.specs.Inverse.{IsInverse}
 use Rattle.json_patch.specs.InverseComputed.{inverse}
 use Rattle.json_patch.specs.Merged.{IsMerged}
-use Rattle.json_patch.specs.declared.error.ReadKind.{ReadKind}
+use Rattle.json_patch.specs.ReadKind.{ReadKind}
 use Rattle.json_patch_editor.specs.Commands.{AreVersions, Command, IsWholeCommand, RepliesInTurn, Reply}
 use Rattle.json_patch_editor.specs.Versions.{Versions}
 

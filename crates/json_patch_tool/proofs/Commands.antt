@@ -9,9 +9,9 @@ use Rattle.serde_json.specs.declared.value.Value.{Value}
 use Rattle.json_patch.specs.Document.{IsDocument, AreDocuments}
 use Rattle.json_patch.specs.Operation.{Operation, AreWhole, operations}
 use Rattle.json_patch.specs.Refusal.{NamesFirst}
-use Rattle.json_patch.specs.declared.error.PatchError.{PatchError}
-use Rattle.json_patch.specs.declared.operation.Patch.{Patch}
-use Rattle.json_patch.specs.declared.operation.PatchOperation.{PatchOperation}
+use Rattle.json_patch.specs.PatchError.{PatchError}
+use Rattle.json_patch.specs.Patch.{Patch}
+use Rattle.json_patch.specs.PatchOperation.{PatchOperation}
 use Rattle.json_patch.specs.PatchValue.{ReadsPatch}
 use Rattle.json_patch_editor.specs.Commands as editor
 use Rattle.json_patch_editor.specs.Commands.{apply, undo, redo, Reply, refused, moved, Replies, RepliesInTurn}

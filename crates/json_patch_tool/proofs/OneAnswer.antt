@@ -10,10 +10,10 @@ use Rattle.json_patch.specs.Run.{Accepts, RefusesAt}
 use Rattle.json_patch.specs.Refusal.{NamesFirst}
 use Rattle.json_patch.specs.RefusalLaws.{one_refusal}
 use Rattle.json_patch.specs.Inverse.{IsInverse}
-use Rattle.json_patch.specs.declared.error.PatchError.{PatchError}
-use Rattle.json_patch.specs.declared.error.ReadError.{ReadError}
-use Rattle.json_patch.specs.declared.error.ReadKind.{ReadKind}
-use Rattle.json_patch.specs.declared.error.PatchErrorKind.{PatchErrorKind}
+use Rattle.json_patch.specs.PatchError.{PatchError}
+use Rattle.json_patch.specs.ReadError.{ReadError}
+use Rattle.json_patch.specs.ReadKind.{ReadKind}
+use Rattle.json_patch.specs.PatchErrorKind.{PatchErrorKind}
 use Rattle.json_patch_tool.specs.Input.{Says, SaysPair, NoPair, pair_of, line_of}
 use Rattle.json_patch_tool.specs.Answer.{IsPatched, IsRecorded, IsNotPatched, IsMergedWhole, IsNotMerged, GivesValue}
 use Rattle.json_patch_tool.specs.Answer.{GivesFault, Answer}

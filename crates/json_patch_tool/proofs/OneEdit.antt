@@ -9,9 +9,9 @@ use Rattle.serde_json.specs.Data.{Data, null, boolean, number, string, array, ob
 use Rattle.json_patch.specs.Document.{IsDocument}
 use Rattle.json_patch.specs.Operation.{Operation}
 use Rattle.json_patch.specs.PatchValue.{ReadsPatch, RefusesPatch}
-use Rattle.json_patch.specs.declared.error.ReadError.{ReadError}
-use Rattle.json_patch.specs.declared.error.ReadKind.{ReadKind}
-use Rattle.json_patch.specs.declared.error.ReadKind.TheVariants.{NotAList}
+use Rattle.json_patch.specs.ReadError.{ReadError}
+use Rattle.json_patch.specs.ReadKind.{ReadKind}
+use Rattle.json_patch.specs.ReadKind.TheVariants.{NotAList}
 use Rattle.json_patch_editor.specs.Commands.{AreVersions, Command, apply, undo, redo, IsWholeCommand, RepliesInTurn}
 use Rattle.json_patch_editor.specs.Versions.{initial}
 use Rattle.json_patch_tool.specs.Editing.{ReadsCommand, RefusesCommand, ReadsItems, ReadsCommands, RefusesItems}

@@ -1,8 +1,8 @@
 -- Which fault of the tool one of the calls below it becomes.
-use Rattle.json_patch.specs.declared.error.PatchFault.{PatchFault}
-use Rattle.json_patch.specs.declared.error.PatchFault.TheVariants.{Refused as run_refused, Memory as run_memory}
-use Rattle.json_patch.specs.declared.error.ReadFault.{ReadFault}
-use Rattle.json_patch.specs.declared.error.ReadFault.TheVariants.{Refused as read_refused, Memory as read_memory}
+use Rattle.json_patch.specs.PatchFault.{PatchFault}
+use Rattle.json_patch.specs.PatchFault.TheVariants.{Refused as run_refused, Memory as run_memory}
+use Rattle.json_patch.specs.ReadFault.{ReadFault}
+use Rattle.json_patch.specs.ReadFault.TheVariants.{Refused as read_refused, Memory as read_memory}
 use Rattle.json_patch_tool.specs.declared.fault.ToolFault.{ToolFault}
 use Rattle.json_patch_tool.specs.declared.fault.ToolFault.TheVariants.{Unreadable, Refused, Memory}
 

@@ -4,11 +4,11 @@ use Rattle.serde_json.specs.Data.{Data, string, array, object, boolean, number, 
 use Rattle.serde_json.specs.Data.{no_members}
 use Rattle.serde_json.specs.View.{items_of}
 use Rattle.json_patch.specs.PatchValue.{ReadsPatch, RefusesPatch}
-use Rattle.json_patch.specs.declared.error.PatchErrorKind.{PatchErrorKind}
-use Rattle.json_patch.specs.declared.error.PatchErrorKind.TheVariants.{TestFailed, InvalidFromPointer, InvalidPointer}
-use Rattle.json_patch.specs.declared.error.PatchErrorKind.TheVariants.{CannotMoveInsideItself}
-use Rattle.json_patch.specs.declared.error.ReadKind.{ReadKind}
-use Rattle.json_patch.specs.declared.error.ReadKind.TheVariants.{NotAList}
+use Rattle.json_patch.specs.PatchErrorKind.{PatchErrorKind}
+use Rattle.json_patch.specs.PatchErrorKind.TheVariants.{TestFailed, InvalidFromPointer, InvalidPointer}
+use Rattle.json_patch.specs.PatchErrorKind.TheVariants.{CannotMoveInsideItself}
+use Rattle.json_patch.specs.ReadKind.{ReadKind}
+use Rattle.json_patch.specs.ReadKind.TheVariants.{NotAList}
 use Rattle.json_patch_editor.specs.Commands.{Command, apply, undo, redo, Reply, accepted, refused, moved}
 use Rattle.json_patch_editor.specs.Versions.{Versions}
 

@@ -1,4 +1,4 @@
-//! What each mode answers to the bytes of an input.
+//! What each mode gives for the bytes of an input.
 
 ghost use Rattle.std.specs.Prelude.{◌≡◌, ◌≢◌, Ok, Err, IfOk, IfErr, string_bytes};
 ghost use Rattle.serde_json.specs.Data.{Data};
@@ -25,8 +25,8 @@ use std::alloc::Global;
 /// The line for an input of at most 16777216 bytes: one JSON text, an array of a document and a
 /// patch. The line is one compact JSON text and a line feed: the new document or, in mode `Record`,
 /// the array of it and the patch that leads back. Such a line is again an input, where it keeps the
-/// limits. In mode `Edit` the second value is a list of commands, and the line the array of the new
-/// document and the replies.
+/// limits. In mode `Edit` the second value is an array of commands, and the line has the new document
+/// and the replies.
 pub fn respond(alloc: Global, mode: Mode, input: &[u8]) -> Result<String, ToolFault>
     ensures line { IfOk result (λ line. Answer mode input.now (Ok (string_bytes line))) }
     ensures fault { IfErr result (λ fault. fault ≢ Memory → Answer mode input.now (Err fault)) }

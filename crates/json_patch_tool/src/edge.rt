@@ -1,4 +1,4 @@
-//! From a reader to a writer: the bytes are read to their end, and the line of the answer is written.
+//! From a reader to a writer: the bytes are read to their end, and the line for them is written.
 
 ghost use Rattle.std.specs.Prelude.{◌≡◌, ◌≢◌, ◌≤◌, ◌<◌, ◌⊎◌, ◌↔◌, ℕ, List, length, take, Ok, Err, IfOk, IfErr, IfSome};
 ghost use Rattle.std.specs.Prelude.{OnOk, OnErr, IsErrOf, vec_len, true, false};
@@ -22,9 +22,9 @@ pub const MAX_READS: u64 = 20_000_000;
 /// The most bytes that one call of `read` is asked for.
 const PIECE: usize = 65_536;
 
-/// Reads to the end, and writes the line of the answer and nothing else. A read that is interrupted
+/// Reads to the end, and writes the line for the input and nothing else. A read that is interrupted
 /// is made again; a write that is interrupted has failed. Nothing is written before the whole
-/// answer is ready, so after any fault but `WriteFailed` nothing was.
+/// line is ready, so after any fault but `WriteFailed` nothing was.
 pub fn run<R: Read, W: Write>(
     alloc: Global,
     mode: Mode,

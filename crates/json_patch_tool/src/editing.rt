@@ -1,4 +1,4 @@
-//! Mode `Edit`: a list of commands, done by an editor one after another.
+//! Mode `Edit`: an array of commands, done by an editor one after another.
 
 ghost use Rattle.std.specs.Prelude.{◌≡◌, ◌≢◌, All, IfOk, IfErr, string_bytes};
 ghost use Rattle.serde_json.specs.Data.{Data, array};
@@ -22,7 +22,7 @@ use std::alloc::{AllocError, Global};
 /// How many changes can be taken back.
 const DEPTH: usize = 65536;
 
-/// What an item of the list asks for.
+/// What an item of the array asks for.
 #[derive(Drop)]
 enum Command {
     Apply(Patch),
@@ -116,7 +116,7 @@ fn replies_to(
     Ok(replies)
 }
 
-/// A refused patch is answered, and is no fault.
+/// A refused patch has a reply, and is no fault.
 fn reply_to(alloc: Global, editor: &mut Editor, command: &Command) -> Result<Value, ToolFault>
     requires { IsWholeCommand (command_of command.now) }
     ensures replied { IfOk result (λ value. (r : Reply)

@@ -9,15 +9,16 @@ use json_patch::{PatchError, PatchFault, ReadError, ReadFault};
 use std::alloc::AllocError;
 use thiserror::Error;
 
-/// Why there is no answer. `Memory` comes only where a growth was refused, and in place of an
-/// answer or of any fault but `WriteFailed`.
+/// Why there is no line. `Memory` comes only where a growth was refused, and in place of a
+/// line or of any fault but `WriteFailed`.
 #[derive(Debug, Drop, Error)]
 pub enum ToolFault {
     /// More than 16777216 bytes came.
     #[error("input is too large")]
     TooLarge,
-    /// The bytes are no JSON text, nest deeper than 127 levels, or have a number or an escape that
-    /// the reader of JSON refuses.
+    /// The bytes are no JSON text (RFC 8259), nest deeper than 127 levels, or have a number or an
+    /// escape that the reader of JSON refuses: a number past a float's range, such as 1e400, or an
+    /// unpaired surrogate.
     #[error("input is not JSON")]
     Syntax,
     /// The value is no array of exactly two values.
@@ -27,7 +28,7 @@ pub enum ToolFault {
     /// exponent, minus zero, or one past 64 bits.
     #[error("a number is not whole")]
     NotWhole,
-    /// The second value is not read as a patch or, in mode `Edit`, as a list of commands. Not in
+    /// The second value is not read as a patch or, in mode `Edit`, as an array of commands. Not in
     /// mode `Merge`.
     #[error(transparent)]
     Unreadable(ReadError),

@@ -10,7 +10,7 @@ ghost use Rattle.json_patch_tool.specs.declared.mode.Mode.{Mode};
 use json_patch::laws::{documents, inverse, merging, runs, values};
 use json_patch_editor::laws;
 
-/// The answers to inputs.
+/// What each input calls for.
 pub fn answers()
     // In each mode an input has one answer at most: one line, or one fault.
     ensures answered_once { (mode : Mode) (input : List ℕ) (a b : Result (List ℕ) ToolFault)

@@ -1,4 +1,4 @@
-//! From what a mode answers to its line.
+//! From what a mode gives to its line.
 
 ghost use Rattle.std.specs.Prelude.{◌≡◌, IfOk, OnOk, string_bytes};
 ghost use Rattle.serde_json.specs.Data.{array, item, no_items};
@@ -18,7 +18,7 @@ pub(crate) fn pair(alloc: Global, first: Value, second: Value) -> Result<Value, 
     Ok(Value::Array(vec![in alloc; first, second]?))
 }
 
-/// The compact text of a value with whole numbers, and a line feed.
+/// The compact text of a value whose numbers are integers, and a line feed.
 pub(crate) fn line_of(alloc: Global, value: &Value) -> Result<String, AllocError>
     requires { IsDocument (view value.now) }
     ensures line { IfOk result (λ line. string_bytes line ≡ spec.line_of (view value.now)) }

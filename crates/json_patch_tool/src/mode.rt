@@ -7,16 +7,16 @@ ghost use Rattle.json_patch_tool.specs.declared.mode.Mode.{Mode};
 /// What the tool does with the two values of its input.
 #[derive(Clone, Copy, Debug, PartialEq, Eq)]
 pub enum Mode {
-    /// Applies the second value, a JSON Patch (RFC 6902), to the first, and answers the new
+    /// Applies the second value, a JSON Patch (RFC 6902), to the first, and gives the new
     /// document.
     Patch,
-    /// Does the same, and answers an array of the new document and the patch that leads back.
+    /// Does the same, and gives an array of the new document and the inverse.
     Record,
-    /// Merges the second value, a merge patch (RFC 7396), into the first, and answers the new
+    /// Merges the second value, a merge patch (RFC 7396), into the first, and gives the new
     /// document.
     Merge,
-    /// Has an editor of the first value do the commands of the second: a list of patches and of the
-    /// words `undo` and `redo`. Answers an array of the new document and of an answer to each.
+    /// Has an editor of the first value do the commands of the second: an array of patches and of the
+    /// words `undo` and `redo`. Gives an array of the new document and of a reply to each.
     Edit,
 }
 

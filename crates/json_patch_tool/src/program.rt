@@ -20,8 +20,8 @@ use std::io::{ErrorKind, Read, Write};
 /// The status for wrong arguments.
 const WRONG_ARGUMENTS: u8 = 64;
 
-/// The mode that the arguments name, or None where they are wrong. An argument that is no text is
-/// wrong; where there is another error, the arguments can't be had for want of memory.
+/// The mode that the arguments name, or None where they are wrong. An argument that is no string is
+/// wrong; where there is another error, memory ran out for the arguments.
 pub(crate) fn asked_mode(args: io::Result<Args>) -> Result<Option<Mode>, ToolFault>
     ensures words { IfOk args (λ words. IsOkAnd result (λ asked. (mode : Mode)
         → (asked ≡ Some mode) ↔ AsksFor (map string_bytes (into_iter_items words)) mode)) }
@@ -46,7 +46,7 @@ fn mode_of_words(mut words: Args) -> Option<Mode>
     }
 }
 
-/// Runs the mode that was asked for, and answers the status with which the program ends. A fault's
+/// Runs the mode that was asked for, and returns the status with which the program ends. A fault's
 /// text, or the usage line where the arguments are wrong, goes to `errors`; whether that can be
 /// written changes nothing.
 pub(crate) fn run_as_asked<R: Read, W: Write, E: Write>(

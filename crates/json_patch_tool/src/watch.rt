@@ -17,7 +17,7 @@ pub struct WatchedReader<R> {
     pub inner: R,
     /// How often it was read.
     pub calls: u64,
-    /// Whether a read answered that nothing is left.
+    /// Whether a read returned that nothing is left.
     pub has_ended: bool,
     /// Whether a read failed. One that was interrupted didn't.
     pub has_failed: bool,

@@ -1,18 +1,20 @@
 -- Changes that lead from one version of a shared document to another.
 use Rattle.std.proofs.Common.{◌≡◌, ◌+◌, ◌<◌, ◌≤◌, ℕ, zero, suc, List, [], ◌∷◌, ◌++◌, drop, length, length-append, refl}
 use Rattle.std.proofs.Common.{sym, ap, ◌∙◌, subst, arith, get_or}
+use Rattle.std.proofs.Math.Logic.{∥∥₁_elim, ∥∥₁_map}
 use Rattle.std.proofs.lemmas.List.{drop_more, drop-append-le}
-use Rattle.std.specs.List.{AllWithin}
-use Rattle.std.specs.Prelude.{◌↔◌}
+use Rattle.std.specs.List.{AllWithin, HoldsAt}
+use Rattle.std.specs.Prelude.{◌↔◌, slice_index_or}
 use Rattle.serde_json.specs.Data.{Data}
 use Rattle.json_patch.specs.Apart.{AreApart}
 use Rattle.json_patch.specs.Document.{IsDocument}
 use Rattle.json_patch.specs.Inverse.{IsInverse}
 use Rattle.json_patch.specs.Operation.{Operation, AreWhole}
-use Rattle.json_patch.specs.Run.{Accepts, IsAccepted}
-use Rattle.json_patch_uses.specs.SharedDocuments.{AreKept, IsMade, IsVersion, Lead, document_of, joined, patch_of}
-use Rattle.json_patch_uses.specs.SharedDocuments.{since, undo_of}
-use Rattle.json_patch_uses.specs.declared.shared.Change.{Change}
+use Rattle.json_patch.specs.Run.{Accepts, IsAccepted, RefusesAt}
+use Rattle.json_patch.specs.PatchErrorKind.{PatchErrorKind}
+use Rattle.json_patch_uses.specs.History.{Lead, LeadFromADocument, joined, patch_of, undo_of}
+use Rattle.json_patch_uses.specs.SharedDocuments.{AreKept, CollidesAt, IsMade, IsVersion, document_of, since, version_of}
+use Rattle.json_patch_uses.specs.declared.history.Change.{Change}
 use Rattle.json_patch_uses.specs.declared.shared.SharedDocument.{SharedDocument}
 
 -- ---- the changes since a version, joined
@@ -42,6 +44,37 @@ pub lead_accepts : Joined → (cs : List Change) (d e : Data) → Lead d cs e �
 lead_accepts law [] d e h = h
 lead_accepts law (c ∷ cs) d e h = (law d (patch_of c) (joined cs) e).1 (h.0, h.1, lead_accepts law cs h.0 e h.3)
 
+-- ---- each version
+
+abbrev pub KeepsDocuments : Type 0
+KeepsDocuments = (d : Data) (ops : List Operation) (e : Data) → IsDocument d → AreWhole ops → Accepts d ops e → IsDocument e
+
+on_the_way : KeepsDocuments → (cs : List Change) (k : ℕ) (d e : Data) → k ≤ length cs → IsDocument d → Lead d cs e → (m : Data) × IsDocument m × Lead m (drop k cs) e
+on_the_way law [] zero d e le document l = (d, document, l)
+on_the_way law [] (suc k) d e le document l = absurd (omega (arith, le))
+on_the_way law (c ∷ cs) zero d e le document l = (d, document, l)
+on_the_way law (c ∷ cs) (suc k) d e le document l = on_the_way law cs k l.0 e (omega (arith, le)) (law d (patch_of c) l.0 document c.patch_whole l.1) l.3
+
+pub each_is_there : KeepsDocuments → (s : SharedDocument) (k : ℕ) → k ≤ version_of s → ∥ ((d : Data) × IsVersion s k d) ∥₁
+each_is_there law s k le = ∥∥₁_map s.opened (λ o.
+    (let v = on_the_way law s.changes.items k o.0 (document_of s) le o.1 o.2 in (
+      v.0,
+      record {
+        document = v.1;
+        counted = le;
+        leads = v.2;
+      },
+    )))
+
+none_past : (cs : List Change) (k : ℕ) → length cs ≤ k → joined (drop k cs) ≡ []
+none_past [] zero le = refl
+none_past [] (suc k) le = refl
+none_past (c ∷ cs) zero le = absurd (omega (arith, le))
+none_past (c ∷ cs) (suc k) le = none_past cs k (omega (arith, le))
+
+pub none_since : (s : SharedDocument) (k : ℕ) → version_of s ≤ k → since s k ≡ []
+none_since s k le = none_past s.changes.items k le
+
 -- ---- a change below others, taken back
 
 abbrev pub UndoKeeps : Type 0
@@ -56,6 +89,11 @@ taken_back law keeps s k c lt is a d v =
     let l : Lead d (c ∷ rest) (document_of s) = subst (λ cs. Lead d cs (document_of s)) now v.leads in
     keeps d (patch_of c) (joined rest) (undo_of c) l.0 (document_of s) v.document c.patch_whole (joined_whole rest) a l.2 l.1 (lead_accepts law rest l.0 (document_of s) l.3)
 
+pub never_refused : KeepsDocuments → Joined → UndoKeeps → (s : SharedDocument) (k : ℕ) (c : Change) → k < length s.changes.items → c ≡ get_or s.changes.items k c → AreApart (patch_of c) (since s (k + 1))
+    → (n : ℕ) (kind : PatchErrorKind) → RefusesAt (document_of s) (undo_of c) n kind → ⊥
+never_refused documents law keeps s k c lt is a n kind refuses =
+    ∥∥₁_elim (each_is_there documents s k (omega (arith, lt))) (λ p q. absurd p) (λ v. (taken_back law keeps s k c lt is a v.0 v.1).2.nowhere n kind refuses)
+
 -- ---- a change more
 
 pub made_by : (d e : Data) (ops : List Operation) (old cs new : List Change) (x : Change) → cs ≡ old → new ≡ cs ++ x ∷ [] → patch_of x ≡ ops → Accepts d ops e → IsInverse d ops (undo_of x)
@@ -65,6 +103,15 @@ made_by d e ops old cs new x same is named accepted inverse = (x, is ∙ ap (λ 
 lead_more : (cs : List Change) (c : Change) (d m e : Data) → Lead d cs m → Accepts m (patch_of c) e → IsInverse m (patch_of c) (undo_of c) → Lead d (cs ++ c ∷ []) e
 lead_more [] c d m e h accepted inverse = subst (λ x. Lead x (c ∷ []) e) (sym h) (e, accepted, inverse, refl)
 lead_more (b ∷ cs) c d m e h accepted inverse = (h.0, h.1, h.2, lead_more cs c h.0 m e h.3 accepted inverse)
+
+pub leads_on : (d e : Data) (ops : List Operation) (old new : List Change) → LeadFromADocument old d
+    → (x : Change) × (new ≡ old ++ x ∷ []) × (patch_of x ≡ ops) × Accepts d ops e × IsInverse d ops (undo_of x) → LeadFromADocument new e
+leads_on d e ops old new opened m = ∥∥₁_map opened (λ o. (
+  o.0,
+  o.1,
+  subst (λ cs. Lead o.0 cs e) (sym m.1) (lead_more old m.0 o.0 d e o.2
+      (subst (λ os. Accepts d os e) (sym m.2) m.3) (subst (λ os. IsInverse d os (undo_of m.0)) (sym m.2) m.4)),
+))
 
 pub change_keeps : (s t : SharedDocument) (ops : List Operation) (k : ℕ) (d : Data) → IsMade s ops t → IsVersion s k d → IsVersion t k d
 change_keeps s t ops k d m v =
@@ -83,3 +130,14 @@ refusal_keeps s t k d same v = record {
   counted = subst (λ l. k ≤ length l) (sym same.1) v.counted;
   leads = subst (λ l. Lead d (drop k l) (document_of t)) (sym same.1) (subst (Lead d (drop k s.changes.items)) (sym same.0) v.leads);
 }
+
+-- ---- the newest change
+
+some_change : (cs : List Change) → 0 < length cs → Change
+some_change [] some = absurd (omega (arith, some))
+some_change (c ∷ cs) some = c
+
+pub newest_meets_none : (s : SharedDocument) (k v : ℕ) → version_of s ≡ k + 1 → HoldsAt (λ c. CollidesAt s (k + 1) (patch_of c) v) s.changes.items k → ⊥
+newest_meets_none s k v last collides =
+    let at : CollidesAt s (k + 1) (patch_of (slice_index_or s.changes.items k _)) v = collides (some_change s.changes.items (omega (arith, last))) in
+    omega (arith, at.since, at.made, last)

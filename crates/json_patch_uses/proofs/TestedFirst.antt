@@ -8,10 +8,10 @@ use Rattle.json_patch.specs.Operation.{Operation, test, path_of}
 use Rattle.json_patch.specs.Refusal.{NamesFirst}
 use Rattle.json_patch.specs.Resolve.{StandsAt}
 use Rattle.json_patch.specs.Run.{RefusesAt}
-use Rattle.json_patch.specs.declared.error.PatchError.{PatchError}
-use Rattle.json_patch.specs.declared.error.PatchErrorKind.{PatchErrorKind}
-use Rattle.json_patch.specs.declared.error.PatchErrorKind.TheVariants.{TestFailed, InvalidFromPointer, InvalidPointer}
-use Rattle.json_patch.specs.declared.error.PatchErrorKind.TheVariants.{CannotMoveInsideItself}
+use Rattle.json_patch.specs.PatchError.{PatchError}
+use Rattle.json_patch.specs.PatchErrorKind.{PatchErrorKind}
+use Rattle.json_patch.specs.PatchErrorKind.TheVariants.{TestFailed, InvalidFromPointer, InvalidPointer}
+use Rattle.json_patch.specs.PatchErrorKind.TheVariants.{CannotMoveInsideItself}
 
 abbrev pub Law : Type 0
 Law = (d : Data) (P : List (List ℕ)) (c : Data) → StandsAt d P c ↔ (pointee d P ≡ Some c)

@@ -4,4 +4,5 @@ pub mod Stores
 pub mod Trail
 pub mod Versioned
 pub mod Layers
+pub mod History
 pub mod SharedDocuments

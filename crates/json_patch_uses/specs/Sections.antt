@@ -7,7 +7,7 @@ use Rattle.json_patch.specs.Refusal.{NamesFirst}
 use Rattle.json_patch.specs.Run.{Accepts}
 use Rattle.json_patch.specs.Shared.{AreWithin, IsWithin}
 use Rattle.json_patch.specs.Texts.{NoPatch, SaysPatch}
-use Rattle.json_patch.specs.declared.error.Fault.TheVariants.{Refused}
+use Rattle.json_patch.specs.Fault.TheVariants.{Refused}
 use Rattle.json_patch_uses.specs.declared.section.SectionFault.{SectionFault}
 use Rattle.json_patch_uses.specs.declared.section.SectionFault.TheVariants.{Outside, NotApplied}
 

@@ -3,7 +3,7 @@ use Rattle.std.specs.Prelude.{List}
 use Rattle.serde_json.specs.Data.{Data}
 use Rattle.serde_json.specs.View.{view}
 use Rattle.json_patch.specs.Trails.{LeadsTo}
-use Rattle.json_patch.specs.declared.operation.Patch.{Patch}
+use Rattle.json_patch.specs.Patch.{Patch}
 use Rattle.json_patch_uses.specs.declared.settings.Settings.{Settings}
 
 abbrev pub values_of : Settings → Data

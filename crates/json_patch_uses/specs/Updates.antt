@@ -5,8 +5,8 @@ use Rattle.json_patch.specs.Operation.{Operation}
 use Rattle.json_patch.specs.Refusal.{NamesFirst}
 use Rattle.json_patch.specs.Run.{Accepts}
 use Rattle.json_patch.specs.Texts.{NoDocument, NoPatch, SaysDocument, SaysPatch}
-use Rattle.json_patch.specs.declared.error.Fault.{Fault}
-use Rattle.json_patch.specs.declared.error.Fault.TheVariants.{Syntax, NotWhole, Unreadable, Refused, Memory}
+use Rattle.json_patch.specs.Fault.{Fault}
+use Rattle.json_patch.specs.Fault.TheVariants.{Syntax, NotWhole, Unreadable, Refused, Memory}
 
 -- the text says a patch, which is accepted on d and leaves e
 abbrev pub Updates : Data → List ℕ → Data → Type 0

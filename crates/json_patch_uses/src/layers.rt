@@ -15,7 +15,7 @@ use serde_json::Value;
 use std::alloc::{AllocError, Global};
 
 /// The settings that a base and the layers over it give, the last layer above all. The base and
-/// the layers stay as they are, also where memory is short.
+/// the layers stay as they are, also where memory runs out.
 pub fn merge_all(alloc: Global, base: &Value, layers: &[Value]) -> Result<Value, AllocError>
     requires base { IsDocument (view base.now) }
     requires layers { All (λ layer. IsDocument (view layer)) layers.now }
@@ -32,8 +32,8 @@ pub fn merge_all(alloc: Global, base: &Value, layers: &[Value]) -> Result<Value,
     Ok(settings)
 }
 
-/// The number at a path, or this one where nothing stands there, or something else than a whole
-/// number from 0 on: a text or a negative number is no fault.
+/// The number at a path, or this one where nothing stands there, or something else than an integer
+/// from 0 on: a string or a negative number is no fault.
 pub fn number_or(settings: &Value, path: Pointer<'_>, default: u64) -> u64
     ensures set { (n : ℕ) → StandsAt (view settings.now) (tokens_of path.entry) (number (unsigned n))
         → result ≡ n }

@@ -2,7 +2,9 @@
 #![tactic(auto)]
 
 mod example;
+mod history;
 mod layers;
+mod newest;
 mod pointers;
 #[cfg(test)]
 mod readme;
@@ -18,6 +20,7 @@ mod versioned;
 
 pub use example::first_example;
 pub use layers::{merge_all, number_or};
+pub use newest::undo_newest;
 pub use pointers::{depth, item, member};
 pub use section::{SectionFault, patch_section};
 pub use session::tried;

@@ -1,6 +1,8 @@
 //! Pointers: one step further, the item that one names, and how deep it leads.
 
-ghost use Rattle.std.specs.Prelude.{◌≡◌, ℕ, List, Some, ◌∷◌, [], ◌++◌, IfOk, IfSome, length};
+ghost use Rattle.std.specs.Prelude.{◌≡◌, ◌≤◌, ◌^◌, ℕ, List, Some, ◌∷◌, [], ◌++◌, length};
+ghost use Rattle.std.specs.Prelude.{IfErr, IfNone, IfOk, IfSome};
+ghost use Rattle.jsonptr.specs.Faults.{IfParse, IsFault};
 ghost use Rattle.jsonptr.specs.Places.{place_of};
 ghost use Rattle.jsonptr.specs.Pointers.{tokens_of};
 ghost use Rattle.jsonptr.specs.Text.{text_of};
@@ -11,8 +13,9 @@ use std::alloc::Global;
 
 /// The pointer to the member `name` of what `text` points to.
 pub fn member(alloc: Global, text: &str, name: &str) -> Result<PointerBuf, PointerFault>
-    ensures { IfOk result
+    ensures pointer { IfOk result
         (λ b. (P : List (List ℕ)) × (text_of P ≡ text.now) × (b ≡ P ++ name.now ∷ [])) }
+    ensures fault { IfErr result (λ f. IfParse f (IsFault text.now)) }
 {
     let mut pointer = PointerBuf::parse(alloc, text)?;
     pointer
@@ -23,14 +26,17 @@ pub fn member(alloc: Global, text: &str, name: &str) -> Result<PointerBuf, Point
 
 /// The pointer to an array, and the item in it that `pointer` names.
 pub fn item(pointer: Pointer) -> Option<(Pointer, usize)>
-    ensures { IfSome result
+    ensures item { IfSome result
         (λ x. (last : List ℕ)
         × (tokens_of pointer.entry ≡ tokens_of x.0 ++ last ∷ []) × (place_of last ≡ Some x.1)) }
+    ensures none { IfNone result ((front : List (List ℕ)) (last : List ℕ) (n : ℕ)
+        → tokens_of pointer.entry ≡ front ++ last ∷ [] → place_of last ≡ Some n → 2 ^ 64 ≤ n) }
 {
     let (front, last) = pointer.split_back()?;
     match last.to_index() {
         Ok(Index::Num(place)) => Some((front, place)),
-        _ => None,
+        Ok(Index::Next) => None,
+        Err(_) => None,
     }
 }
 

@@ -44,7 +44,7 @@ impl From<PatchFault> for SectionFault {
     }
 }
 
-/// Makes the changes that a text says, if each operation is below the section, and answers the patch
+/// Makes the changes that a text says, if each operation is below the section, and returns the patch
 /// that takes them back. What stands elsewhere looks as before.
 pub fn patch_section(
     alloc: Global,

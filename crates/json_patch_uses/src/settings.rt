@@ -65,7 +65,7 @@ impl Settings {
         Ok(())
     }
 
-    /// Takes every change back, the latest first. Where memory is short, some are taken back.
+    /// Takes every change back, the latest first. Where memory runs out, some are taken back.
     pub fn take_all_back(&mut self, alloc: Global) -> Result<(), AllocError>
         ensures emptied { OnOk result (trail_of self.new ≡ []) }
         ensures first { OnOk result

@@ -1,16 +1,18 @@
 //! A document that several change, each from a version that it has seen.
 
-ghost use Rattle.std.specs.Prelude.{◌≡◌, ◌++◌, ◌+◌, ℕ, List, IfErr, IfNone, IfSome, OnErr, OnOk};
+ghost use Rattle.std.specs.Prelude.{◌≡◌, ◌≤◌, ◌++◌, ◌+◌, ℕ, List, IfErr, IfNone, IfSome, OnErr, OnOk};
 ghost use Rattle.serde_json.specs.Data.{Data};
 ghost use Rattle.serde_json.specs.View.{view};
 ghost use Rattle.json_patch.specs.Apart.{AreApart};
 ghost use Rattle.json_patch.specs.Document.{IsDocument};
 ghost use Rattle.json_patch.specs.Operation.{AreWhole, Operation, operations, operations_of};
-ghost use Rattle.json_patch.specs.Propositions.{AreWhole-prop, IsDocument-prop};
+ghost use Rattle.json_patch.specs.Propositions.{IsDocument-prop};
 ghost use Rattle.json_patch.specs.Refusal.{IfRefused, NamesFirst};
 ghost use Rattle.json_patch.specs.Run.{Accepts};
+ghost use Rattle.json_patch_uses.specs.History.{LeadFromADocument};
 ghost use Rattle.json_patch_uses.specs.declared.shared.ChangeFault.TheVariants.{Memory};
 
+use crate::history::Change;
 use json_patch::{Patch, PatchError, PatchFault, PatchOperation, apply_patches, are_apart, laws};
 use serde_json::Value;
 use std::alloc::{AllocError, Global};
@@ -41,15 +43,6 @@ impl From<AllocError> for ChangeFault {
     }
 }
 
-/// A change that was made, and what takes it back.
-#[derive(Drop)]
-struct Change {
-    patch: Patch,
-    undo: Patch,
-    ghost patch_whole: { AreWhole (operations_of patch) } by { AreWhole-prop (operations_of patch) },
-    ghost undo_whole: { AreWhole (operations_of undo) } by { AreWhole-prop (operations_of undo) },
-}
-
 /// A document, and the changes since it was opened. Its versions are counted from 0, the document
 /// that was opened; each change leads from one to the next.
 #[derive(Drop)]
@@ -57,12 +50,14 @@ pub struct SharedDocument {
     document: Value,
     changes: Vec<Change>,
     ghost whole: { IsDocument (view document) } by { IsDocument-prop (view document) },
+    ghost opened: { LeadFromADocument changes.items (view document) },
 }
 
 impl SharedDocument {
     ghost use Rattle.json_patch_uses.specs.declared.shared.SharedDocument.{SharedDocument};
-    ghost use Rattle.json_patch_uses.specs.SharedDocuments.{AreKept, CollidesAt, IsMade, IsUndoFault, IsUpdateFault};
-    ghost use Rattle.json_patch_uses.specs.SharedDocuments.{IsVersion, document_of, since, version_of};
+    ghost use Rattle.json_patch_uses.specs.SharedDocuments.{AreKept, AtVersion, CollidesAt, IsMade, IsTakenBack};
+    ghost use Rattle.json_patch_uses.specs.SharedDocuments.{IsUndoFault, IsUpdateFault, IsVersion};
+    ghost use Rattle.json_patch_uses.specs.SharedDocuments.{document_of, since, version_of};
 
     /// A document that begins with the version 0.
     pub fn open(alloc: Global, document: Value) -> SharedDocument
@@ -94,8 +89,8 @@ impl SharedDocument {
     /// Makes a change that was meant for this version, if it is apart from each change since.
     pub fn update(&mut self, alloc: Global, version: usize, patch: Patch) -> Result<(), ChangeFault>
         requires { AreWhole (operations_of patch) }
-        ensures as_if_first { OnOk result ((d : Data) → IsVersion self.old version d
-            → Accepts d (operations_of patch ++ since self.old version) (document_of self.new)) }
+        ensures as_if_first { OnOk result (AtVersion self.old version
+            (λ d. Accepts d (operations_of patch ++ since self.old version) (document_of self.new))) }
         ensures made { OnOk result (IsMade self.old (operations_of patch) self.new) }
         ensures fault { IfErr result (IsUpdateFault self.old version (operations_of patch)) }
         ensures unchanged { OnErr result (AreKept self.old self.new) }
@@ -118,8 +113,9 @@ impl SharedDocument {
     /// Takes back the change that was made to this version, if it is apart from each change since.
     /// That is a change too, to the newest version.
     pub fn undo(&mut self, alloc: Global, version: usize) -> Result<(), ChangeFault>
-        ensures others_stay { OnOk result ((d : Data) → IsVersion self.old version d
-            → Accepts d (since self.old (version + 1)) (document_of self.new)) }
+        ensures others_stay { OnOk result (AtVersion self.old version
+            (λ d. Accepts d (since self.old (version + 1)) (document_of self.new))) }
+        ensures taken_back { OnOk result (IsTakenBack self.old version self.new) }
         ensures fault { IfErr result (IsUndoFault self.old version) }
         ensures unchanged { OnErr result (AreKept self.old self.new) }
     {
@@ -143,6 +139,10 @@ impl SharedDocument {
     /// Laws of the versions, for proofs to cite.
     #[tactic(auto, using(crate::proofs::SharedChanges::refusal_keeps))]
     pub fn versions()
+        // There is each version up to the newest.
+        ensures each_is_there { (s : SharedDocument) (k : ℕ) → k ≤ version_of s
+            → ∥ ((d : Data) × IsVersion s k d) ∥₁ }
+
         // After a change each version is what it was.
         ensures change_keeps { (s t : SharedDocument) (ops : List Operation) (k : ℕ) (d : Data)
             → IsMade s ops t → IsVersion s k d → IsVersion t k d }
@@ -150,7 +150,9 @@ impl SharedDocument {
         // So it is after a change that isn't made.
         ensures refusal_keeps { (s t : SharedDocument) (k : ℕ) (d : Data) → AreKept s t
             → IsVersion s k d → IsVersion t k d }
-    {}
+    {
+        laws::runs();
+    }
 
     /// To which version, from this one on, the first change was made from which the operations
     /// aren't apart.

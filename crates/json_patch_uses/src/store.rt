@@ -14,7 +14,7 @@ use json_patch::{Fault, Patch, PatchFault, apply_patches, patch};
 use serde_json::Value;
 use std::alloc::Global;
 
-/// A document whose numbers are whole.
+/// A document whose numbers are 64-bit integers.
 #[derive(Drop)]
 pub struct Store {
     document: Value,
@@ -40,7 +40,7 @@ impl Store {
         &self.document
     }
 
-    /// Makes the changes that a text says, and answers the patch that takes them back.
+    /// Makes the changes that a text says, and returns the patch that takes them back.
     pub fn update(&mut self, alloc: Global, text: &str) -> Result<Patch, Fault>
         ensures updated { OnOk result
             (Updates (document_of self.old) text.now (document_of self.new)) }
@@ -55,7 +55,7 @@ impl Store {
         Ok(undo)
     }
 
-    /// Makes the changes of a patch, as one that `update` answered.
+    /// Makes the changes of a patch, as one that `update` returned.
     pub fn revert(&mut self, alloc: Global, undo: &Patch) -> Result<(), PatchFault>
         requires { AreWhole (operations_of undo.now) }
         ensures accepted { OnOk result (Accepts (document_of self.old)
@@ -68,7 +68,7 @@ impl Store {
     }
 
     /// Makes the changes that a text says and takes them back, which tells whether `update` would
-    /// make them: the document is then as before, unless memory was short.
+    /// make them: the document is then as before, unless memory ran out.
     pub fn rehearse(&mut self, alloc: Global, text: &str) -> Result<(), Fault>
         ensures updates { OnOk result ((e : Data) × Updates (document_of self.old) text.now e) }
         ensures fault { IfErr result (NoUpdate (document_of self.old) text.now) }

@@ -2,7 +2,7 @@
 
 use crate::{
     ChangeFault, SectionFault, Settings, SharedDocument, Store, VersionFault, depth, first_example,
-    item, member, merge_all, number_or, patch_section, patched, tried, update_version,
+    item, member, merge_all, number_or, patch_section, patched, tried, undo_newest, update_version,
 };
 use json_patch::jsonptr::Pointer;
 use json_patch::{Fault, Patch, document_from_str, is_whole, patch};
@@ -251,6 +251,33 @@ fn two_share_a_document(rt: HostRuntime) -> Result<(), Fail> {
     assert!(rt; matches!(shared.undo(alloc, 0), Err(ChangeFault::Conflict(2))));
     assert!(rt; matches!(shared.undo(alloc, 3), Err(ChangeFault::NoVersion)));
     assert_eq!(rt; shared.document().to_string(alloc)?.as_str(), text);
+    Ok(())
+}
+
+#[test]
+fn the_newest_change_is_taken_back_and_that_too(rt: HostRuntime) -> Result<(), Fail> {
+    let alloc = rt.alloc();
+    let document = document_from_str(alloc, r#"{"a":1}"#).expect(&rt, "a document");
+    let mut shared = SharedDocument::open(alloc, document);
+    let change = Patch::from_str(alloc, r#"[{"op":"move","from":"/a","path":"/b"}]"#).expect(
+        &rt, "a patch",
+    );
+    shared.update(alloc, 0, change).expect(&rt, "a change");
+    for text in [r#"{"a":1}"#, r#"{"b":1}"#, r#"{"a":1}"#] {
+        assert!(rt; shared.version() > 0);
+        undo_newest(alloc, &mut shared)?;
+        assert_eq!(rt; shared.document().to_string(alloc)?.as_str(), text);
+    }
+    assert_eq!(rt; shared.version(), 4);
+    let other = Patch::from_str(alloc, r#"[{"op":"test","path":"/b","value":1}]"#).expect(
+        &rt, "a patch",
+    );
+    assert!(rt;
+        matches!(
+            shared.update(alloc, 0, other),
+            Err(ChangeFault::Conflict(0))
+        )
+    );
     Ok(())
 }
 

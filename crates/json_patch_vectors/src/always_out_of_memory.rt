@@ -1,5 +1,5 @@
-//! A body that only answers that memory is short meets each contract, since a growth may be refused
-//! at any time. Here each call that takes memory has enough of it, and its answer is compared.
+//! A body that only returns out of memory meets each contract, since a growth may be refused
+//! at any time. Here each call that takes memory has enough of it, and its result is compared.
 
 ghost use Rattle.std.specs.Prelude.{IfOk};
 ghost use Rattle.serde_json.specs.View.{view};

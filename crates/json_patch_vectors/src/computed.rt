@@ -1,4 +1,4 @@
-//! Cases computed from the rules of RFC 6902, section 4, where places shift, values contain one
+//! Cases computed from the rules of RFC 6902, section 4, where indexes shift, values contain one
 //! another, or the root takes part.
 
 use crate::runner::{Case, Expected, run_all};

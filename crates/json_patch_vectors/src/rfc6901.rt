@@ -41,8 +41,8 @@ const FOUND: &[(&str, &str)] = &[
     ("/m~0n", "8"),
 ];
 
-/// Pointers to nothing: no such name, no such place, tokens that name no place, a name that is not
-/// decoded twice, and children of a text and of a number.
+/// Pointers to nothing: no such name, no such index, tokens that name no index, a name that is not
+/// decoded twice, and children of a string and of a number.
 const NOTHING: &[&str] = &[
     "/bar", "/foo/2", "/foo/00", "/foo/-", "/foo/", "/m~01n", "/foo/0/0", "//",
 ];

@@ -161,7 +161,7 @@ fn assert_refused(
     assert_text(rt, name, "patch_unsafe", &work, left)
 }
 
-/// Asserts what a call answers: `accepted`, or which operation is refused, its path and the kind.
+/// Asserts what a call returns: `accepted`, or which operation is refused, its path and the kind.
 fn assert_answer<T: Drop>(
     rt: &(impl Abort + AllocGlobal),
     name: &str,
@@ -185,7 +185,7 @@ fn assert_answer<T: Drop>(
     Ok(())
 }
 
-/// Asserts the compact text of a value that a call leaves or answers.
+/// Asserts the compact text of a value that a call leaves or returns.
 pub(crate) fn assert_text(
     rt: &(impl Abort + AllocGlobal),
     name: &str,

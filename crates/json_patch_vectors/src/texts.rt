@@ -2,8 +2,10 @@
 
 use crate::runner::assert_shown;
 use json_patch::jsonptr::PointerBuf;
-use json_patch::{Fault, Patch, PatchError, PatchErrorKind, PatchFault, document_from_str};
-use std::alloc::{AllocError, AllocGlobal};
+use json_patch::{
+    Fault, Patch, PatchError, PatchErrorKind, PatchFault, ReadKind, document_from_str,
+};
+use std::alloc::{AllocError, AllocGlobal, Global};
 use std::fmt::Display;
 use std::process::Abort;
 use std::test::Fail;
@@ -20,6 +22,69 @@ fn assert_answer<T: Display>(
         Ok(read) => assert_shown(rt, read, expected),
         Err(fault) => assert_shown(rt, fault, expected),
     }
+}
+
+/// The text of a patch that adds what a text says.
+fn adding(alloc: Global, value: &str) -> Result<String, AllocError> {
+    format!(in alloc; "[{{\"op\":\"add\",\"path\":\"/a\",\"value\":{value}}}]")
+}
+
+/// Asserts that a text is no JSON, by itself and in a patch.
+fn assert_no_json(rt: &(impl Abort + AllocGlobal), value: &str) -> Result<(), Fail> {
+    let document = document_from_str(rt.alloc(), value);
+    assert!(rt; matches!(document, Err(Fault::Syntax(_))));
+    let patch = Patch::from_str(rt.alloc(), adding(rt.alloc(), value)?.as_str());
+    assert!(rt; matches!(patch, Err(Fault::Syntax(_))));
+    Ok(())
+}
+
+/// Asserts that a text says a number that isn't whole, by itself and in a patch.
+fn assert_not_whole(rt: &(impl Abort + AllocGlobal), value: &str) -> Result<(), Fail> {
+    let document = document_from_str(rt.alloc(), value);
+    assert!(rt; matches!(document, Err(Fault::NotWhole)));
+    match Patch::from_str(rt.alloc(), adding(rt.alloc(), value)?.as_str()) {
+        Err(Fault::Unreadable(error)) => assert!(rt; matches!(error.kind, ReadKind::ValueNotWhole)),
+        _ => panic!(rt; "a number that isn't whole is read"),
+    }
+    Ok(())
+}
+
+#[test]
+fn what_the_reader_refuses_is_no_json(rt: HostRuntime) -> Result<(), Fail> {
+    for value in [
+        "1e400",
+        "-1e400",
+        r#""\ud800""#,
+        r#""\udc00\ud800""#,
+        "\u{feff}[]",
+        "[\0]\0",
+        "\0[\0]",
+    ] {
+        assert_no_json(&rt, value)?;
+    }
+    Ok(())
+}
+
+#[test]
+fn other_numbers_are_not_whole(rt: HostRuntime) -> Result<(), Fail> {
+    for value in ["1e-400", "-1e-400", "1e308", "-0", "-0.0", "1.0"] {
+        assert_not_whole(&rt, value)?;
+    }
+    Ok(())
+}
+
+#[test]
+fn a_float_holds_308_zeros(rt: HostRuntime) -> Result<(), Fail> {
+    let mut text = String::from_str(rt.alloc(), "1")?;
+    for _ in 0..308 {
+        text.push('0')?;
+    }
+    assert_not_whole(&rt, text.as_str())?;
+    for _ in 308..400 {
+        text.push('0')?;
+        assert_no_json(&rt, text.as_str())?;
+    }
+    Ok(())
 }
 
 #[test]

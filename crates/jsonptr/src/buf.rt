@@ -1,4 +1,4 @@
-//! A pointer that owns its text.
+//! A pointer that owns its string.
 
 ghost use Rattle.std.specs.Prelude.{◌≡◌, ◌≢◌, [], ◌∷◌, ◌++◌, IfOk, IfErr, OnErr, OnOk};
 ghost use Rattle.std.specs.Char.{encode_utf8};
@@ -13,7 +13,7 @@ use std::alloc::{AllocError, Global};
 use std::fmt;
 use std::marker::Model;
 
-/// A JSON pointer (RFC 6901) that owns its text. A contract sees it as the list of its tokens.
+/// A JSON pointer (RFC 6901) that owns its string. A contract sees it as the list of its tokens.
 ///
 /// The root holds no memory, and so no allocator: a call that grows a pointer takes one.
 #[derive(Drop, Debug)]
@@ -76,7 +76,7 @@ impl fmt::Display for PointerBuf {
 
     ghost output = { λ p. Some (text_of p) };
 
-    /// Writes the pointer's text.
+    /// Writes the pointer's string.
     fn fmt<W: fmt::Write>(&self, f: &mut fmt::Formatter<W>) -> fmt::Result {
         f.write_str(self.as_str())
     }
@@ -90,7 +90,7 @@ impl PointerBuf {
         PointerBuf { text: None }
     }
 
-    /// The pointer of a text that is known to be a pointer's.
+    /// The pointer of a string that is known to be a pointer's.
     pub(crate) fn from_checked(alloc: Global, text: &str) -> Result<PointerBuf, AllocError>
         requires { IsOfItsTokens text.now }
         ensures { IfOk result (λ b. b ≡ tokens_of_text text.now) }
@@ -103,9 +103,9 @@ impl PointerBuf {
         })
     }
 
-    /// The pointer of a text (RFC 6901, section 3).
+    /// The pointer of a string (RFC 6901, section 3).
     ///
-    /// A fault of the text is that of `Pointer::parse`, and comes before memory is taken.
+    /// A fault of the string is that of `Pointer::parse`, and comes before memory is taken.
     pub fn parse(alloc: Global, text: &str) -> Result<PointerBuf, PointerFault>
         ensures pointer { IfOk result (λ b. text_of b ≡ text.now) }
         ensures fault { IfErr result (λ f. IfParse f (IsFault text.now)) }
@@ -133,14 +133,14 @@ impl PointerBuf {
         }
     }
 
-    /// The pointer's text.
+    /// The pointer's string.
     pub fn as_str(&self) -> &str
         ensures { result.now ≡ text_of self.now }
     {
         self.as_pointer().as_str()
     }
 
-    /// Adds a token at the end, whose decoded text is `raw`. It changes nothing when refused.
+    /// Adds a token at the end, whose decoded string is `raw`. It changes nothing when refused.
     pub fn push_back(&mut self, alloc: Global, raw: &str) -> Result<(), AllocError>
         ensures ok { OnOk result (self.new ≡ self.old ++ raw.now ∷ []) }
         ensures err { OnErr result (self.new ≡ self.old) }

@@ -1,12 +1,12 @@
-//! Why a text is not a pointer's.
+//! Why a string is not a pointer's.
 
 use std::alloc::AllocError;
 use thiserror::Error;
 
-/// Why a text is not that of a pointer (RFC 6901, section 3).
+/// Why a string is not that of a pointer (RFC 6901, section 3).
 #[derive(Debug, Drop, Error)]
 pub enum ParseError {
-    /// The text isn't empty and doesn't begin with a slash.
+    /// The string isn't empty and doesn't begin with a slash.
     #[error("pointer does not begin with a slash")]
     NoLeadingSlash,
     /// A tilde is followed by neither `0` nor `1`.
@@ -17,13 +17,13 @@ pub enum ParseError {
     },
 }
 
-/// Why no owned pointer was made of a text.
+/// Why no owned pointer was made of a string.
 #[derive(Debug, Drop, Error)]
 pub enum PointerFault {
-    /// The text is not that of a pointer.
+    /// The string is not that of a pointer.
     #[error("{0}")]
     Parse(ParseError),
-    /// The text is that of a pointer, and no memory was found for it.
+    /// The string is that of a pointer, and no memory was found for it.
     #[error("out of memory")]
     Memory(AllocError),
 }

@@ -1,4 +1,4 @@
-//! Tokens that name a place in an array (RFC 6901, section 4).
+//! Tokens that name an index of an array (RFC 6901, section 4).
 
 ghost use Rattle.std.specs.Prelude.{◌≡◌, ◌≢◌, ℕ, ◌<◌, ◌≤◌, length, slice_index, IfOk, IfErr, OnOk, OnErr, IsTrue, ◌↔◌};
 ghost use Rattle.std.specs.Int.{IsInRange};
@@ -11,16 +11,16 @@ use thiserror::Error;
 /// What a token names in an array.
 #[derive(Clone, Copy, Debug, PartialEq, Eq)]
 pub enum Index {
-    /// The item at this place, counted from 0.
+    /// The item at this index, counted from 0.
     Num(usize),
-    /// The place after the last item, written `-`.
+    /// The index after the last item, written `-`.
     Next,
 }
 
-/// Why a text names nothing in an array, the first that applies.
+/// Why a string names nothing in an array, the first that applies.
 #[derive(Debug, Drop, Error)]
 pub enum ParseIndexError {
-    /// The text has two or more bytes and begins with `0`.
+    /// The string has two or more bytes and begins with `0`.
     #[error("index has a leading zero")]
     LeadingZeros,
     /// A character isn't one of `0` to `9`.
@@ -29,7 +29,7 @@ pub enum ParseIndexError {
         /// The byte offset of the first such character.
         offset: usize,
     },
-    /// The text is empty, or a number past 18446744073709551615.
+    /// The string is empty, or a number past 18446744073709551615.
     #[error("index is not a number in range")]
     InvalidInteger,
 }
@@ -45,7 +45,7 @@ pub struct OutOfBoundsError {
 }
 
 impl Index {
-    /// The index that a text names: a number without a leading zero, or `-`.
+    /// The index that a string names: a number without a leading zero, or `-`.
     pub fn parse(text: &str) -> Result<Index, ParseIndexError>
         ensures index { IfOk result (IsIndexText text.now) }
         ensures fault { IfErr result (IsIndexFault text.now) }
@@ -61,7 +61,7 @@ impl Index {
         }
     }
 
-    /// The place of an item in an array of `len` items; `-` names none.
+    /// The index of an item in an array of `len` items; `-` names none.
     pub fn for_len(self, len: usize) -> Result<usize, OutOfBoundsError>
         ensures place { IfOk result (λ n. n ≡ place_in self len) }
         ensures within { IfOk result (λ n. n < len) }
@@ -78,7 +78,7 @@ impl Index {
         }
     }
 
-    /// The place at which an item can be inserted in an array of `len` items; `-` names the end.
+    /// The index at which an item can be inserted in an array of `len` items; `-` names the end.
     pub fn for_len_incl(self, len: usize) -> Result<usize, OutOfBoundsError>
         ensures place { IfOk result (λ n. n ≡ place_in self len) }
         ensures within { IfOk result (λ n. n ≤ len) }
@@ -93,7 +93,7 @@ impl Index {
     }
 }
 
-/// Whether only digits stand in the text, with no leading zero.
+/// Whether only digits stand in the string, with no leading zero.
 fn check_digits(text: &str) -> Result<(), ParseIndexError>
     requires { text.now ≢ next_token }
     ensures digits { OnOk result

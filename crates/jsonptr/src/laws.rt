@@ -9,10 +9,10 @@ ghost use Rattle.jsonptr.specs.Text.{Pointer, IsPointerText, decoded, encoded, t
 
 use crate::ParseError;
 
-/// Which places tokens name.
+/// Which indexes tokens name.
 #[tactic(auto, using(crate::specs::PlaceLaws::place_is_token, crate::specs::PlaceLaws::token_is_decimal, crate::specs::PlaceLaws::place_is_plain, crate::specs::PlaceLaws::next_is_no_place))]
 pub fn places()
-    // A token names a place exactly where it is the decimal text of that place.
+    // A token names an index exactly where it is the decimal text of that index.
     ensures place_is_token { (t : List ℕ) (i : ℕ) → (place_of t ≡ Some i) ↔ (t ≡ decimal_token i) }
 
     // The decimal text of a place that a machine's number holds is the one that is printed for it.
@@ -21,7 +21,7 @@ pub fn places()
     // The decimal text of a place stands in a pointer's text as it is.
     ensures place_is_plain { (i : ℕ) → encoded (decimal_token i) ≡ decimal_token i }
 
-    // The token `-` names no place.
+    // The token `-` names no index.
     ensures next_is_no_place { place_of next_token ≡ None }
 {}
 

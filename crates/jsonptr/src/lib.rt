@@ -1,14 +1,14 @@
-//! JSON pointers (RFC 6901): a pointer is a list of tokens, and each call answers by that list.
+//! JSON pointers (RFC 6901): a pointer is a list of tokens, and each call goes by that list.
 //!
-//! A text is a pointer's where it is empty or a sequence of parts, each a slash and an encoded
+//! A string is a pointer's where it is empty or a sequence of parts, each a slash and an encoded
 //! token. In an encoded token `~1` stands for a slash and `~0` for a tilde, and a tilde stands
-//! nowhere else. The text and the list of decoded tokens determine each other.
+//! nowhere else. The string and the list of decoded tokens determine each other.
 //!
 //! ```rust
 //! let mut path = PointerBuf::new();
 //! path.push_back(alloc, "a/b")?;
 //! path.push_back(alloc, "-")?;
-//! // its text is /a~1b/-
+//! // its string is /a~1b/-
 //! ```
 #![tactic(auto)]
 

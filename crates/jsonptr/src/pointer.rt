@@ -1,4 +1,4 @@
-//! A pointer that borrows its text.
+//! A pointer that borrows its string.
 
 ghost use Rattle.std.specs.Prelude.{◌≡◌, ◌<◌, ◌^◌, length, slice_index, [], ◌∷◌, ◌++◌, IfOk, IfErr, OnErr, OnOk};
 ghost use Rattle.std.specs.Prelude.{IfSome, IfNone, IsTrue, ◌↔◌, ◌⊎◌};
@@ -10,9 +10,9 @@ use crate::{ParseError, PointerBuf, Token, Tokens};
 use std::alloc::{AllocError, Global};
 use std::fmt;
 
-/// A JSON pointer (RFC 6901) that borrows its text. It names one place of a document.
+/// A JSON pointer (RFC 6901) that borrows its string. It names one location of a document.
 ///
-/// Two pointers are equal where their texts are, which is where their tokens are.
+/// Two pointers are equal where their strings are, which is where their tokens are.
 #[derive(Clone, Copy, Debug)]
 pub struct Pointer<'a> {
     text: &'a str,
@@ -59,7 +59,7 @@ impl<'a> fmt::Display for Pointer<'a> {
 
     ghost output = { λ p. Some (text_of (tokens_of p)) };
 
-    /// Writes the pointer's text.
+    /// Writes the pointer's string.
     fn fmt<W: fmt::Write>(&self, f: &mut fmt::Formatter<W>) -> fmt::Result {
         f.write_str(self.as_str())
     }
@@ -69,14 +69,14 @@ impl<'a> fmt::Display for Pointer<'a> {
 impl<'a> Pointer<'a> {
     ghost use Rattle.jsonptr.specs.Pointers.{tokens_of, token_of, tokens_left};
 
-    /// The pointer of the whole document, whose text is empty.
+    /// The pointer of the whole document, whose string is empty.
     pub fn root() -> Pointer<'static>
         ensures { tokens_of result ≡ [] }
     {
         Pointer { text: "" }
     }
 
-    /// The pointer of a text (RFC 6901, section 3).
+    /// The pointer of a string (RFC 6901, section 3).
     ///
     /// `NoLeadingSlash` comes before `InvalidEncoding`, which names the first bad escape.
     pub fn parse(text: &'a str) -> Result<Pointer<'a>, ParseError>
@@ -88,7 +88,7 @@ impl<'a> Pointer<'a> {
         Ok(Pointer { text })
     }
 
-    /// The pointer of a text that is known to be a pointer's.
+    /// The pointer of a string that is known to be a pointer's.
     pub(crate) fn from_checked(text: &'a str) -> Pointer<'a>
         requires { IsOfItsTokens text.now }
         ensures { tokens_of result ≡ tokens_of_text text.now }
@@ -96,21 +96,21 @@ impl<'a> Pointer<'a> {
         Pointer { text }
     }
 
-    /// A pointer of the same tokens that owns its text.
+    /// A pointer of the same tokens that owns its string.
     pub fn to_buf(&self, alloc: Global) -> Result<PointerBuf, AllocError>
         ensures { IfOk result (λ b. b ≡ tokens_of self.now) }
     {
         PointerBuf::from_checked(alloc, self.text)
     }
 
-    /// The pointer's text.
+    /// The pointer's string.
     pub fn as_str(&self) -> &'a str
         ensures { result.now ≡ text_of (tokens_of self.now) }
     {
         self.text
     }
 
-    /// How many bytes the pointer's text has.
+    /// How many bytes the pointer's string has.
     pub fn len(&self) -> usize
         ensures { result ≡ length (text_of (tokens_of self.now)) }
     {
@@ -207,7 +207,7 @@ impl<'a> Pointer<'a> {
     }
 }
 
-/// Whether the text is a pointer's.
+/// Whether the string is a pointer's.
 fn check(text: &str) -> Result<(), ParseError>
     ensures pointer { OnOk result (IsOfItsTokens text.now) }
     ensures fault { IfErr result (IsFault text.now) }
@@ -234,7 +234,7 @@ fn starts_escape(rest: &[u8]) -> bool
     }
 }
 
-/// The text up to its first slash, and from there on.
+/// The string up to its first slash, and from there on.
 fn cut_at_slash(text: &str) -> (&str, &str)
     ensures whole { text.now ≡ result.0.now ++ result.1.now }
     ensures front { NoSlash result.0.now }
@@ -246,7 +246,7 @@ fn cut_at_slash(text: &str) -> (&str, &str)
     }
 }
 
-/// Whether the text is empty or begins with a slash.
+/// Whether the string is empty or begins with a slash.
 fn begins_well(text: &str) -> bool
     ensures { IsTrue result ↔ Starts text.now }
 {

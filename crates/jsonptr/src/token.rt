@@ -10,7 +10,7 @@ use crate::Pointer;
 use crate::index::{Index, ParseIndexError};
 use std::alloc::{AllocError, Global};
 
-/// A token as it stands in a pointer's text. A contract speaks of the text that it stands for.
+/// A token as it stands in a pointer's string. A contract speaks of the string that it stands for.
 #[derive(Clone, Copy, Debug)]
 pub struct Token<'a> {
     text: &'a str,
@@ -22,7 +22,7 @@ impl<'a> Token<'a> {
     ghost use Rattle.jsonptr.specs.Pointers.{token_of};
     ghost use Rattle.jsonptr.specs.Indexes.{IsIndexText, IsIndexFault, IsNoIndexText};
 
-    /// The token of a text that is known to be an encoded token.
+    /// The token of a string that is known to be an encoded token.
     pub(crate) fn from_checked(text: &'a str) -> Token<'a>
         requires { IsEncoded text.now }
         ensures { token_of result ≡ decoded text.now }
@@ -30,14 +30,14 @@ impl<'a> Token<'a> {
         Token { text }
     }
 
-    /// The token as it stands in the pointer's text, with its escapes.
+    /// The token as it stands in the pointer's string, with its escapes.
     pub fn encoded(&self) -> &'a str
         ensures { result.now ≡ encoded (token_of self.now) }
     {
         self.text
     }
 
-    /// The text that the token stands for.
+    /// The string that the token stands for.
     pub fn decoded(&self, alloc: Global) -> Result<String, AllocError>
         ensures { IfOk result (λ s. string_bytes s ≡ token_of self.now) }
     {
@@ -46,7 +46,7 @@ impl<'a> Token<'a> {
         Ok(out)
     }
 
-    /// Puts the text that the token stands for into `out`, in place of what that holds. It takes no
+    /// Puts the string that the token stands for into `out`, in place of what that holds. It takes no
     /// memory where `out` has room for the token as it is encoded.
     pub fn decode_into(&self, out: &mut String) -> Result<(), AllocError>
         ensures text { OnOk result (string_bytes out.new ≡ token_of self.now) }
@@ -81,7 +81,7 @@ impl<'a> Token<'a> {
 
     /// The index that the token names in an array (RFC 6901, section 4).
     ///
-    /// It is read from the encoded text, and so are the offsets of its errors.
+    /// It is read from the encoded string, and so are the offsets of its errors.
     pub fn to_index(&self) -> Result<Index, ParseIndexError>
         ensures index { IfOk result (IsIndexText (token_of self.now)) }
         ensures no_index { OnErr result (IsNoIndexText (token_of self.now)) }

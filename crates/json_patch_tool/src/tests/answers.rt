@@ -1,4 +1,4 @@
-//! Inputs that are answered.
+//! Inputs for which a line is written.
 
 use super::fakes::{Drip, Trouble, writer_with};
 use super::inputs::{
@@ -82,8 +82,8 @@ fn answers(rt: HostRuntime) -> Result<(), Fail> {
     Ok(())
 }
 
-/// No clause refuses a `run` that answers `ReadFailed` though its reader didn't fail, or a call
-/// that answers `Memory` though memory is ample.
+/// No clause refuses a `run` that returns `ReadFailed` though its reader didn't fail, or a call
+/// that returns `Memory` though memory is ample.
 #[test]
 fn read_always_fails(rt: HostRuntime) {
     for &(mode, text, line) in ANSWERS {

@@ -1,4 +1,4 @@
-//! How deep an input may nest, and an answer.
+//! How deep an input may nest, and a line.
 
 use super::fakes::{Trouble, writer_with};
 use super::refuse;
@@ -19,7 +19,7 @@ fn nested_object(rt: &HostRuntime, depth: usize) -> Result<Vec<u8>, Fail> {
     Ok(text)
 }
 
-/// An object, and a list that copies the document into its member so many times.
+/// An object, and a patch that copies the document into its member so many times.
 fn copies(rt: &HostRuntime, number: usize) -> Result<Vec<u8>, Fail> {
     let copy = b"{\"op\":\"copy\",\"from\":\"\",\"path\":\"/a\"}";
     let mut text = Vec::new(rt.alloc());
@@ -52,7 +52,7 @@ fn reads_no_such_answer_again(rt: HostRuntime) -> Result<(), Fail> {
     refuse(&rt, Mode::Patch, &again, 2, "input is not JSON")
 }
 
-/// The text of an empty list in a list, and so on, this deep.
+/// The text of an empty array in an array, and so on, this deep.
 fn brackets(rt: &HostRuntime, depth: usize) -> Result<Vec<u8>, Fail> {
     let mut text = Vec::new(rt.alloc());
     for bracket in [b'[', b']'] {
@@ -63,7 +63,7 @@ fn brackets(rt: &HostRuntime, depth: usize) -> Result<Vec<u8>, Fail> {
     Ok(text)
 }
 
-/// An array of a list nested this deep and an empty patch.
+/// An array of an array nested this deep and an empty patch.
 fn nested(rt: &HostRuntime, depth: usize) -> Result<Vec<u8>, Fail> {
     let mut text = Vec::new(rt.alloc());
     text.push(b'[')?;

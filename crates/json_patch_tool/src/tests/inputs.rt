@@ -1,6 +1,6 @@
-//! Inputs that several tests give, and the lines that answer them.
+//! Inputs that several tests give, and the lines for them.
 
-/// A test and an add, on a list of two objects.
+/// A test and an add, on an array of two objects.
 pub(super) const HAPPY: &[u8] = b"[[{\"name\":\"Andrew\"},{\"name\":\"Maxim\"}],\
     [{\"op\":\"test\",\"path\":\"/0/name\",\"value\":\"Andrew\"},\
     {\"op\":\"add\",\"path\":\"/0/happy\",\"value\":true}]]";

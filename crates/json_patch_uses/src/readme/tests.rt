@@ -1,4 +1,4 @@
-//! What each example answers.
+//! What each example returns.
 
 ghost use Rattle.serde_json.specs.View.{view};
 ghost use Rattle.json_patch.specs.Document.{IsDocument};

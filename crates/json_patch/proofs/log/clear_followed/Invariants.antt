@@ -1,6 +1,6 @@
 use Rattle.json_patch.proofs.Common.{◌≤◌, view}
-use Rattle.json_patch.specs.Marked.{IsSeen, seen}
-use Rattle.json_patch.specs.MarkedComputed.{marks}
+use Rattle.json_patch_edit.specs.Marked.{IsSeen, seen}
+use Rattle.json_patch_edit.specs.MarkedComputed.{marks}
 use Rattle.json_patch.proofs.log.clear_followed.Given as goal
 
 abbrev pub invariant-loop-number : goal.invariant-loop-number

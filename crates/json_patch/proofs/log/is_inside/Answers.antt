@@ -1,5 +1,5 @@
 use Rattle.json_patch.proofs.Common.{tokens_of}
-use Rattle.json_patch.proofs.Parents.{inside}
+use Rattle.json_patch_laws.proofs.Parents.{inside}
 use Rattle.json_patch.proofs.log.is_inside.Goals as goal
 
 pub returns-in-Some : goal.returns-in-Some

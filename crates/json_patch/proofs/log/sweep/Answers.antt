@@ -1,8 +1,8 @@
 use Rattle.json_patch.proofs.Common.{◌≡◌, ◌+◌, ◌∙◌, Ok, Some, null, arith, sym, ap, view, pointee, tokens_of}
 use Rattle.json_patch.proofs.MarkedCounts.{sweep_counts}
 use Rattle.json_patch.proofs.MarkedEdits.{exchange_unseen}
-use Rattle.json_patch.specs.MarkedComputed.{marks}
-use Rattle.json_patch.specs.declared.edits.Edit.TheVariants.{Sweep}
+use Rattle.json_patch_edit.specs.MarkedComputed.{marks}
+use Rattle.json_patch_edit.specs.declared.edits.Edit.TheVariants.{Sweep}
 use Rattle.json_patch.proofs.log.sweep.Goals as goal
 
 pub returns-in-Ok-clause-cleared : goal.returns-in-Ok-clause-cleared

@@ -1,8 +1,8 @@
 use Rattle.json_patch.proofs.Common.{view, tokens_of}
-use Rattle.json_patch.specs.Marked.{seen}
-use Rattle.json_patch.proofs.Exchanges.{fitting_more}
+use Rattle.json_patch_edit.specs.Marked.{seen}
+use Rattle.json_patch_edit.proofs.Exchanges.{fitting_more}
 use Rattle.json_patch.proofs.LoggedEdits.{take_refused}
-use Rattle.json_patch.proofs.Parents.{move_inside, move_nowhere, not_inside}
+use Rattle.json_patch_laws.proofs.Parents.{move_inside, move_nowhere, not_inside}
 use Rattle.json_patch.proofs.log.take_source.Goals as goal
 
 pub returns-then-is_inside-clause-refused : goal.returns-then-is_inside-clause-refused

@@ -1,6 +1,6 @@
 use Rattle.json_patch.proofs.Common.{length, view}
 use Rattle.serde_json.specs.Data.{Data}
-use Rattle.json_patch.specs.Exchange.{room}
+use Rattle.json_patch_edit.specs.Exchange.{room}
 use Rattle.json_patch.specs.Logged.{AreRoomy, LeadsBack}
 use Rattle.json_patch.proofs.log.undo_all.Given as goal
 

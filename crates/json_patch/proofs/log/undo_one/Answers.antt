@@ -1,5 +1,5 @@
 use Rattle.json_patch.proofs.Common.{◌≡◌, sym, ◌∙◌, false, is_err, true≢false}
-use Rattle.json_patch.proofs.Exchanges.{fitting_more}
+use Rattle.json_patch_edit.proofs.Exchanges.{fitting_more}
 use Rattle.json_patch.proofs.Logged.{exchanged}
 use Rattle.json_patch.proofs.log.undo_one.Goals as goal
 

@@ -1,6 +1,6 @@
 use Rattle.json_patch.proofs.Common.{◌<◌, ◌^◌, arith, sym, ap, ◌∙◌, [], token_is_decimal, token_of, tokens_of}
 use Rattle.json_patch.proofs.Common.{pointee, count_in, view, true≢false}
-use Rattle.json_patch.specs.Marked.{seen}
+use Rattle.json_patch_edit.specs.Marked.{seen}
 use Rattle.json_patch.proofs.Undos.{place_no_list, place_numbered, place_other}
 use Rattle.json_patch.proofs.log.undo_place.Goals as goal
 

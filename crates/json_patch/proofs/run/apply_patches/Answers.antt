@@ -1,6 +1,6 @@
 use Rattle.json_patch.proofs.Common.{refl, view, operations}
 use Rattle.json_patch.proofs.ProgramRuns.{recorded_all}
-use Rattle.json_patch.proofs.Runs.{accepts_document}
+use Rattle.json_patch_laws.proofs.Runs.{accepts_document}
 use Rattle.json_patch.proofs.run.apply_patches.Goals as goal
 
 pub returns : goal.returns

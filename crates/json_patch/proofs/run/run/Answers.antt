@@ -2,14 +2,14 @@ use Rattle.json_patch.proofs.Common.{◌≡◌, ◌+◌, ◌<◌, ◌++◌, ◌�
 use Rattle.json_patch.proofs.Common.{ap, rules, arith, [], ⊎_elim, view, operation_of, block, PatchOperation}
 use Rattle.std.proofs.lemmas.Bool.{eqb-true}
 use Rattle.std.proofs.lemmas.List.{nil_from_length}
-use Rattle.json_patch.proofs.LoggedEdits.{document_marks, logs_counts, logs_kept}
+use Rattle.json_patch.proofs.LoggedEdits.{document_marks, logs_kept, logs_tell}
 use Rattle.json_patch.proofs.LoggedRuns.{kept_alone, kept_inverse, kept_last, kept_open}
-use Rattle.json_patch.proofs.MarkedRuns.{document_seen, document_value}
+use Rattle.json_patch_edit.proofs.MarkedRuns.{document_seen, document_value}
 use Rattle.json_patch.proofs.ProgramRuns.{free_at, inverse_more, not_stopped, reported_names, state_document, test_at}
 use Rattle.json_patch.proofs.ProgramRuns.{state_more, whole_at}
-use Rattle.json_patch.specs.Logged.{Counts}
-use Rattle.json_patch.specs.Marked.{seen}
-use Rattle.json_patch.specs.MarkedComputed.{marks}
+use Rattle.json_patch.specs.Logged.{Tells}
+use Rattle.json_patch_edit.specs.Marked.{seen}
+use Rattle.json_patch_edit.specs.MarkedComputed.{marks}
 use Rattle.json_patch.proofs.run.run.Goals as goal
 
 pub loop-number-init : goal.loop-number-init
@@ -20,7 +20,9 @@ loop-number-init c =
       marked = document_value d c.requires.document;
       counts = (let none : marks d ≡ 0 = document_marks d c.requires.document in rw (c.new-log.ensures, none) (omega arith));
       says = λ is. rw c.new-log.ensures refl;
-      leads = λ h. rw c.new-log.ensures (tt, refl);
+      roomy = rw c.new-log.ensures tt;
+      count = rw c.new-log.ensures (omega arith);
+      leads = λ h. rw c.new-log.ensures refl;
       tests = λ h less. c.new-log.ensures;
     }
 
@@ -33,7 +35,7 @@ step-requires-clause-alone c = λ nothing.
     let first = kept_alone c.args.keep c.at-kept.result _ _ c.at-kept.ensures c.requires.kept nothing in
     let count = eqb-true _ _ (sym c.is_empty.ensures ∙ first) in
     let none : c.loop-number.log.changes.items ≡ [] = nil_from_length _ (omega (arith, count)) in
-    let same = rw none at (c.loop-number.invariant.leads (inl c.loop-number-test.true)).1 in
+    let same = rw none at c.loop-number.invariant.leads (inl c.loop-number-test.true) in
     rw same c.requires.document
 
 pub step-requires-clause-whole : goal.step-requires-clause-whole
@@ -53,16 +55,18 @@ returns-in-Err-clause-no_memory c = λ is tests e end.
 pub loop-number-preserved : goal.loop-number-preserved
 loop-number-preserved c =
     let d = view c.args.doc.now in let m = seen (view c.loop-number.doc) in let os = c.args.patch.now in let k = c.loop-number.number in let o = c.index-patch-number.result in
-    let counted : Counts c.loop-number.log c.step.new.self (view c.loop-number.doc) (view c.step.new.doc) = logs_counts (Ok c.in_default.field-0) c.at-kept.result c.loop-number.log c.step.new.self (view c.loop-number.doc) (view c.step.new.doc) c.in_default.ensures.logs in
+    let told : Tells c.loop-number.log c.step.new.self (view c.loop-number.doc) (view c.step.new.doc) = logs_tell (Ok c.in_default.field-0) c.at-kept.result c.loop-number.log c.step.new.self (view c.loop-number.doc) (view c.step.new.doc) c.in_default.ensures.logs in
     record {
       state = state_more d m (seen (view c.step.new.doc)) os k o c.requires.document c.requires.whole c.loop-number-test.true c.index-patch-number.is c.loop-number.invariant.state c.in_default.ensures.comes;
       marked = c.in_default.ensures.marked;
-      counts = omega (arith, c.loop-number.invariant.counts, counted);
+      counts = omega (arith, c.loop-number.invariant.counts, told.counts);
+      roomy = told.roomy c.loop-number.invariant.roomy;
+      count = omega (arith, c.loop-number.invariant.count, told.longer);
       says = λ is.
           c.in_default.ensures.keeps (c.at-kept.ensures ∙ kept_inverse c.args.keep _ _ is) ∙ ap (λ x. block m (operation_of o) ++ x) (c.loop-number.invariant.says is)
           ∙ inverse_more d m (seen (view c.step.new.doc)) os k o c.requires.document c.requires.whole c.loop-number-test.true c.index-patch-number.is c.loop-number.invariant.state c.in_default.ensures.comes;
       leads = λ h. (let l = logs_kept (Ok c.in_default.field-0) c.at-kept.result c.loop-number.log c.step.new.self (view c.loop-number.doc) (view c.step.new.doc)
           (kept_open c.args.keep c.at-kept.result _ _ c.at-kept.ensures c.requires.kept (⊎_elim (λ (more : k + 1 < length os). inl (search (rules, arith, more))) (λ is. inr is) h)) c.in_default.ensures.logs in
-          let before = c.loop-number.invariant.leads (inl c.loop-number-test.true) in (l.roomy before.0, l.leads d before.1));
+          l.leads d (c.loop-number.invariant.leads (inl c.loop-number-test.true)));
       tests = λ h less. c.in_default.ensures.rests (test_at os k o less c.index-patch-number.is h) ∙ c.loop-number.invariant.tests h c.loop-number-test.true;
     }

@@ -1,7 +1,7 @@
 use Rattle.json_patch.proofs.Common.{◌∙◌, Ok, sym, ap, view}
-use Rattle.json_patch.proofs.LoggedEdits.{document_marks, logs_counts}
-use Rattle.json_patch.proofs.LoggedRuns.{counted_alone}
-use Rattle.json_patch.proofs.MarkedRuns.{document_seen, document_value}
+use Rattle.json_patch.proofs.LoggedEdits.{document_marks, logs_tell}
+use Rattle.json_patch.proofs.LoggedRuns.{counted_alone, roomy_alone}
+use Rattle.json_patch_edit.proofs.MarkedRuns.{document_seen, document_value}
 use Rattle.json_patch.specs.declared.log.Keep.TheVariants.{Neither}
 use Rattle.json_patch.proofs.run.run_one.Goals as goal
 
@@ -14,10 +14,15 @@ step-requires-clause-document c = rw (document_seen (view c.args.doc.now) c.requ
 pub returns-in-Err-clause-comes : goal.returns-in-Err-clause-comes
 returns-in-Err-clause-comes c = rw (document_seen (view c.args.doc.now) c.requires.document) at c.in-Err.ensures.comes
 
+pub clear_marks-requires-clause-roomy : goal.clear_marks-requires-clause-roomy
+clear_marks-requires-clause-roomy c =
+    roomy_alone c.new-log.result c.step.new.self (view c.args.doc.now) (view c.step.new.doc) c.deref.result.now c.new-log.ensures (sym c.deref.ensures.value)
+    (logs_tell (Ok c.in_default.field-0) Neither c.new-log.result c.step.new.self (view c.args.doc.now) (view c.step.new.doc) c.in_default.ensures.logs)
+
 pub clear_marks-requires-clause-counts : goal.clear_marks-requires-clause-counts
 clear_marks-requires-clause-counts c =
-    counted_alone c.new-log.result c.step.new.self (view c.args.doc.now) (view c.step.new.doc) c.deref.result.now c.new-log.ensures (sym c.deref.ensures.value) (document_marks (view c.args.doc.now) c.requires.document)
-    (logs_counts (Ok c.in_default.field-0) Neither c.new-log.result c.step.new.self (view c.args.doc.now) (view c.step.new.doc) c.in_default.ensures.logs)
+    counted_alone c.new-log.result c.step.new.self (view c.args.doc.now) (view c.step.new.doc) c.deref.result.now c.new-log.ensures (sym c.deref.ensures.value)
+    (logs_tell (Ok c.in_default.field-0) Neither c.new-log.result c.step.new.self (view c.args.doc.now) (view c.step.new.doc) c.in_default.ensures.logs) (document_marks (view c.args.doc.now) c.requires.document)
 
 pub returns-clause-comes : goal.returns-clause-comes
 returns-clause-comes c = rw (document_seen (view c.args.doc.now) c.requires.document) at c.in_default.ensures.comes ∙ ap Ok (sym c.clear_marks.ensures)

@@ -1,6 +1,6 @@
 use Rattle.json_patch.proofs.Common.{tokens_of}
-use Rattle.json_patch.proofs.SharedTokens.{even_if_none, first_shares_none, shares_all, shares_first, shares_more}
-use Rattle.json_patch.proofs.SharedTokens.{shares_none}
+use Rattle.json_patch_laws.proofs.SharedTokens.{even_if_none, first_shares_none, shares_all, shares_first, shares_more}
+use Rattle.json_patch_laws.proofs.SharedTokens.{shares_none}
 use Rattle.json_patch.proofs.shared.shared_pointer.Goals as goal
 
 pub returns-in_err-shared-clause-none : goal.returns-in_err-shared-clause-none

@@ -7,9 +7,9 @@ use Rattle.json_patch.specs.Operation.{Operation, AreWhole, add}
 use Rattle.json_patch.specs.Run.{Accepts, RefusesAt}
 use Rattle.json_patch.specs.RunComputed.{fault, after_run}
 use Rattle.json_patch.specs.Refusal.{IfRefused, NamesFirst}
-use Rattle.json_patch.specs.declared.error.PatchErrorKind.{PatchErrorKind}
-use Rattle.json_patch.specs.declared.error.PatchFault.{PatchFault}
-use Rattle.json_patch.specs.declared.error.PatchFault.TheVariants as fault_variants
+use Rattle.json_patch.specs.PatchErrorKind.{PatchErrorKind}
+use Rattle.json_patch.specs.PatchFault.{PatchFault}
+use Rattle.json_patch.specs.PatchFault.TheVariants as fault_variants
 use Rattle.json_patch_uses.proofs.example.first_example.Goals as goal
 
 abbrev Accepted : Type 0

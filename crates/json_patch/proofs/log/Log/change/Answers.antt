@@ -1,6 +1,6 @@
 use Rattle.json_patch.proofs.Common.{view}
 use Rattle.json_patch.proofs.LoggedEdits.{edit_comes, edit_keeps, edit_logs, edit_value, logs_as}
-use Rattle.json_patch.proofs.Unmarked.{unmarked_logged}
+use Rattle.json_patch.proofs.UnmarkedLogs.{unmarked_logged}
 use Rattle.json_patch.proofs.log.Log.change.Goals as goal
 
 pub log_edit-requires-clause-unmarked : goal.log_edit-requires-clause-unmarked

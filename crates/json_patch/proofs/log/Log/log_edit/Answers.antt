@@ -1,5 +1,5 @@
 use Rattle.json_patch.proofs.Common.{refl}
-use Rattle.json_patch.proofs.Exchanges.{fitting_more}
+use Rattle.json_patch_edit.proofs.Exchanges.{fitting_more}
 use Rattle.json_patch.proofs.log.Log.log_edit.Goals as goal
 
 pub returns-clause-logged : goal.returns-clause-logged

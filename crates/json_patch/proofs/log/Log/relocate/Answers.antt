@@ -1,5 +1,5 @@
 use Rattle.json_patch.proofs.Common.{◌∙◌, Ok, Err, arith, refl, sym, true≢false, view}
-use Rattle.json_patch.proofs.Exchanges.{fitting_more}
+use Rattle.json_patch_edit.proofs.Exchanges.{fitting_more}
 use Rattle.json_patch.proofs.Logged.{exchanged}
 use Rattle.json_patch.proofs.LoggedEdits.{goes_back, logs_as, logs_earlier, logs_none, move_comes, move_keeps}
 use Rattle.json_patch.proofs.LoggedEdits.{move_logs, move_value, source_value}

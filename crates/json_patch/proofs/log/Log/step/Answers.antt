@@ -1,6 +1,6 @@
 use Rattle.json_patch.proofs.Common.{view}
-use Rattle.json_patch.specs.Marked.{seen}
-use Rattle.json_patch.proofs.BlocksLeadBack.{found_document}
+use Rattle.json_patch_edit.specs.Marked.{seen}
+use Rattle.json_patch_edit.proofs.Locations.{found_document}
 use Rattle.json_patch.proofs.log.Log.step.Goals as goal
 
 pub change-requires-in-Copy-clause-value : goal.change-requires-in-Copy-clause-value

@@ -3,7 +3,7 @@ use Rattle.std.proofs.lemmas.Grind.{common_steps}
 use Rattle.std.proofs.lemmas.List.Elements.{AllWithin-more, AllWithin-none, at_read}
 use Rattle.json_patch.specs.Apart.{AreApart}
 use Rattle.json_patch.specs.Operation.{operations}
-use Rattle.json_patch_uses.specs.SharedDocuments.{patch_of}
+use Rattle.json_patch_uses.specs.History.{patch_of}
 use Rattle.json_patch_uses.proofs.SharedChanges.{apart_since}
 use Rattle.json_patch_uses.proofs.shared.SharedDocument.first_collision.Goals as goal
 

@@ -1,7 +1,7 @@
 use Rattle.std.specs.List.{AllWithin}
 use Rattle.json_patch.specs.Apart.{AreApart}
 use Rattle.json_patch.specs.Operation.{operations}
-use Rattle.json_patch_uses.specs.SharedDocuments.{patch_of}
+use Rattle.json_patch_uses.specs.History.{patch_of}
 use Rattle.json_patch_uses.proofs.shared.SharedDocument.first_collision.Given as goal
 
 abbrev pub invariant-loop-n : goal.invariant-loop-n

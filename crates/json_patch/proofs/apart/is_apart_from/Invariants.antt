@@ -1,6 +1,0 @@
-use Rattle.json_patch.proofs.Common.{◌↔◌, drop, operation_of, operations}
-use Rattle.json_patch.specs.Apart.{IsApartFrom}
-use Rattle.json_patch.proofs.apart.is_apart_from.Given as goal
-
-abbrev pub invariant-loop-y : goal.invariant-loop-y
-invariant-loop-y l = IsApartFrom (operation_of l.x) (operations l.ys) ↔ IsApartFrom (operation_of l.x) (operations (drop l.y-index l.ys))

@@ -1,5 +1,0 @@
-use Rattle.json_patch.proofs.Locations.{found_computed}
-use Rattle.json_patch.proofs.laws.documents.Goals as goal
-
-pub returns-clause-found_is_computed : goal.returns-clause-found_is_computed
-returns-clause-found_is_computed c = found_computed

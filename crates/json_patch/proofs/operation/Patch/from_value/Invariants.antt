@@ -1,5 +1,0 @@
-use Rattle.json_patch.proofs.Common.{take, items_view, operations, ReadsItems}
-use Rattle.json_patch.proofs.operation.Patch.from_value.Given as goal
-
-abbrev pub invariant-loop-number : goal.invariant-loop-number
-invariant-loop-number l = ReadsItems (items_view (take l.number l.item-items)) (operations l.operations.items)

@@ -1,5 +1,0 @@
-use Rattle.json_patch.proofs.Common.{rules, from_and_path}
-use Rattle.json_patch.proofs.reading.read_from_and_path.Goals as goal
-
-pub returns-in_err-path-clause-refused : goal.returns-in_err-path-clause-refused
-returns-in_err-path-clause-refused c = search (rules, c.in_err-path.ensures.refused from_and_path (λ _. search rules))

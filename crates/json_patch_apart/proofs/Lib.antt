@@ -1,0 +1,4 @@
+pub mod Common
+pub mod Divergence
+pub mod Filters
+pub mod Footprints

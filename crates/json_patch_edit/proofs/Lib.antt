@@ -1,0 +1,16 @@
+pub mod Alterations
+pub mod BlocksLeadBack
+pub mod Changes
+pub mod Common
+pub mod Containers
+pub mod Exchanges
+pub mod Locations
+pub mod Marked
+pub mod MarkedChanges
+pub mod MarkedContainers
+pub mod MarkedRuns
+pub mod Places
+pub mod Shown
+pub mod Slots
+pub mod StepOutcomes
+pub mod Unmarked

@@ -1,0 +1,10 @@
+pub mod Attempt
+pub mod Change
+pub mod Exchange
+pub mod InverseComputed
+pub mod Marked
+pub mod MarkedComputed
+pub mod NoMemory
+pub mod RunComputed
+pub mod SeenEdits
+pub mod Step

@@ -1,0 +1,15 @@
+pub mod ApartChanges
+pub mod ApartExamples
+pub mod ApartOutcomes
+pub mod ApartRuns
+pub mod ApartUndos
+pub mod Blocks
+pub mod Common
+pub mod Equality
+pub mod Locality
+pub mod Parents
+pub mod Plain
+pub mod Runs
+pub mod Sections
+pub mod SharedTokens
+pub mod Trails

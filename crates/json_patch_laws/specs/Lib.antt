@@ -1,0 +1,4 @@
+pub mod Inverse
+pub mod Run
+pub mod SharedComputed
+pub mod Trails

@@ -1,0 +1,6 @@
+//! JSON Merge Patch (RFC 7396).
+#![tactic(auto)]
+
+mod merging;
+
+pub use merging::merge;

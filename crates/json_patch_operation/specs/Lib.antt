@@ -1,0 +1,11 @@
+pub mod Operation
+pub mod PartsView
+pub mod PatchValue
+pub mod Printed
+pub mod ReadLaws
+pub mod ReadSteps
+pub mod Same
+pub mod SameComputed
+pub mod SameLaws
+pub mod Shared
+pub mod Texts

@@ -1,0 +1,21 @@
+//! The operations of JSON Patch (RFC 6902): read, written, printed and compared, and what can go
+//! wrong with them.
+#![tactic(auto)]
+
+mod equality;
+mod error;
+mod operation;
+mod parsing;
+mod printing;
+mod reading;
+mod within;
+mod writing;
+
+pub use error::{Fault, PatchError, PatchErrorKind, PatchFault, ReadError, ReadFault, ReadKind};
+pub use jsonptr;
+pub use operation::{
+    AddOperation, CopyOperation, MoveOperation, Patch, PatchOperation, RemoveOperation,
+    ReplaceOperation, TestOperation,
+};
+pub use parsing::document_from_str;
+pub use printing::pretty;
