@@ -1,4 +1,4 @@
-/* Each call of json_patch.h, and what it answers. */
+/* Each call of json_patch.h, and what it returns. */
 #include <json_patch.h>
 
 #include <stdio.h>

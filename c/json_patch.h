@@ -44,10 +44,12 @@ typedef uint8_t json_patch_kind;
 enum {
     JSON_PATCH_KIND_NONE = 0,
     /* of JSON_PATCH_NO_DOCUMENT and JSON_PATCH_NO_PATCH */
-    JSON_PATCH_NOT_JSON = 1,  /* no UTF-8 or no JSON, or nested deeper than 127 levels */
-    JSON_PATCH_NOT_WHOLE = 2, /* a number with a fraction or an exponent, minus zero, or one past 64
-                                 bits; in a patch that isn't a merge patch JSON_PATCH_VALUE_NOT_WHOLE
-                                 is told */
+    JSON_PATCH_NOT_JSON = 1,  /* no UTF-8, no JSON (RFC 8259), nested deeper than 127 levels, or a
+                                 number or an escape that the reader of JSON refuses: a number past a
+                                 float's range, such as 1e400, or an unpaired surrogate */
+    JSON_PATCH_NOT_WHOLE = 2, /* else a number with a fraction or an exponent, minus zero, or one past
+                                 64 bits; in a patch that isn't a merge patch
+                                 JSON_PATCH_VALUE_NOT_WHOLE is told */
     /* of JSON_PATCH_REFUSED */
     JSON_PATCH_TEST_FAILED = 3,
     JSON_PATCH_INVALID_FROM_POINTER = 4,
@@ -111,6 +113,11 @@ json_patch_status json_patch_merge(const char *document, size_t document_length,
                                    const char *patch, size_t patch_length, char *out,
                                    size_t out_length, json_patch_report *report);
 
+/* Reads the patch, and does nothing else: JSON_PATCH_OK, JSON_PATCH_NO_PATCH or
+   JSON_PATCH_NO_MEMORY. */
+json_patch_status json_patch_check(const char *patch, size_t patch_length,
+                                   json_patch_report *report);
+
 /*
  * A document that is kept, so that an edit takes the time that the edit wants, and not that of
  * reading and writing the whole.
@@ -128,7 +135,7 @@ json_patch_status json_patch_merge(const char *document, size_t document_length,
  * - It is closed before its memory goes: only that gives back what the document takes.
  * - It overlaps nothing else that is handed in.
  *
- * Each call but json_patch_open answers JSON_PATCH_CLOSED where no document is open. Where the
+ * Each call but json_patch_open returns JSON_PATCH_CLOSED where no document is open. Where the
  * status is no JSON_PATCH_OK, the document is as it was.
  */
 typedef struct {

@@ -1,26 +1,30 @@
 /*
- * One call, for memory/refuse.c: what it asks of malloc falls between a read of standard input and
- * a write to standard error.
+ * One call of json_patch.h on one input, first with every request for memory granted, and then with
+ * each request refused in turn, alone and with all after it.
  *
  *     one_call CALL DOCUMENT TEXT
  *
- * CALL is apply, record or merge, or of a document that is kept open, update, update_recorded,
- * update_merged, text, text_at or inverse. It prints the status and the report, what was written,
- * and then the text of the document that is kept; a line "spoilt" where more was written, and a line
- * "left" where not all memory is given back at the end. For that it is linked with
+ * CALL is apply, record, merge or check, or of a document that is kept open, open, update,
+ * update_recorded, update_merged, text, text_at or inverse. It prints what the call answers with ample memory: the
+ * status and the report, what was written, and then the text of the document that is kept; and, in a
+ * last line, how many requests there were. Whether a request was refused is told by the functions
+ * below that stand in for malloc and realloc: so it is linked with
  * -Wl,--wrap=malloc,--wrap=realloc,--wrap=free.
+ *
+ * It ends with status 1 and says why where a run breaks the rule: a request was refused exactly where
+ * the call answers JSON_PATCH_NO_MEMORY, which writes nothing and leaves the kept document as it was;
+ * otherwise the answer is the one with ample memory. In each run all memory is given back.
  */
 #include "json_patch.h"
 
+#include <stdarg.h>
 #include <stdio.h>
+#include <stdlib.h>
 #include <string.h>
-#include <unistd.h>
 
-enum { ROOM = 4096, UNTOUCHED = 0xa5 };
+enum { ROOM = 1 << 18, UNTOUCHED = 0xa5 };
 
-static char out[ROOM];
-
-/* ---- the blocks that the library has */
+/* ---- the requests for memory */
 
 void *__real_malloc(size_t size);
 void *__real_realloc(void *old, size_t size);
@@ -29,17 +33,30 @@ void *__wrap_malloc(size_t size);
 void *__wrap_realloc(void *old, size_t size);
 void __wrap_free(void *block);
 
-static long blocks, requests;
+static long blocks;
+static int is_within;
+static unsigned long refuse_at, requests, refused;
+static int refuses_rest;
+
+/* Counts a request, and tells whether it is refused. */
+static int is_refused(void) {
+    if (!is_within)
+        return 0;
+    requests++;
+    if (refuse_at == 0 || requests < refuse_at || (requests > refuse_at && !refuses_rest))
+        return 0;
+    refused++;
+    return 1;
+}
 
 void *__wrap_malloc(size_t size) {
-    void *block = __real_malloc(size);
-    requests++;
+    void *block = is_refused() ? NULL : __real_malloc(size);
     blocks += block != NULL;
     return block;
 }
 
 void *__wrap_realloc(void *old, size_t size) {
-    void *block = __real_realloc(old, size);
+    void *block = is_refused() ? NULL : __real_realloc(old, size);
     blocks += !old && block;
     return block;
 }
@@ -51,8 +68,20 @@ void __wrap_free(void *block) {
 
 /* ---- the call */
 
-static json_patch_status called(const char *name, json_patch_document *kept, const char *document,
-                                const char *text, json_patch_report *report) {
+typedef struct {
+    const char *name, *document, *text;
+} input;
+
+/* What came of the call, and the text of the document that is kept, before it and after. */
+typedef struct {
+    json_patch_status status, was_open, is_open;
+    json_patch_report report;
+    char out[ROOM], before[ROOM], after[ROOM];
+} outcome;
+
+static json_patch_status called(const input *it, json_patch_document *kept, char *out,
+                                json_patch_report *report) {
+    const char *name = it->name, *document = it->document, *text = it->text;
     size_t size = strlen(document), length = strlen(text);
     if (strcmp(name, "apply") == 0)
         return json_patch_apply(document, size, text, length, out, ROOM, report);
@@ -60,6 +89,8 @@ static json_patch_status called(const char *name, json_patch_document *kept, con
         return json_patch_record(document, size, text, length, out, ROOM, report);
     if (strcmp(name, "merge") == 0)
         return json_patch_merge(document, size, text, length, out, ROOM, report);
+    if (strcmp(name, "check") == 0)
+        return json_patch_check(text, length, report);
     if (strcmp(name, "open") == 0)
         return json_patch_open(kept, text, length, report);
     if (strcmp(name, "update") == 0)
@@ -72,34 +103,106 @@ static json_patch_status called(const char *name, json_patch_document *kept, con
         return json_patch_text(kept, out, ROOM, report);
     if (strcmp(name, "text_at") == 0)
         return json_patch_text_at(kept, text, length, out, ROOM, report);
-    return json_patch_inverse(kept, out, ROOM, report);
+    if (strcmp(name, "inverse") == 0)
+        return json_patch_inverse(kept, out, ROOM, report);
+    fprintf(stderr, "one_call: there is no call %s\n", name);
+    exit(64);
+}
+
+/* The text of the document that is kept, with a zero after it. */
+static json_patch_status kept_text(json_patch_document *kept, char *text) {
+    json_patch_report told;
+    json_patch_status status = json_patch_text(kept, text, ROOM - 1, &told);
+    text[status == JSON_PATCH_OK ? told.size : 0] = 0;
+    return status;
+}
+
+/* Opens the document, and keeps an inverse for the call of that name: of the text, a patch. */
+static void prepare(const input *it, json_patch_document *kept, char *out) {
+    json_patch_report told;
+    int is_inverse = strcmp(it->name, "inverse") == 0;
+    if (json_patch_open(kept, it->document, strlen(it->document), &told) == JSON_PATCH_OK && is_inverse)
+        json_patch_update_recorded(kept, it->text, strlen(it->text), out, ROOM, &told);
+}
+
+/* Makes the call with that request refused. */
+static void make(const input *it, unsigned long number, int rest, outcome *came) {
+    json_patch_document kept = JSON_PATCH_DOCUMENT;
+    long had = blocks;
+    prepare(it, &kept, came->out);
+    came->was_open = kept_text(&kept, came->before);
+    came->report = (json_patch_report){77, 77, 77};
+    memset(came->out, UNTOUCHED, ROOM);
+    refuse_at = number;
+    refuses_rest = rest;
+    requests = refused = 0;
+    is_within = 1;
+    came->status = called(it, &kept, came->out, &came->report);
+    is_within = 0;
+    came->is_open = kept_text(&kept, came->after);
+    json_patch_close(&kept);
+    if (blocks != had) {
+        printf("left: %ld blocks where request %lu is refused\n", blocks - had, number);
+        exit(1);
+    }
+}
+
+/* ---- the rule */
+
+static int is_untouched(const char *out, size_t from) {
+    for (size_t i = from; i < ROOM; i++)
+        if ((unsigned char)out[i] != UNTOUCHED)
+            return 0;
+    return 1;
+}
+
+static int is_same_report(json_patch_report a, json_patch_report b) {
+    return a.size == b.size && a.operation == b.operation && a.kind == b.kind;
+}
+
+/* Whether nothing is told but the status, nothing is written, and the kept document stays. */
+static int is_out_of_memory(const outcome *came) {
+    return came->status == JSON_PATCH_NO_MEMORY &&
+           is_same_report(came->report, (json_patch_report){0, 0, 0}) &&
+           is_untouched(came->out, 0) && came->was_open == came->is_open &&
+           strcmp(came->before, came->after) == 0;
+}
+
+static int is_same(const outcome *came, const outcome *ample) {
+    return came->status == ample->status && is_same_report(came->report, ample->report) &&
+           memcmp(came->out, ample->out, ROOM) == 0 && came->is_open == ample->is_open &&
+           strcmp(came->after, ample->after) == 0;
+}
+
+/* Makes the call with that request refused, and ends the program where it breaks the rule. */
+static void refuse(const input *it, unsigned long number, int rest, const outcome *ample) {
+    static outcome came;
+    make(it, number, rest, &came);
+    if (refused && is_out_of_memory(&came))
+        return;
+    printf("request %lu refused, %s: %lu refusals, status %d, %s that with ample memory\n", number,
+           rest ? "and all after it" : "alone", refused, came.status,
+           is_same(&came, ample) ? "the answer is" : "the answer isn't");
+    exit(1);
 }
 
 int main(int count, char **words) {
-    static char text[ROOM];
-    const char *patch = "[{\"op\":\"add\",\"path\":\"/new\",\"value\":[1]}]";
-    char byte;
-    json_patch_document kept = JSON_PATCH_DOCUMENT;
-    json_patch_report report = {77, 77, 77}, told;
+    static outcome ample, again;
     if (count != 4)
         return 64;
-    if (json_patch_open(&kept, words[2], strlen(words[2]), &told) == JSON_PATCH_OK)
-        json_patch_update_recorded(&kept, patch, strlen(patch), out, ROOM, &told);
-    memset(out, UNTOUCHED, ROOM);
-    if (read(STDIN_FILENO, &byte, 1) < 0)
-        return 1;
-    json_patch_status status = called(words[1], &kept, words[2], words[3], &report);
-    if (write(STDERR_FILENO, "\n", 1) != 1)
-        return 1;
-    printf("%d %zu %zu %d %.*s\n", status, report.size, report.operation, report.kind,
-           (int)report.size, out);
-    for (size_t i = report.size; i < ROOM; i++)
-        if ((unsigned char)out[i] != UNTOUCHED)
-            return puts("spoilt");
-    if (json_patch_text(&kept, text, ROOM, &told) == JSON_PATCH_OK)
-        printf("%.*s\n", (int)told.size, text);
-    json_patch_close(&kept);
-    if (blocks != 0 || requests == 0)
-        puts("left");
+    input it = {words[1], words[2], words[3]};
+    make(&it, 0, 0, &ample);
+    unsigned long most = requests;
+    printf("%d %zu %zu %d %.*s\n%s\n%lu\n", ample.status, ample.report.size, ample.report.operation,
+           ample.report.kind, (int)(ample.status <= JSON_PATCH_REFUSED ? ample.report.size : 0),
+           ample.out, ample.after, most);
+    if (!is_untouched(ample.out, ample.status <= JSON_PATCH_REFUSED ? ample.report.size : 0))
+        return puts("spoilt") < 0 ? 64 : 1;
+    for (unsigned long number = 1; number <= most; number++)
+        for (int rest = 0; rest <= 1; rest++)
+            refuse(&it, number, rest, &ample);
+    make(&it, most + 1, 1, &again);
+    if (refused || !is_same(&again, &ample))
+        return puts("another answer, with ample memory again") < 0 ? 64 : 1;
     return 0;
 }

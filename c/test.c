@@ -6,9 +6,11 @@
  */
 #include "rows.h"
 
+#include "values.h"
+
 enum { GUARD = 8, UNTOUCHED = 0xa5 };
 
-static unsigned long calls, statuses[JSON_PATCH_NO_ROOM + 1];
+static unsigned long calls, statuses[JSON_PATCH_NO_ROOM + 1], checks[JSON_PATCH_NO_PATCH + 1];
 
 /* ---- a call */
 
@@ -47,9 +49,26 @@ static void expect(const row *row, size_t room) {
     free(out);
 }
 
+/* Reads the patch of the row alone, and compares what is told with what that row says of it. */
+static void expect_check(const row *row) {
+    json_patch_report report = {77, 77, 77};
+    int is_patch = row->status != JSON_PATCH_NO_PATCH;
+    if (row->make == json_patch_merge || row->status == JSON_PATCH_NO_DOCUMENT)
+        return;
+    json_patch_status status = json_patch_check(row->patch.bytes, row->patch.length, &report);
+    calls++;
+    if (status != (is_patch ? JSON_PATCH_OK : JSON_PATCH_NO_PATCH) || report.size != 0 ||
+        report.operation != (is_patch ? 0 : row->operation) ||
+        report.kind != (is_patch ? JSON_PATCH_KIND_NONE : row->kind))
+        fail("status %d, operation %zu, kind %d of the check of %s", status, report.operation,
+             report.kind, row->patch.bytes);
+    checks[status]++;
+}
+
 /* Makes the call with room for each number of bytes, to some past those that it needs. */
 static void expect_at_each_length(const row *row) {
     size_t most = (row->written.bytes ? row->written.length : 256) + 2;
+    expect_check(row);
     for (size_t room = 0; room <= most; room++)
         expect(row, room);
 }
@@ -82,14 +101,36 @@ static void expect_others(void) {
         expect_at_each_length(&others[i]);
 }
 
+/* Each value as a document, in a patch, and as a merge patch. */
+static void expect_values(void) {
+    for (size_t i = 0; i < VALUES; i++) {
+        const text value = {(char *)values[i].bytes, values[i].length}, patch = adding(i);
+        const row told[] = {
+            {json_patch_apply, value, TEXT("[]"), 2, 0, values[i].kind, TEXT("")},
+            {json_patch_record, value, TEXT("["), 2, 0, values[i].kind, TEXT("")},
+            {json_patch_merge, value, TEXT("{}"), 2, 0, values[i].kind, TEXT("")},
+            {json_patch_apply, TEXT("{}"), patch, 3, 0, kind_in_patch(i), TEXT("")},
+            {json_patch_merge, TEXT("{}"), value, 3, 0, values[i].kind, TEXT("")},
+        };
+        for (size_t j = 0; j < sizeof told / sizeof *told; j++) {
+            expect(&told[j], 8);
+            expect_check(&told[j]);
+        }
+        free(patch.bytes);
+    }
+}
+
 int main(int count, char **words) {
     if (count != 2)
         fail("test CASES");
     for_each_row(words[1], expect_at_each_length);
     expect_others();
+    expect_values();
     for (int status = 0; status <= JSON_PATCH_NO_ROOM; status++)
         if (statuses[status] == 0 && status != JSON_PATCH_NO_MEMORY)
-            fail("no call answered status %d", status);
+            fail("no call returned status %d", status);
+    if (!checks[JSON_PATCH_OK] || !checks[JSON_PATCH_NO_PATCH])
+        fail("a patch was never read alone, or never refused");
     printf("c: %lu calls\n", calls);
     return 0;
 }

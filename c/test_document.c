@@ -6,6 +6,8 @@
  */
 #include "rows.h"
 
+#include "values.h"
+
 enum { ROOM = 1 << 16 };
 
 static unsigned long updates;
@@ -146,6 +148,27 @@ static void expect_unreadable(void) {
     json_patch_close(&document);
 }
 
+/* Each value as a document, in a patch, and as a merge patch. */
+static void expect_values(void) {
+    json_patch_document document = JSON_PATCH_DOCUMENT;
+    json_patch_report r;
+    char out[8];
+    EXPECT(json_patch_open(&document, TEXT("{}"), &r), JSON_PATCH_OK);
+    for (size_t i = 0; i < VALUES; i++) {
+        text patch = adding(i);
+        EXPECT_TOLD(json_patch_open(&document, values[i].bytes, values[i].length, &r),
+                    JSON_PATCH_NO_DOCUMENT, values[i].kind);
+        EXPECT_TOLD(json_patch_update(&document, patch.bytes, patch.length, out, 8, &r),
+                    JSON_PATCH_NO_PATCH, kind_in_patch(i));
+        EXPECT_TOLD(json_patch_update_merged(&document, values[i].bytes, values[i].length, &r),
+                    JSON_PATCH_NO_PATCH, values[i].kind);
+        free(patch.bytes);
+    }
+    if (strcmp(written(json_patch_text, &document), "{}") != 0)
+        fail("a text that isn't read changes the document");
+    json_patch_close(&document);
+}
+
 /* Whether a text of so many bytes was written to `out`, where it has room, and nothing else. */
 static int is_alone(const char *out, size_t room, size_t size) {
     size_t written = size <= room ? size : 0;
@@ -221,6 +244,7 @@ int main(int count, char **words) {
     expect_closed();
     expect_opened();
     expect_unreadable();
+    expect_values();
     expect_rooms();
     expect_paths();
     expect_found("", JSON_PATCH_OK, "{\"a/b\":[1,{\"m~n\":null}]}");

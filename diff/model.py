@@ -19,9 +19,7 @@ def copied(value):
 
 
 def same(a, b):
-    """Equality of JSON values, in which true isn't 1."""
-    if isinstance(a, bool) or isinstance(b, bool):
-        return a is b
+    """Equality of JSON values, in which true isn't 1, as it is in Python."""
     if isinstance(a, MAPS):
         return isinstance(b, MAPS) and a.keys() == b.keys() and all(same(a[k], b[k]) for k in a)
     if isinstance(a, LISTS):

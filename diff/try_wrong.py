@@ -1,7 +1,7 @@
 #!/usr/bin/env python3
 """Asks that diff/run.py and diff/apart.py pass a driver that is right, and find out each that is wrong
-in one way (diff/wrong_driver.py), by each comparison that has to see it. It takes a minute and
-a half, and half a minute with programs.
+in one way (diff/wrong_driver.py), by each comparison that has to see it; and that the tables find each
+fault of the model (diff/try_model.py). It takes a minute and a half, and half a minute with programs.
 
     diff/try_wrong.py [--cases N] [--ours PROGRAM] [--rust PROGRAM]
 
@@ -18,6 +18,7 @@ import apart
 import classes
 import run
 import tables
+import try_model
 from model import Model, Refused
 
 WRONG = os.path.join(run.HERE, "wrong_driver.py")
@@ -92,7 +93,7 @@ def main():
     words.add_argument("--ours")
     words.add_argument("--rust")
     asked = words.parse_args()
-    wrong = tables.faults()
+    wrong = [*tables.faults(), *try_model.unseen()]
     if not tables.faults(WrongModel()):
         wrong.append("the tables find no fault in a model that is wrong")
     others = [[asked.rust]] if asked.rust else [driver("none", []), driver("loses_value", [])]

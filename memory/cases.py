@@ -1,16 +1,18 @@
 """The calls whose requests for memory are refused, and what they have to answer and to leave."""
+import json
 from collections import namedtuple
 
 from patches import (
     ARTICLE, ARTICLE_MERGE, ARTICLE_MERGED, NAMES, NAMES_PATCH, VECTORS,
-    add, compact, copy, indented, move, printed, printed_patch, remove, replace, test,
+    add, compact, copy, indented, move, pointer, printed, printed_patch, remove, replace, test,
 )
+from refusals import MEMORY
+from states import worked
 
-MEMORY = "out of memory"
 NOT_FOUND = "path is invalid"
 
 # A call of the program json_patch_memory: its line in the table that is printed, its arguments, what
-# the program writes with ample memory, and each thing that it may write where a request was refused.
+# the program writes with ample memory, and each thing that it may write out of memory.
 # `requests` is the number of requests, where it is known, and `at_least` a bound on it.
 Call = namedtuple("Call", "line arguments answer short requests at_least", defaults=[None, 0])
 
@@ -254,6 +256,125 @@ IN_PLACE = {
     ),
 }
 
+# Arrays in which an item shifts from whose inside a value was taken away: to an index of as many
+# digits, of one more or of one fewer.
+KEPT = {"x": 5, "y": [6]}
+
+
+def behind(count, item):
+    """An array in which so many items come before this one."""
+    return [0] * count + [item]
+
+
+def shifting(document, operations, failing=None, why=None):
+    """A run whose states are worked by states.py, with an operation at its end that is refused."""
+    states, inverse = worked(document, operations)
+    if not failing:
+        return Run(states, operations, inverse=inverse)
+    refused = refusal(len(operations), failing["path"], why)
+    return Run(states, [*operations, failing], refusal=refused)
+
+
+def at_each_power():
+    """Shifts between 9 and 10, 99 and 100, 999 and 1000."""
+    for index in (9, 99, 999):
+        here, there = behind(index, KEPT), behind(index + 1, KEPT)
+        on = [remove(f"/{index}/x"), add("/0", 1)]
+        yield f"an item at {index} that shifts on", shifting(here, on)
+        back = [remove(f"/{index + 1}/x"), remove("/0")]
+        yield f"an item at {index + 1} that shifts back", shifting(there, back)
+        yield f"a member of the item at {index} moved before it", shifting(here, [move(f"/{index}/x", "/0")])
+        failed = shifting(here, on, test(f"/{index + 1}", KEPT), "value did not match")
+        yield f"an item at {index} that shifts on, and a failed test", failed
+
+
+def below_long_names():
+    """Shifts below a name so long that the pointer's text has 1,024 bytes, before or after, or more;
+    and of bytes that are no characters of their own."""
+    for what, name in (
+        ("of 1,018", "n" * 1018),
+        ("of 1,019", "n" * 1019),
+        ("of 1,020", "n" * 1020),
+        ("of 5,000 escaped", "~/" * 2500),
+        ("of 600 two-byte", "\u00e9~" * 300),
+    ):
+        path = pointer([name])
+        operations = [remove(f"{path}/9/x"), add(f"{path}/0", 1)]
+        yield f"an item below a name {what} characters", shifting({name: behind(9, KEPT)}, operations)
+
+
+ESCAPED = {"a/b~c": behind(9, {"x/~y": 5, "z": 6})}
+SHIFTED = {
+    **dict(at_each_power()),
+    **dict(below_long_names()),
+    "an item that shifts twice": shifting(behind(8, KEPT), [remove("/8/x"), add("/0", 1), add("/0", 2)]),
+    "an item that shifts on and back": shifting(
+        behind(9, KEPT), [remove("/9/x"), add("/0", 1), remove("/0"), add("/1", 2), remove("/2")]
+    ),
+    "an item under two arrays that shift": shifting(
+        behind(9, behind(9, KEPT)), [remove("/9/9/x"), add("/9/0", 1), add("/0", 2)]
+    ),
+    "an item under two arrays, the outer first": shifting(
+        behind(99, behind(9, KEPT)),
+        [add("/0", 1), remove("/100/9/x"), remove("/0"), add("/99/-", 2), add("/99/3", 3)],
+    ),
+    "a member moved out of two arrays": shifting(
+        behind(9, behind(9, KEPT)), [move("/9/9/x", "/0"), add("/10/0", 1)]
+    ),
+    "an item moved to another array, which shifts": shifting(
+        {"l": behind(9, KEPT), "m": [0] * 10}, [remove("/l/9/x"), move("/l/9", "/m/9"), add("/m/0", 1)]
+    ),
+    "an item copied and then shifted": shifting(
+        behind(9, KEPT), [remove("/9/x"), copy("/9", "/0"), add("/0/x", 7), remove("/10/y/0")]
+    ),
+    "an item shifted and then displaced": shifting(
+        behind(9, KEPT), [remove("/9/x"), add("/0", 1), replace("/10", 2), add("/0", 3)]
+    ),
+    "an item shifted and then removed": shifting(
+        behind(9, KEPT), [remove("/9/x"), add("/0", 1), remove("/10"), add("/-", 2)]
+    ),
+    "an item shifted and then tested": shifting(
+        behind(9, KEPT),
+        [remove("/9/x"), add("/0", 1), test("/10", {"y": [6]}), test("", [1, *[0] * 9, {"y": [6]}])],
+    ),
+    "members whose names are indices": shifting(
+        {"l": {"0": 1, "9": dict(KEPT)}}, [remove("/l/9/x"), replace("/l/0", 2), add("/l/1", 3)]
+    ),
+    "escaped names above an item that shifts": shifting(
+        ESCAPED, [remove("/a~1b~0c/9/x~1~0y"), add("/a~1b~0c/0", 1)]
+    ),
+    "a member of an escaped name moved before its item": shifting(
+        ESCAPED, [move("/a~1b~0c/9/x~1~0y", "/a~1b~0c/0"), test("/a~1b~0c/10", {"z": 6})]
+    ),
+    "an escaped name below an item that shifts": shifting(
+        behind(9, {"m~/n": {"~": 1, "/": 2}}),
+        [remove("/9/m~0~1n/~0"), move("/9/m~0~1n/~1", "/0"), add("/10/m~0~1n/~1", 3)],
+    ),
+    "twenty operations over one array": shifting(
+        {"l": [{"x": number} for number in range(10)]},
+        [it for number in range(10) for it in (remove(f"/l/{2 * number}/x"), add("/l/0", number))],
+    ),
+    "twenty moves over one array": shifting(
+        [{"x": number, "y": 0} for number in range(20)], [move(f"/{2 * number}/x", "/0") for number in range(20)]
+    ),
+    "twenty operations over one array, and a failed test": shifting(
+        {"l": [{"x": number} for number in range(10)]},
+        [it for number in range(10) for it in (remove(f"/l/{2 * number}/x"), add("/l/0", number))],
+        test("/l/19", {"x": 9}),
+        "value did not match",
+    ),
+}
+
+# More than a thousand changes, with an item that shifts on. Past that number json_patch's log doesn't
+# follow where it went (MOST_FOLLOWED in its module `log`).
+MANY = [remove("/9/x"), add("/0", 1), *[add("/0", 2), remove("/0")] * 500]
+LONG = {
+    "more than a thousand changes": shifting(behind(9, KEPT), MANY),
+    "more than a thousand changes, and a failed test": shifting(
+        behind(9, KEPT), MANY, test("/10", KEPT), "value did not match"
+    ),
+}
+
 # A depth, a document, and commands, each with its answer and the document, the number of undos and
 # the number of redos that it leaves.
 OVER = {"a": {"b": 1, "c": 2}}
@@ -300,6 +421,22 @@ EDITS = {
     ]),
 }
 
+
+
+def edited(run):
+    """A change, taken back and made again."""
+    first, last = json.loads(run.states[0]), json.loads(run.states[-1])
+    if run.refusal:
+        return 65536, first, [(run.operations, run.refusal, first, 0, 0)]
+    return 65536, first, [
+        (run.operations, "true", last, 1, 0),
+        ("undo", "true", first, 0, 1),
+        ("redo", "true", last, 1, 0),
+    ]
+
+
+EDITS.update((name, edited(run)) for name, run in {**TAKEN, **SHIFTED}.items())
+
 MERGES = {
     "an article": (ARTICLE, ARTICLE_MERGE, ARTICLE_MERGED),
     "a null in an object": ({}, {"a": {"b": None}}, {"a": {}}),
@@ -332,34 +469,22 @@ def pointer_calls():
         )
 
 
-# Lists at whose end marks may be left that don't stand where their values were taken from: they are
-# followed, and where memory for that is short a walk finds them. So a refused request may be answered
-# as if it hadn't been refused.
-FOLLOWED = {
-    "a member moved before its parent",
-    "a member removed inside what is moved",
-    "an item removed inside items that are copied and moved",
-    "escaped names",
-}
-
-
 def run_calls():
-    """`patch` and `apply_patches` leave the document as it was; `patch_unsafe` leaves a state."""
-    for name, run in {**RUNS, **TAKEN}.items():
+    """`patch` and `apply_patches` leave the document as it was; `patch_unsafe` leaves what some prefix
+    of the list gave."""
+    for name, run in {**RUNS, **TAKEN, **SHIFTED, **LONG}.items():
         first, last = run.states[0], run.states[-1]
         if run.refusal:
             patched = recorded = left(run.refusal, first)
         else:
             patched, recorded = left("done", last), left(printed_patch(run.inverse), last)
         unchanged = [left(MEMORY, first)]
-        followed = name in FOLLOWED
-        yield Call(f"patch: {name}", run.arguments("patch"), patched, unchanged + [patched] * followed)
-        arguments = run.arguments("apply_patches")
-        yield Call(f"apply_patches: {name}", arguments, recorded, unchanged + [recorded] * followed)
-    for name, run in {**RUNS, **TAKEN, **IN_PLACE}.items():
+        yield Call(f"patch: {name}", run.arguments("patch"), patched, unchanged)
+        yield Call(f"apply_patches: {name}", run.arguments("apply_patches"), recorded, unchanged)
+    for name, run in {**RUNS, **TAKEN, **IN_PLACE, **SHIFTED, **LONG}.items():
         answer = left(run.refusal or "done", run.states[-1])
-        short = [left(MEMORY, state) for state in run.states] + [answer] * (name in FOLLOWED)
-        yield Call(f"patch_unsafe: {name}", run.arguments("patch_unsafe"), answer, short)
+        prefixes = [left(MEMORY, state) for state in run.states]
+        yield Call(f"patch_unsafe: {name}", run.arguments("patch_unsafe"), answer, prefixes)
 
 
 def named_calls():
@@ -429,6 +554,9 @@ def editor_calls():
             line = f"editor {call}: {name}"
             yield editor_call(line, depth, document, commands, answer, before, after)
             before = after
+    for name, run in LONG.items():
+        _, document, [(operations, answer, *after)] = (*edited(run)[:2], edited(run)[2][:1])
+        yield editor_call(f"editor apply: {name}", 1, document, [operations], answer, (document, 0, 0), after)
     # As many changes as the deepest history keeps, given by their number.
     full = (0, 65536, 0)
     for line, changes, answer in (
@@ -472,7 +600,13 @@ def vector_calls():
         answer = left(indented(document), text)
         yield Call("pretty", ["pretty", text], answer, [left(MEMORY, text)])
         yield text_call("a document", "document_from_str", document, text)
-    # What says no document or no patch is no answer either where memory is short.
+    for name, run in {**TAKEN, **SHIFTED}.items():
+        told = printed_patch(run.operations)
+        yield from kind_calls(name, "patch", run.operations, run.operations, told)
+        yield text_call(name, "patch_from_str", run.operations, told)
+        document = json.loads(run.states[0])
+        yield text_call("a document", "document_from_str", document, run.states[0])
+    # What says no document or no patch is no answer either out of memory.
     for call, text, why in (
         ("document_from_str", '{"a":[1,2', "text is not JSON: EOF while parsing at line 1 column 9"),
         ("document_from_str", '{"a":["text",1.5]}', "document holds a number that is not whole"),
@@ -523,6 +657,27 @@ def tool_runs():
         ("a fraction", "edit", [1.5, []], 2, "a number is not whole"),
     ):
         yield ToolRun(f"json_patch_tool {mode}: {name}", mode, compact(pair), status, "", fault)
+    yield from tool_patches()
+    for name, (document, changes, merged) in MERGES.items():
+        yield written("merge", name, [document, changes], compact(merged))
+
+
+def written(mode, name, pair, line):
+    return ToolRun(f"json_patch_tool {mode}: {name}", mode, compact(pair), 0, line + "\n", "")
+
+
+def tool_patches():
+    """Lists of operations in the modes that take one."""
+    for name, run in {**RUNS, **TAKEN, **SHIFTED}.items():
+        document, last = json.loads(run.states[0]), run.states[-1]
+        pair, edits = [document, run.operations], [document, [run.operations, "undo", "redo"]]
+        if run.refusal:
+            for mode in ("patch", "record"):
+                yield ToolRun(f"json_patch_tool {mode}: {name}", mode, compact(pair), 1, "", run.refusal)
+            continue
+        yield written("patch", name, pair, last)
+        yield written("record", name, pair, f"[{last},{printed_patch(run.inverse)}]")
+        yield written("edit", name, edits, f"[{last},[true,true,true]]")
 
 
 def large_calls():

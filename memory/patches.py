@@ -26,6 +26,10 @@ def test(path, value):
     return {"op": "test", "path": path, "value": value}
 
 
+def pointer(tokens):
+    return "".join("/" + token.replace("~", "~0").replace("/", "~1") for token in tokens)
+
+
 def compact(value):
     """The compact text of a value, members in byte order of their names."""
     return json.dumps(value, separators=(",", ":"), sort_keys=True, ensure_ascii=False)

@@ -1,0 +1,57 @@
+/* Texts that are no document, and the kind that is told of each: a number past a float's range and
+   an unpaired surrogate are no JSON, and another number that is no whole one of 64 bits isn't
+   whole. */
+#define TEN_ZEROS "0000000000"
+#define HUNDRED_ZEROS                                                                              \
+    TEN_ZEROS TEN_ZEROS TEN_ZEROS TEN_ZEROS TEN_ZEROS TEN_ZEROS TEN_ZEROS TEN_ZEROS TEN_ZEROS      \
+        TEN_ZEROS
+/* 308 zeros: with 1 before them they are the largest power of ten in a float's range. */
+#define ZEROS HUNDRED_ZEROS HUNDRED_ZEROS HUNDRED_ZEROS "00000000"
+#define VALUE(text, kind) {text, sizeof(text) - 1, kind}
+
+static const struct {
+    const char *bytes;
+    size_t length;
+    json_patch_kind kind;
+} values[] = {
+    VALUE("1e400", JSON_PATCH_NOT_JSON),
+    VALUE("-1e400", JSON_PATCH_NOT_JSON),
+    VALUE("1" ZEROS "0", JSON_PATCH_NOT_JSON),
+    VALUE("-1" ZEROS "0", JSON_PATCH_NOT_JSON),
+    VALUE("1" ZEROS HUNDRED_ZEROS, JSON_PATCH_NOT_JSON),
+    VALUE("\"\\ud800\"", JSON_PATCH_NOT_JSON),
+    VALUE("\"\\udc00\\ud800\"", JSON_PATCH_NOT_JSON),
+    VALUE("\"\xed\xa0\x80\"", JSON_PATCH_NOT_JSON),
+    VALUE("\xef\xbb\xbf[]", JSON_PATCH_NOT_JSON),
+    VALUE("[\0]\0", JSON_PATCH_NOT_JSON),
+    VALUE("\0[\0]", JSON_PATCH_NOT_JSON),
+    VALUE("\xff\xfe[\0]\0", JSON_PATCH_NOT_JSON),
+    VALUE("1" ZEROS, JSON_PATCH_NOT_WHOLE),
+    VALUE("1e308", JSON_PATCH_NOT_WHOLE),
+    VALUE("1e-400", JSON_PATCH_NOT_WHOLE),
+    VALUE("-1e-400", JSON_PATCH_NOT_WHOLE),
+    VALUE("-0", JSON_PATCH_NOT_WHOLE),
+    VALUE("-0.0", JSON_PATCH_NOT_WHOLE),
+    VALUE("18446744073709551616", JSON_PATCH_NOT_WHOLE),
+};
+
+enum { VALUES = sizeof values / sizeof *values };
+
+/* The text of a patch that adds the value, for free. */
+static text adding(size_t value) {
+    static const char head[] = "[{\"op\":\"add\",\"path\":\"/a\",\"value\":", tail[] = "}]";
+    size_t before = sizeof head - 1, length = values[value].length;
+    text patch = {malloc(before + length + sizeof tail - 1), before + length + sizeof tail - 1};
+    if (!patch.bytes)
+        fail("no memory");
+    memcpy(patch.bytes, head, before);
+    memcpy(patch.bytes + before, values[value].bytes, length);
+    memcpy(patch.bytes + before + length, tail, sizeof tail - 1);
+    return patch;
+}
+
+/* What is told where it is the value of an operation. */
+static json_patch_kind kind_in_patch(size_t value) {
+    return values[value].kind == JSON_PATCH_NOT_WHOLE ? JSON_PATCH_VALUE_NOT_WHOLE
+                                                      : JSON_PATCH_NOT_JSON;
+}
