@@ -25,9 +25,13 @@ A large document that is changed again and again is kept by the library:
 
 Documents, and the values in a patch, hold whole numbers of 64 bits alone: 1.5, 1.0, 2**64 and nan
 are refused by NumberNotWhole. A document is what json.dumps writes of an object, and what comes back
-is what json.loads reads: new lists and dicts, the names in byte order, a key 1 as "1". What has an
-unpaired surrogate, holds itself, or nests deeper than 127 levels, is refused as no JSON: the `kind`
-is NotJson.
+is what json.loads reads: new lists and dicts, the names in byte order, a key 1 as "1".
+
+What is no UTF-8, no JSON (RFC 8259), nested deeper than 127 levels, or has a number or an escape that
+the reader of JSON refuses (a number past a float's range, such as 1e400 in a text, or 10**400, or an
+unpaired surrogate), is refused with the `kind` NotJson; and so is an object that holds itself. A
+Document and a JsonPatch are read from a text by one reader: a text with -0 isn't whole, and one in
+UTF-16, or with a byte order mark, is no JSON.
 
 A patch can nest a document deeper, by what it copies or moves: json.loads raises RecursionError past
 some 1,000 levels, and past some 9,000 the stack may end, and the process with it. So bound the length
@@ -76,7 +80,8 @@ class JsonPointerException(JsonPatchException):
 
 
 class NumberNotWhole(JsonPatchException, ValueError):
-    """A number has a fraction or an exponent, or is past 64 bits, or is nan or infinite."""
+    """A number has a fraction or an exponent, is minus zero, or past 64 bits (but for a whole one past
+    a float's range, which is no JSON), or is nan or infinite."""
 
 
 # jsonpatch raises one or the other by where on the way a pointer leads nowhere: both catch these.
@@ -149,6 +154,7 @@ def _library():
         "apply": [*text, *text, *text],
         "record": [*text, *text, *text],
         "merge": [*text, *text, *text],
+        "check": text,
         "open": [*handle, *text],
         "update": [*handle, *text, *text],
         "update_recorded": [*handle, *text, *text],
@@ -211,13 +217,14 @@ def _written(call, room, patch=None):
 
 def _text(value, told, no_text, not_whole):
     """The text of an object. Where json.dumps has none: what is told of it, and what is raised for
-    one that nests too deep or holds itself, and for a number."""
+    one that nests too deep or holds itself or a number of some thousand digits, and for nan and
+    infinity."""
     try:
         return json.dumps(value, separators=(",", ":"), allow_nan=False).encode()
     except (RecursionError, ValueError) as error:
-        if isinstance(error, RecursionError) or str(error).startswith("Circular"):
-            raise no_text(f"{told}: NotJson", kind="NotJson") from error
-        raise not_whole(f"{told}: NotWhole", kind="NotWhole") from error
+        if str(error).startswith("Out of range float"):
+            raise not_whole(f"{told}: NotWhole", kind="NotWhole") from error
+        raise no_text(f"{told}: NotJson", kind="NotJson") from error
 
 
 def _document_text(document):
@@ -234,7 +241,7 @@ def _merge_patch_text(patch):
 
 def _bytes(text):
     """Of a text with an unpaired surrogate they are no UTF-8, which the library refuses."""
-    return text if isinstance(text, bytes) else text.encode(errors="surrogatepass")
+    return text.encode(errors="surrogatepass") if isinstance(text, str) else bytes(memoryview(text))
 
 
 class JsonPatch:
@@ -257,18 +264,14 @@ class JsonPatch:
     @classmethod
     def from_string(cls, patch_str):
         """The patch that a JSON text says."""
-        try:
-            patch = json.loads(patch_str)
-        except (RecursionError, ValueError) as error:
-            # that is what a number of some thousand digits raises
-            if type(error) is ValueError:
-                raise _InvalidNumber("patch: NotWhole", kind="NotWhole") from error
-            raise _NoPatchText(f"patch: {error}", kind="NotJson") from error
-        return cls(patch)
+        text = _bytes(patch_str)
+        _expect_patch(text)
+        return cls._of_library(json.loads(text))
 
     @classmethod
     def _of_library(cls, operations):
-        """Of operations that the library wrote. They are a patch, and may nest deeper than it reads."""
+        """Of operations that the library wrote or read. They are a patch, and may nest deeper than it
+        reads."""
         made = cls.__new__(cls)
         made.patch = operations
         return made
@@ -311,18 +314,11 @@ class JsonPatch:
     __hash__ = None
 
 
-_REFUSED_AT_ONCE = b'[{"op":"remove","path":"/a"},'
-
-
 def _expect_patch(text):
-    """Raises why a text is no patch. It is read behind an operation that null refuses, so that none
-    of it is made."""
-    shift = 0 if text == b"[]" or text[:1] != b"[" else 1
-    read = _REFUSED_AT_ONCE + text[1:] if shift else text
+    """Raises why a text is no patch."""
     report = _Report()
-    status = _LIBRARY.json_patch_apply(b"null", 4, read, len(read), b"", 0, report)
-    if status in (_NO_PATCH, _NO_MEMORY):
-        report.operation -= shift
+    status = _LIBRARY.json_patch_check(text, len(text), report)
+    if status != _OK:
         raise _fault(status, report)
 
 
@@ -362,6 +358,17 @@ def merge_patch(doc, patch):
     return json.loads(_called(_LIBRARY.json_patch_merge, _document_text(doc), _merge_patch_text(patch)))
 
 
+class _Here(threading.local):
+    """What a thread is told by: `thread` is an object of its own. A thread's number is given to another
+    when it has ended, and no other object is this one while it is kept."""
+
+    def __init__(self):
+        self.thread = object()
+
+
+_HERE = _Here()
+
+
 class Document:
     """A document that the library keeps, so that a change takes the time that it wants, and not
     that of reading and writing the whole. It is a context manager, and closed at its end. It stays
@@ -392,11 +399,11 @@ class Document:
         status = _LIBRARY.json_patch_open(handle, text, len(text), report)
         if status != _OK:
             raise _fault(status, report)
-        self._opened, self._thread, self._is_open = handle, threading.get_ident(), True
+        self._opened, self._thread, self._is_open = handle, _HERE.thread, True
 
     @property
     def _handle(self):
-        if self._thread != threading.get_ident():
+        if self._thread is not _HERE.thread:
             raise RuntimeError("the document is kept on another thread")
         return self._opened
 
@@ -410,7 +417,7 @@ class Document:
         self._updated(_LIBRARY.json_patch_update, patch)
 
     def record(self, patch):
-        """The same, and answers the JsonPatch that leads back."""
+        """The same, and returns the JsonPatch that leads back."""
         self._updated(_LIBRARY.json_patch_update_recorded, patch)
         return JsonPatch._of_library(json.loads(self._read(_LIBRARY.json_patch_inverse)))
 
@@ -457,7 +464,7 @@ class Document:
     def __del__(self):
         if not getattr(self, "_is_open", False):
             return
-        if self._thread == threading.get_ident():
+        if self._thread is _HERE.thread:
             self.close()
         else:
             warnings.warn("a document wasn't closed on its thread", ResourceWarning, source=self)

@@ -20,7 +20,15 @@ CALLS = {"apply": apply_patch, "record": record_patch, "merge": merge_patch}
 OK, REFUSED = 0, 1
 
 
-NO_NUMBERS = (1.5, 1.0, 2**64, -(2**63) - 1, 10**5000, float("nan"), float("inf"))
+NOT_WHOLE = (1.5, 1.0, -0.0, 1e-400, 2**64, -(2**63) - 1, 10**308, float("nan"), float("inf"), -1e400)
+PAST_FLOATS = (10**309, 10**400, -(10**400), 10**5000)
+
+# Texts of values that aren't read, each with the kind of its refusal.
+NO_VALUES = [
+    ("1e400", "NotJson"), ("-1e400", "NotJson"), ("1" + "0" * 309, "NotJson"), ("1" + "0" * 400, "NotJson"),
+    ("1" + "0" * 5000, "NotJson"), ('"\\ud800"', "NotJson"), ("NaN", "NotJson"), ("\ufeff[]", "NotJson"),
+    ("1" + "0" * 308, "NotWhole"), ("1e-400", "NotWhole"), ("-0", "NotWhole"), ("-0.0", "NotWhole"),
+]
 
 
 def nested(levels):
@@ -42,7 +50,8 @@ def on_another_thread(call):
         try:
             told.append(call())
         except Exception as error:
-            told.append(error)
+            # without the frames, which hold what the call was made on
+            told.append(error.with_traceback(None))
 
     thread = threading.Thread(target=run)
     thread.start()
@@ -174,6 +183,16 @@ class Kept(unittest.TestCase):
                 self.assertIsInstance(on_another_thread(call), RuntimeError)
             self.assertEqual(kept.get(), [])
 
+    def test_owner_that_has_ended(self):
+        for _ in range(100):
+            # A thread that starts after this one can have its number.
+            kept, lost = on_another_thread(lambda: (Document([]), [Document([])]))
+            self.assertIsInstance(on_another_thread(kept.get), RuntimeError)
+            with self.assertWarns(ResourceWarning):
+                on_another_thread(lost.clear)
+            with self.assertWarns(ResourceWarning):
+                del kept
+
     def test_lost_on_another_thread(self):
         made = [Document([])]
         with self.assertWarns(ResourceWarning):
@@ -209,6 +228,51 @@ class Kept(unittest.TestCase):
                     kept.apply(patch)
             with self.assertRaises(NumberNotWhole):
                 kept.merge(1.5)
+
+
+class Texts(unittest.TestCase):
+    """What a text is refused for, wherever it is handed in."""
+
+    def assertToldBy(self, calls, kind):
+        for call in calls:
+            with self.assertRaises(JsonPatchException) as caught:
+                call()
+            self.assertEqual(caught.exception.kind, kind)
+            self.assertEqual(isinstance(caught.exception, NumberNotWhole), kind != "NotJson")
+
+    def readers_of_patch(self, kept, text):
+        return lambda: kept.apply(text), lambda: apply_patch({}, text), lambda: JsonPatch.from_string(text)
+
+    def test_values(self):
+        with Document({}) as kept:
+            for value, kind in NO_VALUES:
+                with self.subTest(value=value[:9]):
+                    patch = '[{"op":"add","path":"/a","value":%s}]' % value
+                    self.assertToldBy([lambda: Document.from_string(value)], kind)
+                    in_patch = "ValueNotWhole" if kind == "NotWhole" else kind
+                    self.assertToldBy(self.readers_of_patch(kept, patch), in_patch)
+            self.assertEqual(kept.get(), {})
+
+    def test_encodings(self):
+        with Document({}) as kept:
+            encoded = ["[]".encode(name) for name in ("utf-8-sig", "utf-16", "utf-16-le", "utf-16-be", "utf-32")]
+            for text in ("\ufeff[]", *encoded):
+                with self.subTest(text=text):
+                    self.assertToldBy([lambda: Document.from_string(text), *self.readers_of_patch(kept, text)], "NotJson")
+
+    def test_spaces(self):
+        for text in ("[]", " []", "[ ]", "\t[\n]\r", ' [ {"op":"test","path":"","value":{}} ] '):
+            self.assertEqual(apply_patch({}, text), {})
+        for text in ("[ ] ]", " [,]", " [ ", "[[]", ' [ {"op":"test","path":"","value":{}} , ] '):
+            with self.assertRaises(InvalidJsonPatch):
+                JsonPatch.from_string(text)
+        with self.assertRaises(InvalidJsonPatch) as caught:
+            JsonPatch.from_string(' [ {"op":"remove","path":""} , 7 ] ')
+        self.assertEqual((caught.exception.operation, caught.exception.kind), (1, "NotAnObject"))
+
+    def test_members_that_are_not_read(self):
+        patch = JsonPatch.from_string('[{"op":"test","path":"","value":{},"x":[1.5,-0]}]')
+        self.assertEqual(patch.apply({}), {})
 
 
 class Interface(unittest.TestCase):
@@ -269,15 +333,14 @@ class Interface(unittest.TestCase):
                 JsonPatch.from_string(text)
             self.assertIsInstance(caught.exception, ValueError)
             self.assertEqual(caught.exception.kind, "NotJson")
-        with self.assertRaises(NumberNotWhole):
-            JsonPatch.from_string('[{"op":"add","path":"","value":1' + "0" * 5000 + "}]")
-        for value in ("\ud800", nested(128), holding_itself()):
+        for value in ("\ud800", nested(128), holding_itself(), *PAST_FLOATS):
             patch = [{"op": "add", "path": "", "value": value}]
             self.assertRefused([InvalidJsonPatch], {}, patch)
             for call in (lambda: apply_patch(value, []), lambda: merge_patch({}, value), lambda: Document(value)):
                 with self.assertRaises(JsonPatchException) as caught:
                     call()
                 self.assertEqual(caught.exception.kind, "NotJson")
+                self.assertNotIsInstance(caught.exception, NumberNotWhole)
         self.assertEqual(apply_patch(nested(127), []), nested(127))
 
     def test_a_patch_is_made_by_apply_alone(self):
@@ -297,7 +360,7 @@ class Interface(unittest.TestCase):
         self.assertEqual((made, list(inverse)), (1, [{"op": "replace", "path": "", "value": document}]))
 
     def test_numbers(self):
-        for number in NO_NUMBERS:
+        for number in NOT_WHOLE:
             self.assertRefused([NumberNotWhole, ValueError], number, [])
             patch = [{"op": "add", "path": "/a", "value": number}]
             self.assertRefused([NumberNotWhole, InvalidJsonPatch], {}, patch)
