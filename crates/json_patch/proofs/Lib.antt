@@ -1,5 +1,6 @@
 pub mod Common
 pub mod ProgramRuns
+pub mod LimitedStates
 pub mod Undos
 pub mod MarkedUnseen
 pub mod MarkedEdits

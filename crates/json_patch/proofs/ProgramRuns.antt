@@ -1,15 +1,16 @@
 -- A run over a list of operations of the program, one step at a time.
-use Rattle.json_patch.proofs.Common.{◌≡◌, ◌+◌, ◌<◌, ◌≤◌, ℕ, zero, suc, ◌*◌, List, [], ◌∷◌, ◌++◌, length, take}
+use Rattle.json_patch.proofs.Common.{◌≡◌, ◌+◌, ◌<◌, ℕ, zero, suc, List, [], ◌∷◌, ◌++◌, length, take}
 use Rattle.json_patch.proofs.Common.{Some, option_map, Result, Ok, Err, refl, sym, ap, ◌∙◌, subst, add-one, arith}
 use Rattle.json_patch.proofs.Common.{rules, Data, ComesTo, IsDocument, block, inverse, Operation, AreWhole, IsWholeOp}
-use Rattle.json_patch.proofs.Common.{operation_of, operations, path_of, Accepts, RefusesAt, IsAccepted, after_step}
+use Rattle.json_patch.proofs.Common.{operation_of, operations, path_of, Accepts, RefusesAt, after_step}
 use Rattle.json_patch.proofs.Common.{Leaves, Refuses, PatchErrorKind, PatchOperation, StepFault, slice_get}
-use Rattle.json_patch.proofs.Common.{TakeNoMemory, TakesNoMemory, AreTestsThenRemove, NeverShort, ArePlain, IsInverse}
+use Rattle.json_patch.proofs.Common.{TakeNoMemory, TakesNoMemory, AreTestsThenRemove, NeverShort}
 use Rattle.json_patch.specs.Faulting.{Reports}
 use Rattle.json_patch.specs.Refusal.{NamesFirst, IfRefused}
 use Rattle.json_patch_operation.specs.declared.error.PatchFault.{PatchFault}
 use Rattle.json_patch_edit.specs.declared.error.StepFault.TheVariants.{Refused as step_refused, Memory as step_short}
 use Rattle.json_patch.specs.Logged.{IsFree, IsTest}
+use Rattle.json_patch.specs.Recorded.{Records}
 use Rattle.json_patch.specs.declared.log.Keep.{Keep}
 use Rattle.json_patch.specs.declared.log.Keep.TheVariants.{Neither}
 use Rattle.json_patch_edit.proofs.StepOutcomes.{leaves_document, stepped_leaves, stepped_refuses}
@@ -60,7 +61,7 @@ pub path_at : (os : List PatchOperation) (k : ℕ) (o : PatchOperation) → k < 
 path_at (x ∷ os) (suc k) o less is = path_at os k o (omega arith) is
 path_at os k o less is = search rules
 
-refused_with : (fault : StepFault) (wanted : Result Data PatchErrorKind) (new : Data) (kind : PatchErrorKind) → fault ≡ step_refused kind → ComesTo {T = Unit {0}} (Err fault) wanted new → wanted ≡ Err kind
+pub refused_with : (fault : StepFault) (wanted : Result Data PatchErrorKind) (new : Data) (kind : PatchErrorKind) → fault ≡ step_refused kind → ComesTo {T = Unit {0}} (Err fault) wanted new → wanted ≡ Err kind
 refused_with fault wanted new kind is h = subst (λ f. ComesTo {T = Unit {0}} (Err f) wanted new) is h
 
 -- the fault of a run names what the step refused
@@ -90,13 +91,6 @@ inverse_more d m e os k o hd hv less is h s =
     ap (λ B. B ++ inverse d (take k (operations os))) (sym (block_after m (operation_of o) e s))
     ∙ sym (inverse_joined d (take k (operations os)) (operation_of o ∷ []) m hd (take_whole os k hv) h)
     ∙ sym (ap (inverse d) (ap (λ n. take n (operations os)) (add-one k) ∙ take_at os k o less is))
-
-pub record Records (d e : Data) (ops undo : List Operation) : Type 0 where
-  pub inverse : IsInverse d ops undo
-  pub leads_back : IsAccepted e undo d
-  pub plain : ArePlain e undo
-  pub short : length undo ≤ 2 * length ops
-  pub whole : AreWhole undo
 
 pub recorded_all : (d e : Data) (os undo : List PatchOperation) → IsDocument d → AreWhole (operations os) → Accepts d (operations os) e → operations undo ≡ inverse d (operations os) → Records d e (operations os) (operations undo)
 recorded_all d e os undo hd hv end same =

@@ -9,6 +9,7 @@ pub use Rattle.json_patch_operation.specs.PartsView
 pub use Rattle.json_patch_edit.specs.Step
 pub use Rattle.json_patch_laws.specs.Run
 pub mod Refusal
+pub mod Recorded
 pub mod RefusalLaws
 pub use Rattle.json_patch_laws.specs.Inverse
 pub use Rattle.json_patch_merge.specs.Merged
@@ -35,6 +36,8 @@ pub use Rattle.json_patch_merge.specs.Filled
 pub use Rattle.json_patch_apart.specs.Apart
 pub use Rattle.json_patch_edit.specs.Exchange
 pub use Rattle.json_patch_edit.specs.SeenEdits
+pub use Rattle.json_patch_limits.specs.OverLimits
+pub use Rattle.json_patch_limits.specs.OverLimitsComputed
 pub mod Logged
 pub use Rattle.json_patch_apart.specs.Footprints
 pub use Rattle.json_patch_apart.specs.Filters
@@ -53,3 +56,7 @@ pub use Rattle.json_patch_operation.specs.declared.error.ReadKind
 pub use Rattle.json_patch_operation.specs.declared.error.ReadError
 pub use Rattle.json_patch_operation.specs.declared.error.ReadFault
 pub use Rattle.json_patch_operation.specs.declared.error.Fault
+pub use Rattle.json_patch_limits.specs.declared.limits.Limits
+pub use Rattle.json_patch_limits.specs.declared.limits.LimitKind
+pub use Rattle.json_patch_limits.specs.declared.limits.LimitError
+pub use Rattle.json_patch_limits.specs.declared.limits.LimitFault

@@ -17,6 +17,8 @@ pub use json_patch_apart::are_apart;
 pub use json_patch_document::{is_whole, same};
 pub use json_patch_edit::walk::lookup;
 pub use json_patch_laws::laws;
+pub use json_patch_limits::limits::{LimitError, LimitFault, LimitKind, Limits};
+pub use json_patch_limits::measure::is_shallow;
 pub use json_patch_merge::merge;
 pub use json_patch_operation::{
     AddOperation, CopyOperation, Fault, MoveOperation, Patch, PatchError, PatchErrorKind,
@@ -24,4 +26,4 @@ pub use json_patch_operation::{
     TestOperation, document_from_str, pretty,
 };
 pub use jsonptr;
-pub use run::{apply_patches, patch, patch_unsafe};
+pub use run::{apply_patches, apply_patches_within, patch, patch_unsafe, patch_within};

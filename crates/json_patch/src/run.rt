@@ -1,16 +1,19 @@
 //! A list of operations on a document (RFC 6902, section 5).
 
-ghost use Rattle.std.specs.Prelude.{◌≡◌, ◌≤◌, ◌*◌, [], ℕ, IfOk, IsOk, OnOk, OnErr, length, take};
-ghost use Rattle.serde_json.specs.Data.{Data};
+ghost use Rattle.std.specs.Prelude.{◌≡◌, ◌≤◌, ◌*◌, ◌+◌, [], ℕ, IfOk, IsOk, None, OnOk, OnErr, Some, length, take};
+ghost use Rattle.serde_json.specs.Data.{Data, depth};
 ghost use Rattle.serde_json.specs.View.{view};
 ghost use Rattle.json_patch_edit.specs.Attempt.{ComesTo};
 ghost use Rattle.json_patch_document.specs.Document.{IsDocument};
 ghost use Rattle.json_patch.specs.Faulting.{Reports};
 ghost use Rattle.json_patch_laws.specs.Inverse.{ArePlain, IsInverse};
 ghost use Rattle.json_patch_edit.specs.InverseComputed.{inverse};
+ghost use Rattle.json_patch_limits.specs.OverLimits.{AreShallow, IfOver, IfRefusedUnder, IfUnder, IsNeverOver, IsOverAt, own_sizes, size};
+ghost use Rattle.json_patch_limits.specs.OverLimitsComputed.{over_at, over_under};
 ghost use Rattle.json_patch.specs.Logged.{IsFree, takes};
 ghost use Rattle.json_patch_edit.specs.NoMemory.{AreTestsThenRemove, NeverShort, TakeNoMemory};
 ghost use Rattle.json_patch_operation.specs.Operation.{AreWhole, IsWholeOp, operation_of, operations, operations_of, path_of};
+ghost use Rattle.json_patch.specs.Recorded.{Records};
 ghost use Rattle.json_patch.specs.Refusal.{IfRefused, NamesFirst, IfShort};
 ghost use Rattle.json_patch_laws.specs.Run.{Accepts, IsAccepted};
 ghost use Rattle.json_patch_edit.specs.RunComputed.{after_step};
@@ -18,6 +21,8 @@ ghost use Rattle.json_patch.specs.declared.log.Keep.TheVariants.{Inverse, Neithe
 
 use crate::log::{Keep, Log, clear_marks, inverse_of, undo_all, undo_room};
 use json_patch_edit::error::StepFault;
+use json_patch_limits::charge::charge;
+use json_patch_limits::limits::{LimitError, LimitFault, Limits};
 use json_patch_operation::{Patch, PatchError, PatchFault, PatchOperation};
 use serde_json::Value;
 use std::alloc::{AllocError, Global};
@@ -50,7 +55,54 @@ pub fn patch(alloc: Global, doc: &mut Value, patch: &[PatchOperation]) -> Result
     ensures no_memory { AreTestsThenRemove (operations patch.now)
         → (e : Data) → Accepts (view doc.old) (operations patch.now) e → IsOk result }
 {
-    drop(run(alloc, doc, patch, Keep::Undo)?);
+    match run(alloc, doc, patch, Keep::Undo, None) {
+        Ok(_undo) => Ok(()),
+        Err(LimitFault::Patch(fault)) => Err(fault),
+        Err(LimitFault::Over(_)) => unreachable!(),
+    }
+}
+
+/// Applies the operations as [`patch`] does, but none that is over the limits: that puts a value
+/// deeper than `limits.depth` levels, or that copies, with the `copy`s before it, more than
+/// `limits.copied`. Where one comes to be over, that is returned, and the document is left as it
+/// was. Whether one is over is known before it is made, and without a walk through the document. An
+/// operation that is over and would be refused is over.
+///
+/// A stranger's patch can nest a document as deep as memory allows, by a `copy` of it into itself
+/// again and again, and can double its size with each operation. Within limits a document of at most
+/// `limits.depth` levels never has more, and grows by no more than what the operations hold and
+/// `limits.copied`; so no call on it recurses deeper.
+///
+/// ```rust
+/// let limits = Limits { depth: 127, copied: 1_000_000 };
+/// match patch_within(alloc, document, changes.as_slice(), limits) {
+///     Ok(()) => String::from_str(alloc, "accepted"),
+///     // operation '/3' is over the limits: value would reach too deep
+///     Err(LimitFault::Over(error)) => format!(in alloc; "{error}"),
+///     Err(LimitFault::Patch(fault)) => format!(in alloc; "{fault}"),
+/// }
+/// ```
+#[tactic(auto, using(json_patch_laws::proofs::Runs::accepts_document, json_patch_laws::proofs::LimitedRuns::answered_over, json_patch_laws::proofs::LimitedRuns::answered_never, json_patch_laws::proofs::LimitedRuns::answered_depth, json_patch_laws::proofs::LimitedRuns::answered_size))]
+pub fn patch_within(
+    alloc: Global,
+    doc: &mut Value,
+    patch: &[PatchOperation],
+    limits: Limits,
+) -> Result<(), LimitFault>
+    requires document { IsDocument (view doc.old) }
+    requires whole { AreWhole (operations patch.now) }
+    ensures accepted { OnOk result (Accepts (view doc.old) (operations patch.now) (view doc.new)) }
+    ensures refused { IfRefusedUnder result (NamesFirst (view doc.old) (operations patch.now)) }
+    ensures over { IfOver result
+        (λ e. IsOverAt limits (view doc.old) (operations patch.now) e.operation e.kind) }
+    ensures never { IfUnder result (IsNeverOver limits (view doc.old) (operations patch.now)) }
+    ensures shallow { depth (view doc.old) ≤ limits.depth → depth (view doc.new) ≤ limits.depth }
+    ensures small { OnOk result (size (view doc.new) ≤ size (view doc.old)
+        + (own_sizes (operations patch.now) + limits.copied)) }
+    ensures unchanged { OnErr result (view doc.new ≡ view doc.old) }
+    ensures document { IsDocument (view doc.new) }
+{
+    drop(run(alloc, doc, patch, Keep::Undo, Some(limits))?);
     Ok(())
 }
 
@@ -126,35 +178,124 @@ pub fn apply_patches(
     ensures unchanged { OnErr result (view doc.new ≡ view doc.old) }
     ensures document { IsDocument (view doc.new) }
 {
-    Ok(Patch(run(alloc, doc, patches, Keep::Inverse)?))
+    match recorded(alloc, doc, patches, None) {
+        Ok(undo) => Ok(undo),
+        Err(LimitFault::Patch(fault)) => Err(fault),
+        Err(LimitFault::Over(_)) => unreachable!(),
+    }
 }
 
-/// Makes the operations, or none of them, and returns the inverse, where that is kept.
+/// Applies the operations within the limits, as [`patch_within`] does, and returns the patch that
+/// undoes them, as [`apply_patches`] does.
+///
+/// ```rust
+/// let limits = Limits { depth: 127, copied: 1_000_000 };
+/// let undo = apply_patches_within(alloc, document, changes.as_slice(), limits)?;
+/// patch(alloc, document, undo.as_slice())?;
+/// ```
+#[tactic(auto, using(json_patch_laws::proofs::LimitedRuns::answered_over, json_patch_laws::proofs::LimitedRuns::answered_never, json_patch_laws::proofs::LimitedRuns::answered_depth, json_patch_laws::proofs::LimitedRuns::answered_size, json_patch_laws::proofs::InverseDepths::inverse_shallow, json_patch_laws::proofs::LimitedRuns::never_none))]
+pub fn apply_patches_within(
+    alloc: Global,
+    doc: &mut Value,
+    patches: &[PatchOperation],
+    limits: Limits,
+) -> Result<Patch, LimitFault>
+    requires document { IsDocument (view doc.old) }
+    requires whole { AreWhole (operations patches.now) }
+    ensures accepted { OnOk result (Accepts (view doc.old) (operations patches.now) (view doc.new)) }
+    ensures inverse { IfOk result
+        (λ undo. IsInverse (view doc.old) (operations patches.now) (operations_of undo)) }
+    ensures leads_back { IfOk result
+        (λ undo. IsAccepted (view doc.new) (operations_of undo) (view doc.old)) }
+    ensures plain { IfOk result (λ undo. ArePlain (view doc.new) (operations_of undo)) }
+    ensures short { IfOk result
+        (λ undo. length (operations_of undo) ≤ 2 * length (operations patches.now)) }
+    ensures undo_whole { IfOk result (λ undo. AreWhole (operations_of undo)) }
+    ensures undo_shallow { depth (view doc.old) ≤ limits.depth
+        → IfOk result (λ undo. AreShallow limits.depth (operations_of undo)) }
+    ensures refused { IfRefusedUnder result (NamesFirst (view doc.old) (operations patches.now)) }
+    ensures over { IfOver result
+        (λ e. IsOverAt limits (view doc.old) (operations patches.now) e.operation e.kind) }
+    ensures never { IfUnder result (IsNeverOver limits (view doc.old) (operations patches.now)) }
+    ensures shallow { depth (view doc.old) ≤ limits.depth → depth (view doc.new) ≤ limits.depth }
+    ensures small { OnOk result (size (view doc.new) ≤ size (view doc.old)
+        + (own_sizes (operations patches.now) + limits.copied)) }
+    ensures unchanged { OnErr result (view doc.new ≡ view doc.old) }
+    ensures document { IsDocument (view doc.new) }
+{
+    match recorded(alloc, doc, patches, Some(limits)) {
+        Ok(undo) => Ok(undo),
+        Err(fault) => Err(fault),
+    }
+}
+
+/// Makes the operations, or none of them, and returns the patch that undoes them.
+#[tactic(auto, using(json_patch_laws::proofs::Runs::accepts_document))]
+fn recorded(
+    alloc: Global,
+    doc: &mut Value,
+    patches: &[PatchOperation],
+    limits: Option<Limits>,
+) -> Result<Patch, LimitFault>
+    requires document { IsDocument (view doc.old) }
+    requires whole { AreWhole (operations patches.now) }
+    ensures accepted { OnOk result (Accepts (view doc.old) (operations patches.now) (view doc.new)) }
+    ensures records { IfOk result
+        (λ undo. Records (view doc.old) (view doc.new) (operations patches.now) (operations_of undo)) }
+    ensures refused { IfRefusedUnder result (NamesFirst (view doc.old) (operations patches.now)) }
+    ensures over { IfOver result (λ e. over_under limits (view doc.old) (operations patches.now)
+        ≡ Some (over_at e.operation e.kind)) }
+    ensures never { IfUnder result (over_under limits (view doc.old) (operations patches.now) ≡ None) }
+    ensures unchanged { OnErr result (view doc.new ≡ view doc.old) }
+    ensures document { IsDocument (view doc.new) }
+{
+    match run(alloc, doc, patches, Keep::Inverse, limits) {
+        Ok(undo) => Ok(Patch(undo)),
+        Err(fault) => Err(fault),
+    }
+}
+
+/// Makes the operations within the limits, if there are any, or none of them, and returns the
+/// inverse, where that is kept.
 fn run(
     alloc: Global,
     doc: &mut Value,
     patch: &[PatchOperation],
     keep: Keep,
-) -> Result<Vec<PatchOperation>, PatchFault>
+    mut limits: Option<Limits>,
+) -> Result<Vec<PatchOperation>, LimitFault>
     requires document { IsDocument (view doc.old) }
     requires whole { AreWhole (operations patch.now) }
     requires kept { keep ≡ Neither → ⊥ }
     ensures accepted { OnOk result (Accepts (view doc.old) (operations patch.now) (view doc.new)) }
     ensures inverse { IfOk result (λ undo. keep ≡ Inverse
         → operations undo.items ≡ inverse (view doc.old) (operations patch.now)) }
-    ensures refused { IfRefused result (NamesFirst (view doc.old) (operations patch.now)) }
+    ensures refused { IfRefusedUnder result (NamesFirst (view doc.old) (operations patch.now)) }
     ensures unchanged { OnErr result (view doc.new ≡ view doc.old) }
-    ensures no_memory { keep ≡ Undo → AreTestsThenRemove (operations patch.now)
+    ensures over { IfOver result (λ e. over_under limits (view doc.old) (operations patch.now)
+        ≡ Some (over_at e.operation e.kind)) }
+    ensures never { IfUnder result (over_under limits (view doc.old) (operations patch.now) ≡ None) }
+    ensures no_memory { keep ≡ Undo → limits ≡ None → AreTestsThenRemove (operations patch.now)
         → (e : Data) → Accepts (view doc.old) (operations patch.now) e → IsOk result }
 {
     let undo = undo_room(alloc, keep, patch.len())?;
     let mut log = Log::new(alloc);
     for number in 0..patch.len() {
         let operation = &patch[number];
+        limits = match charge(limits, doc, operation) {
+            Ok(left) => left,
+            Err(kind) => {
+                undo_all(doc, log);
+                return Err(LimitFault::Over(LimitError {
+                    operation: number,
+                    kind,
+                }));
+            }
+        };
         let kept = keep.at(number + 1 == patch.len(), log.changes.is_empty());
         if let Err(fault) = log.step(doc, operation, kept) {
             undo_all(doc, log);
-            return Err(reported(alloc, number, operation, fault));
+            return Err(LimitFault::Patch(reported(alloc, number, operation, fault)));
         }
     }
     let Log { mut names, changes } = log;

@@ -39,3 +39,10 @@ pub use Rattle.json_patch_laws.specs.Inverse.{ArePlain, IsBlock, IsInverse, IsPl
 pub use Rattle.json_patch_laws.specs.Run.{Accepts, RefusesAt, IsAccepted, IsRefused, Ends, AreTests}
 pub use Rattle.json_patch_laws.specs.SharedComputed.{IsLongest, common_prefix, all_pointers, parents_of, shared_of}
 pub use Rattle.json_patch_laws.specs.SharedComputed.{shared_tokens}
+pub use Rattle.std.proofs.Common.{take, unwrap_or, ◌-◌, ◌≢◌, ◌⊎◌}
+pub use Rattle.std.proofs.lemmas.Bool.Decides.{nat_tests}
+pub use Rattle.std.proofs.lemmas.List.{take_all}
+pub use Rattle.serde_json.specs.Data.{Members, member, no_members, put}
+pub use Rattle.serde_json.specs.Find.{get_member}
+pub use Rattle.json_patch_merge.specs.Merged.{IsMerged}
+pub use Rattle.json_patch_merge.specs.MergedComputed.{after_merge, members_after_merge, members_of}

@@ -6,7 +6,10 @@ pub mod ApartUndos
 pub mod Blocks
 pub mod Common
 pub mod Equality
+pub mod InverseDepths
+pub mod LimitedRuns
 pub mod Locality
+pub mod MergeDepths
 pub mod Parents
 pub mod Plain
 pub mod Runs

@@ -2,8 +2,8 @@
 //! are for proofs to cite, and never called by a program.
 
 ghost use Rattle.std.specs.Prelude.{◌≡◌, ◌↔◌, ◌+◌, ◌++◌, ℕ, List, Ok, Err, length, Some, ◌∷◌, [], ◌≤◌, ◌*◌, ◌⊎◌};
-ghost use Rattle.std.specs.Prelude.{Option, ◌≢◌, false};
-ghost use Rattle.serde_json.specs.Data.{Data, Members, object};
+ghost use Rattle.std.specs.Prelude.{◌<◌, Option, ◌≢◌, false, take};
+ghost use Rattle.serde_json.specs.Data.{Data, Members, depth, object};
 ghost use Rattle.serde_json.specs.Find.{get_member, get};
 ghost use Rattle.serde_json.specs.Written.{has_float};
 ghost use Rattle.jsonptr.specs.Text.{Pointer};
@@ -13,6 +13,9 @@ ghost use Rattle.json_patch_document.specs.ChangeComputed.{after_add, after_remo
 ghost use Rattle.json_patch_document.specs.Document.{IsDocument, Segment, look, sight_of, value_at};
 ghost use Rattle.json_patch_laws.specs.Inverse.{IsInverse, ArePlain, IsBlock};
 ghost use Rattle.json_patch_edit.specs.InverseComputed.{block, inverse};
+ghost use Rattle.json_patch_limits.specs.OverLimits.{AreShallow, IsNeverOver, IsOverFirst, copied_by, own_size, own_sizes, reach_of, size};
+ghost use Rattle.json_patch_limits.specs.declared.limits.LimitKind.{LimitKind};
+ghost use Rattle.json_patch_limits.specs.declared.limits.Limits.{Limits};
 ghost use Rattle.json_patch_merge.specs.Merged.{IsMerged};
 ghost use Rattle.json_patch_merge.specs.MergedComputed.{after_merge};
 ghost use Rattle.json_patch_operation.specs.Operation.{AreWhole, IsWholeOp, Operation, operations, operations_of, path_of};
@@ -80,6 +83,56 @@ pub fn runs()
     // A list of tests ends where it began.
     ensures tests_change_nothing { (d : Data) (ops : List Operation) (e : Data)
         → AreTests ops → Accepts d ops e → e ≡ d }
+{}
+
+/// Operations within limits.
+pub fn limits()
+    // An operation leaves no document deeper than both the one that it is made on and the value that
+    // it puts reaches.
+    ensures step_depth { (d : Data) (op : Operation) (e : Data) (b : ℕ) → IsDocument d → IsWholeOp op
+        → Leaves d op e → depth d ≤ b → reach_of d op ≤ b → depth e ≤ b }
+
+    // On a document of at most so many levels an operation leaves one of more exactly where its
+    // value reaches deeper: so an operation is too deep exactly where it has to be.
+    ensures deeper_exactly { (d : Data) (op : Operation) (e : Data) (b : ℕ) → IsDocument d
+        → IsWholeOp op → Leaves d op e → depth d ≤ b → (b < depth e) ↔ (b < reach_of d op) }
+
+    // The document that is left is no larger than the one before, with what the operation holds
+    // itself and what it copies.
+    ensures step_size { (d : Data) (op : Operation) (e : Data) → IsDocument d → IsWholeOp op
+        → Leaves d op e → size e ≤ size d + (own_size op + copied_by d op) }
+
+    // A merge patch leaves no document deeper than both the one that it is merged into and itself.
+    ensures merge_depth { (d p e : Data) (b : ℕ) → IsDocument d → IsDocument p → IsDocument e
+        → IsMerged d p e → depth d ≤ b → depth p ≤ b → depth e ≤ b }
+
+    // Either no operation comes to be over the limits, or one is the first, in one way. With
+    // `run_ends` of `runs` exactly one answer fits: accepted with one end, refused at one place for
+    // one kind, or over at one place for one kind.
+    ensures over_or_never { (l : Limits) (d : Data) (ops : List Operation) → IsDocument d
+        → AreWhole ops → IsNeverOver l d ops
+        ⊎ ((k : ℕ) × (kind : LimitKind) × IsOverFirst l d ops k kind) }
+
+    // Where none comes to be over, no state of the run is deeper than the limit, if the document
+    // isn't.
+    ensures run_depth { (l : Limits) (d : Data) (ops : List Operation) (k : ℕ) (m : Data)
+        → IsDocument d → AreWhole ops → IsNeverOver l d ops → depth d ≤ l.depth
+        → Accepts d (take k ops) m → depth m ≤ l.depth }
+
+    // Then the values of the inverse have no more levels than the limit either.
+    ensures inverse_shallow { (l : Limits) (d : Data) (ops I : List Operation) → IsDocument d
+        → AreWhole ops → IsNeverOver l d ops → depth d ≤ l.depth → IsInverse d ops I
+        → AreShallow l.depth I }
+
+    // A patch as a value has at most two levels more than its values: the array, and the objects.
+    ensures written_depth { (b : ℕ) (ops : List Operation) → AreShallow b ops
+        → depth (written_patch ops) ≤ b + 2 }
+
+    // Where none comes to be over, the end is no larger than the document, with what the operations hold and what the limit
+    // lets them copy.
+    ensures run_size { (l : Limits) (d : Data) (ops : List Operation) (e : Data) → IsDocument d
+        → AreWhole ops → IsNeverOver l d ops → Accepts d ops e
+        → size e ≤ size d + (own_sizes ops + l.copied) }
 {}
 
 /// Operations that are about one part of a document: they change that part alone, and as the

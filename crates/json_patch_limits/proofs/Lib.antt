@@ -1,0 +1,5 @@
+pub mod Charges
+pub mod Common
+pub mod Depths
+pub mod Overs
+pub mod Sizes

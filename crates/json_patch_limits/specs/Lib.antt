@@ -1,0 +1,2 @@
+pub mod OverLimits
+pub mod OverLimitsComputed
