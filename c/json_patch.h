@@ -36,7 +36,10 @@ enum {
     /* of a document that is kept */
     JSON_PATCH_CLOSED = 6,     /* no document is open */
     JSON_PATCH_NO_POINTER = 7, /* the text is no JSON pointer (RFC 6901) */
-    JSON_PATCH_NOTHING = 8     /* the pointer leads nowhere in the document */
+    JSON_PATCH_NOTHING = 8,    /* the pointer leads nowhere in the document, or there is nothing to
+                                  take back */
+    /* of both */
+    JSON_PATCH_OVER = 9 /* report->operation is over the limits, for report->kind */
 };
 
 /* What is at fault. */
@@ -44,12 +47,18 @@ typedef uint8_t json_patch_kind;
 enum {
     JSON_PATCH_KIND_NONE = 0,
     /* of JSON_PATCH_NO_DOCUMENT and JSON_PATCH_NO_PATCH */
-    JSON_PATCH_NOT_JSON = 1,  /* no UTF-8, no JSON (RFC 8259), nested deeper than 127 levels, or a
-                                 number or an escape that the reader of JSON refuses: a number past a
-                                 float's range, such as 1e400, or an unpaired surrogate */
+    JSON_PATCH_NOT_JSON = 1,  /* no UTF-8, no JSON (RFC 8259), or a number or an escape that the reader
+                                 of JSON refuses: a number past a float's range, such as 1e400, or an
+                                 unpaired surrogate */
     JSON_PATCH_NOT_WHOLE = 2, /* else a number with a fraction or an exponent, minus zero, or one past
                                  64 bits; in a patch that isn't a merge patch
                                  JSON_PATCH_VALUE_NOT_WHOLE is told */
+    /* of JSON_PATCH_NO_DOCUMENT, JSON_PATCH_NO_PATCH and JSON_PATCH_OVER */
+    JSON_PATCH_TOO_DEEP = 7, /* a document or a merge patch has more levels than the limit, or a text
+                                nests more than 127 arrays and objects in one another; an operation
+                                would put a value deeper than the limit */
+    /* of JSON_PATCH_OVER */
+    JSON_PATCH_TOO_MUCH = 8, /* the patch would copy more than the limit, with what it copied before */
     /* of JSON_PATCH_REFUSED */
     JSON_PATCH_TEST_FAILED = 3,
     JSON_PATCH_INVALID_FROM_POINTER = 4,
@@ -88,30 +97,61 @@ typedef struct {
  * - It is not called from a signal handler, nor in the forked child of a process with threads.
  * - malloc, realloc and free are of one allocator, and align a block to each power of two up to 16
  *   that divides its size.
- * - The stack has room: for some 20 kB, and 700 bytes for each level of a document, which is gone
- *   through by recursion (a text has at most 127 levels, but a patch can nest what it copies or moves
- *   deeper).
+ * - The stack has room for 64 kB.
  *
  * Where the status is no JSON_PATCH_OK, out is as it was, but for the path of JSON_PATCH_REFUSED.
  * After a text, out is as it was too. Of a name that stands twice the last value is read, and the
  * members of an object are written in byte order of their names.
  */
 
+/*
+ * Limits. Every call is within limits: a document has at most `depth` levels, of which 1 has none and
+ * [[1]] has two, and the copies of a patch add at most `copied`, where a value counts one for each
+ * value in it, itself included, and one for each byte of a string or a member's name. A patch of which
+ * an operation is over them changes nothing: JSON_PATCH_OVER, before that operation is made, and also
+ * where it would be refused.
+ *
+ * The calls that take no limits have JSON_PATCH_MOST_LEVELS and JSON_PATCH_MOST_COPIED; those of
+ * json_patch_..._within have the caller's, where a depth past JSON_PATCH_MOST_LEVELS counts as that.
+ * So each text that a call writes, of a document, an inverse or the array of both, nests at most 127
+ * levels, and is read again.
+ */
+typedef struct {
+    size_t depth;
+    size_t copied;
+} json_patch_limits;
+#define JSON_PATCH_MOST_LEVELS 124
+#define JSON_PATCH_MOST_COPIED 67108864
+
 /* Writes the document that the patch leaves. */
 json_patch_status json_patch_apply(const char *document, size_t document_length,
                                    const char *patch, size_t patch_length, char *out,
                                    size_t out_length, json_patch_report *report);
+json_patch_status json_patch_apply_within(const char *document, size_t document_length,
+                                          const char *patch, size_t patch_length,
+                                          const json_patch_limits *limits, char *out,
+                                          size_t out_length, json_patch_report *report);
 
 /* Writes the array of the document that the patch leaves, and the patch that leads back. */
 json_patch_status json_patch_record(const char *document, size_t document_length,
                                     const char *patch, size_t patch_length, char *out,
                                     size_t out_length, json_patch_report *report);
 
+json_patch_status json_patch_record_within(const char *document, size_t document_length,
+                                           const char *patch, size_t patch_length,
+                                           const json_patch_limits *limits, char *out,
+                                           size_t out_length, json_patch_report *report);
+
 /* Writes the document with the merge patch, any document, merged into it. Never
-   JSON_PATCH_REFUSED. */
+   JSON_PATCH_REFUSED or JSON_PATCH_OVER. */
 json_patch_status json_patch_merge(const char *document, size_t document_length,
                                    const char *patch, size_t patch_length, char *out,
                                    size_t out_length, json_patch_report *report);
+
+json_patch_status json_patch_merge_within(const char *document, size_t document_length,
+                                          const char *patch, size_t patch_length,
+                                          const json_patch_limits *limits, char *out,
+                                          size_t out_length, json_patch_report *report);
 
 /* Reads the patch, and does nothing else: JSON_PATCH_OK, JSON_PATCH_NO_PATCH or
    JSON_PATCH_NO_MEMORY. */
@@ -148,13 +188,18 @@ typedef struct {
 json_patch_status json_patch_open(json_patch_document *document, const char *text, size_t length,
                                   json_patch_report *report);
 
+/* The same within the limits, which hold of every change of the document too. */
+json_patch_status json_patch_open_within(json_patch_document *document, const char *text,
+                                         size_t length, const json_patch_limits *limits,
+                                         json_patch_report *report);
+
 /* Changes the document as the patch says. JSON_PATCH_OK, JSON_PATCH_REFUSED, with the path in out,
-   JSON_PATCH_NO_PATCH or JSON_PATCH_NO_MEMORY. */
+   JSON_PATCH_OVER, JSON_PATCH_NO_PATCH or JSON_PATCH_NO_MEMORY. */
 json_patch_status json_patch_update(json_patch_document *document, const char *patch,
                                     size_t patch_length, char *out, size_t out_length,
                                     json_patch_report *report);
 
-/* The same, and keeps the patch that leads back, for json_patch_inverse. */
+/* The same, and keeps the patch that leads back, for json_patch_inverse and json_patch_undo. */
 json_patch_status json_patch_update_recorded(json_patch_document *document, const char *patch,
                                              size_t patch_length, char *out, size_t out_length,
                                              json_patch_report *report);
@@ -163,6 +208,11 @@ json_patch_status json_patch_update_recorded(json_patch_document *document, cons
    JSON_PATCH_NO_MEMORY. */
 json_patch_status json_patch_update_merged(json_patch_document *document, const char *patch,
                                            size_t patch_length, json_patch_report *report);
+
+/* Takes back the last change, if that was recorded, in place and with no text, once: then there is
+   nothing more to take back. JSON_PATCH_OK, JSON_PATCH_NOTHING, also where what was recorded changed
+   nothing, or JSON_PATCH_NO_MEMORY. */
+json_patch_status json_patch_undo(json_patch_document *document, json_patch_report *report);
 
 /* Writes the patch that takes back the last change, if that was recorded, and else []. JSON_PATCH_OK,
    JSON_PATCH_NO_MEMORY or JSON_PATCH_NO_ROOM. */

@@ -1,1 +1,3 @@
 mod Owned
+mod Answered
+mod Nested

@@ -1,53 +1,60 @@
--- For private clauses: when a call makes no text, and why. Of want of memory nothing is said.
-use Rattle.std.specs.Prelude.{ℕ, List}
+-- For private clauses: when a call makes nothing, and why. Of want of memory nothing is said.
+use Rattle.std.specs.Prelude.{◌≡◌, ◌≢◌, ◌≤◌, ◌<◌, ◌⊎◌, ℕ, List, length}
 use Rattle.serde_json.specs.Data.{Data}
+use Rattle.serde_json.specs.Written.{compact_text}
+use Rattle.json_patch.specs.LimitError.{LimitError}
+use Rattle.json_patch.specs.LimitFault.{LimitFault}
+use Rattle.json_patch.specs.LimitFault.TheVariants.{Over as limit_over, Patch as limit_patch}
+use Rattle.json_patch.specs.PatchError.{PatchError}
 use Rattle.json_patch.specs.PatchFault.{PatchFault}
 use Rattle.json_patch.specs.PatchFault.TheVariants.{Refused as run_refused, Memory as run_memory}
-use Rattle.json_patch_c.specs.Texts.{IsDocumentText, IsNoDocumentText, IsNoMergePatchText, IsNoPatchText, StopsAt}
-use Rattle.json_patch_c.specs.Updates.{IsRefusedBy}
+use Rattle.json_patch_c.specs.Kinds.{limit_kind}
+use Rattle.json_patch_c.specs.Reasons.{Reasons}
+use Rattle.json_patch_c.specs.Reports.{IsPut, Tells, TellsRefusal}
+use Rattle.json_patch_c.specs.Texts.{IsShallowText, IsUnreadText}
+use Rattle.json_patch_c.specs.declared.calls.Unread.{Unread}
+use Rattle.json_patch_c.specs.declared.calls.Unread.TheVariants.{Text, Memory as unread_memory}
 use Rattle.json_patch_c.specs.declared.failure.Failure.{Failure}
-use Rattle.json_patch_c.specs.declared.failure.Failure.TheVariants.{NoDocument, NoPatch, Refused, Memory}
+use Rattle.json_patch_c.specs.declared.failure.Failure.TheVariants.{NoDocument, NoPatch, Refused, Over, Memory}
+use Rattle.json_patch_c.specs.declared.report.Report.{Report}
 
--- that of a run
-abbrev pub of_run : PatchFault → Failure
-of_run (run_refused e) = Refused e
-of_run (run_memory e) = Memory
+-- that of a run within limits
+abbrev pub of_run : LimitFault → Failure
+of_run (limit_over e) = Over e
+of_run (limit_patch (run_refused e)) = Refused e
+of_run (limit_patch (run_memory e)) = Memory
 
--- the text says no document
-abbrev pub IsDocumentFailure : List ℕ → Failure → Type 0
-IsDocumentFailure text (NoDocument kind) = IsNoDocumentText text kind
-IsDocumentFailure text Memory = Unit {0}
-IsDocumentFailure text failure = ⊥
+-- why a text isn't read as JSON
+abbrev pub IsUnread : List ℕ → Unread → Type 0
+IsUnread text (Text kind) = IsUnreadText text kind
+IsUnread text unread_memory = Unit {0}
 
--- the text says no patch
-abbrev pub IsPatchFailure : List ℕ → Failure → Type 0
-IsPatchFailure text (NoPatch operation kind) = IsNoPatchText text operation kind
-IsPatchFailure text Memory = Unit {0}
-IsPatchFailure text failure = ⊥
+-- it is one of the reasons
+abbrev pub IsFailure : Reasons → Failure → Type 0
+IsFailure R (NoDocument kind) = R.no_document kind
+IsFailure R (NoPatch operation kind) = R.no_patch operation kind
+IsFailure R (Refused e) = R.refused e
+IsFailure R (Over e) = R.over e
+IsFailure R Memory = Unit {0}
 
--- the text says no merge patch
-abbrev pub IsMergePatchFailure : List ℕ → Failure → Type 0
-IsMergePatchFailure text (NoPatch operation kind) = IsNoMergePatchText text operation kind
-IsMergePatchFailure text Memory = Unit {0}
-IsMergePatchFailure text failure = ⊥
+-- the bytes are the text of the document e, of at most so many levels, and say it
+abbrev pub IsTextOf : ℕ → Data → List ℕ → Type 0
+IsTextOf levels e text = (text ≡ compact_text e) × IsShallowText levels (compact_text e) e
 
--- the text says no patch, or one that d refuses
-abbrev pub IsRunFailure : Data → List ℕ → Failure → Type 0
-IsRunFailure d patch (NoDocument kind) = ⊥
-IsRunFailure d patch (NoPatch operation kind) = IsNoPatchText patch operation kind
-IsRunFailure d patch (Refused e) = IsRefusedBy d patch e
-IsRunFailure d patch Memory = Unit {0}
+-- what is told of a text that was made
+pub record IsPutOut (text : List ℕ) (status : ℕ) (old new : List ℕ) (report : Report) : Type 0 where
+  pub made : status ≡ 0 → IsPut text old new
+  pub no_room : status ≡ 5 → length old < length text
+  pub told : Tells (length text) 0 0 report
+  pub ends : (status ≡ 0) ⊎ (status ≡ 5)
+  pub untouched : status ≢ 0 → new ≡ old
 
--- one of the two texts says what it isn't to, or the patch is refused
-abbrev pub IsApplyFailure : List ℕ → List ℕ → Failure → Type 0
-IsApplyFailure document patch (NoDocument kind) = IsNoDocumentText document kind
-IsApplyFailure document patch (NoPatch operation kind) = ((d : Data) × IsDocumentText document d) × IsNoPatchText patch operation kind
-IsApplyFailure document patch (Refused e) = StopsAt document patch e
-IsApplyFailure document patch Memory = Unit {0}
-
--- one of the two texts says no document
-abbrev pub IsMergeFailure : List ℕ → List ℕ → Failure → Type 0
-IsMergeFailure document patch (NoDocument kind) = IsNoDocumentText document kind
-IsMergeFailure document patch (NoPatch operation kind) = ((d : Data) × IsDocumentText document d) × IsNoMergePatchText patch operation kind
-IsMergeFailure document patch (Refused e) = ⊥
-IsMergeFailure document patch Memory = Unit {0}
+-- what is told of a failure
+pub record IsReported (failure : Failure) (status : ℕ) (old new : List ℕ) (report : Report) : Type 0 where
+  pub refused : status ≡ 1 → (e : PatchError) × (failure ≡ Refused e) × TellsRefusal e old new report
+  pub no_document : status ≡ 2 → (failure ≡ NoDocument report.kind) × Tells 0 0 report.kind report
+  pub no_patch : status ≡ 3 → (failure ≡ NoPatch report.operation report.kind) × (report.size ≡ 0)
+  pub no_memory : status ≡ 4 → Tells 0 0 0 report
+  pub over : status ≡ 9 → (e : LimitError) × (failure ≡ Over e) × Tells 0 e.operation (limit_kind e.kind) report
+  pub ends : (status ≢ 0) × ((status ≤ 4) ⊎ (status ≡ 9))
+  pub untouched : status ≢ 1 → new ≡ old

@@ -1,8 +1,12 @@
 pub mod Kinds
+pub mod Nesting
+pub mod Bounds
 pub mod Texts
+pub mod Reasons
 pub mod Reports
 pub mod Failures
 pub mod Documents
 pub mod Updates
+pub mod Undo
 pub mod Found
 pub mod States

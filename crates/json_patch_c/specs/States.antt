@@ -2,8 +2,13 @@
 use Rattle.std.specs.Prelude.{List, Option, option_map}
 use Rattle.serde_json.specs.Data.{Data}
 use Rattle.serde_json.specs.View.{view}
+use Rattle.json_patch.specs.Limits.{Limits}
 use Rattle.json_patch.specs.Operation.{Operation, operations_of}
 use Rattle.json_patch_c.specs.declared.kept.Kept.{Kept}
+
+-- the limits of the document, if one is open
+abbrev pub limits_in : Option Kept → Option Limits
+limits_in held = option_map (λ k. k.limits) held
 
 -- the document, if one is open
 abbrev pub document_in : Option Kept → Option Data

@@ -9,24 +9,31 @@ use Rattle.json_patch.specs.Refusal.{NamesFirst}
 use Rattle.json_patch.specs.Resolve.{StandsAt}
 use Rattle.json_patch.specs.Run.{Accepts, IsAccepted}
 use Rattle.json_patch.specs.Step.{Never}
+use Rattle.json_patch.specs.LimitError.{LimitError}
+use Rattle.json_patch.specs.Limits.{Limits}
+use Rattle.json_patch.specs.OverLimits.{IsNeverOver, IsOverAt}
 use Rattle.json_patch.specs.PatchError.{PatchError}
-use Rattle.json_patch_c.specs.Texts.{IsDocumentText, IsPatchText}
+use Rattle.json_patch_c.specs.Texts.{IsPatchText, IsShallowText}
 
--- the text says a patch that is accepted on d, with the end e
-abbrev pub UpdatesTo : Data → List ℕ → Data → Type 0
-UpdatesTo d patch e = (ops : List Operation) × IsPatchText patch ops × Accepts d ops e
+-- the text says a patch that is accepted on d within the limits, with the end e
+abbrev pub UpdatesTo : Limits → Data → List ℕ → Data → Type 0
+UpdatesTo l d patch e = (ops : List Operation) × IsPatchText patch ops × IsNeverOver l d ops × Accepts d ops e
 
 -- the same, and undo is its inverse, which leads back
-abbrev pub RecordsTo : Data → List ℕ → Data → List Operation → Type 0
-RecordsTo d patch e undo = (ops : List Operation) × IsPatchText patch ops × Accepts d ops e × IsInverse d ops undo × IsAccepted e undo d
+abbrev pub RecordsTo : Limits → Data → List ℕ → Data → List Operation → Type 0
+RecordsTo l d patch e undo = (ops : List Operation) × IsPatchText patch ops × IsNeverOver l d ops × Accepts d ops e × IsInverse d ops undo × IsAccepted e undo d
 
--- the text says a patch that d refuses, and e is the refusal
-abbrev pub IsRefusedBy : Data → List ℕ → PatchError → Type 0
-IsRefusedBy d patch e = (ops : List Operation) × IsPatchText patch ops × NamesFirst d ops e
+-- the text says a patch that d refuses, none of its operations is over the limits before, and e is the refusal
+abbrev pub IsRefusedBy : Limits → Data → List ℕ → PatchError → Type 0
+IsRefusedBy l d patch e = (ops : List Operation) × IsPatchText patch ops × IsNeverOver l d ops × NamesFirst d ops e
 
--- the text says a merge patch, and e is d with it merged in
-abbrev pub MergesTo : Data → List ℕ → Data → Type 0
-MergesTo d patch e = (p : Data) × IsDocumentText patch p × IsMerged d p e
+-- the text says a patch of which an operation comes to be over the limits on d, the first one, and e is which and how
+abbrev pub IsOverBy : Limits → Data → List ℕ → LimitError → Type 0
+IsOverBy l d patch e = (ops : List Operation) × IsPatchText patch ops × IsOverAt l d ops e.operation e.kind
+
+-- the text says a merge patch of so many levels, and e is d with it merged in
+abbrev pub MergesTo : ℕ → Data → List ℕ → Data → Type 0
+MergesTo levels d patch e = (p : Data) × IsShallowText levels patch p × IsMerged d p e
 
 -- the bytes are the text of the pointer P
 abbrev pub IsTextOf : List ℕ → Pointer → Type 0

@@ -1,50 +1,76 @@
 //! From two texts to a third, or why not.
 
-ghost use Rattle.std.specs.Prelude.{◌≡◌, IfErr, IfOk, string_bytes};
-ghost use Rattle.serde_json.specs.Data.{Data};
+ghost use Rattle.std.specs.Prelude.{◌≡◌, ◌≤◌, IfErr, IfOk, IsUtf8, Some, string_bytes, ℕ};
+ghost use Rattle.serde_json.specs.Data.{Data, depth};
+ghost use Rattle.serde_json.specs.Read.{read};
 ghost use Rattle.serde_json.specs.View.{view};
-ghost use Rattle.serde_json.specs.Written.{compact_text};
 ghost use Rattle.json_patch.specs.Document.{IsDocument};
 ghost use Rattle.json_patch.specs.Operation.{AreWhole, operations_of};
-ghost use Rattle.json_patch_c.specs.Failures.{IsApplyFailure, IsDocumentFailure, IsMergeFailure, IsMergePatchFailure};
-ghost use Rattle.json_patch_c.specs.Failures.{IsPatchFailure};
+ghost use Rattle.json_patch_c.specs.Failures.{IsFailure, IsTextOf, IsUnread};
+ghost use Rattle.json_patch_c.specs.Reasons.{of_apply, of_check, of_merge, of_open, of_update_merged};
+ghost use Rattle.json_patch_c.specs.Texts.{IsPatchText, IsShallowText, Makes, MakesBoth, Merges};
 ghost use Rattle.json_patch_c.specs.declared.failure.Failure.TheVariants.{Memory};
-ghost use Rattle.json_patch_c.specs.Texts.{MakesBoth, Makes, Merges, IsDocumentText, IsPatchText};
 
-use crate::failure::{Failure, NOT_JSON, NOT_WHOLE, kind_of_reading};
-use json_patch::{Patch, ReadFault, apply_patches, is_whole, laws, merge, patch};
+use crate::failure::{Failure, NOT_JSON, NOT_WHOLE, TOO_DEEP, kind_of_reading};
+use crate::nesting::nests_too_deep;
+use json_patch::{
+    Limits, Patch, ReadFault, apply_patches_within, is_shallow, is_whole, laws, merge, patch_within,
+};
 use serde_json::Value;
 use std::alloc::Global;
 
-/// The document that a text says.
-pub(crate) fn document_of(alloc: Global, text: &[u8]) -> Result<Value, Failure>
-    ensures read { IfOk result (λ v. IsDocumentText text.now (view v)) }
-    ensures failure { IfErr result (IsDocumentFailure text.now) }
+/// Why a text isn't read as JSON.
+#[derive(Drop)]
+pub(crate) enum Unread {
+    /// It is none, or nests too deep, as the kind says.
+    Text(u8),
+    Memory,
+}
+
+/// The value of a JSON text.
+fn value_of(alloc: Global, text: &[u8]) -> Result<Value, Unread>
+    ensures read { IfOk result (λ v. IsUtf8 text.now × (read text.now ≡ Some (view v))) }
+    ensures unread { IfErr result (IsUnread text.now) }
 {
     match Value::from_slice(alloc, text) {
-        Ok(value) => {
-            if is_whole(&value) {
-                Ok(value)
-            } else {
-                Err(Failure::NoDocument(NOT_WHOLE))
-            }
-        }
+        Ok(value) => Ok(value),
         Err(error) => {
             if error.is_memory() {
-                Err(Failure::Memory)
+                Err(Unread::Memory)
+            } else if nests_too_deep(text) {
+                Err(Unread::Text(TOO_DEEP))
             } else {
-                Err(Failure::NoDocument(NOT_JSON))
+                Err(Unread::Text(NOT_JSON))
             }
         }
     }
 }
 
-/// The merge patch that a text says.
-pub(crate) fn merge_patch_of(alloc: Global, text: &[u8]) -> Result<Value, Failure>
-    ensures read { IfOk result (λ v. IsDocumentText text.now (view v)) }
-    ensures failure { IfErr result (IsMergePatchFailure text.now) }
+/// The document that a text says, within the limit on levels.
+pub(crate) fn document_of(alloc: Global, text: &[u8], limits: Limits) -> Result<Value, Failure>
+    ensures read { IfOk result (λ v. IsShallowText limits.depth text.now (view v)) }
+    ensures failure { IfErr result (IsFailure (of_open limits text.now)) }
 {
-    match document_of(alloc, text) {
+    let value = match value_of(alloc, text) {
+        Ok(value) => value,
+        Err(Unread::Text(kind)) => return Err(Failure::NoDocument(kind)),
+        Err(Unread::Memory) => return Err(Failure::Memory),
+    };
+    if !is_shallow(&value, limits.depth) {
+        return Err(Failure::NoDocument(TOO_DEEP));
+    }
+    if !is_whole(&value) {
+        return Err(Failure::NoDocument(NOT_WHOLE));
+    }
+    Ok(value)
+}
+
+/// The merge patch that a text says, within the limit on levels.
+pub(crate) fn merge_patch_of(alloc: Global, text: &[u8], limits: Limits) -> Result<Value, Failure>
+    ensures read { IfOk result (λ v. IsShallowText limits.depth text.now (view v)) }
+    ensures failure { IfErr result (IsFailure (of_update_merged limits text.now)) }
+{
+    match document_of(alloc, text, limits) {
         Ok(value) => Ok(value),
         Err(Failure::NoDocument(kind)) => Err(Failure::NoPatch(0, kind)),
         Err(_) => Err(Failure::Memory),
@@ -55,16 +81,12 @@ pub(crate) fn merge_patch_of(alloc: Global, text: &[u8]) -> Result<Value, Failur
 pub(crate) fn patch_of(alloc: Global, text: &[u8]) -> Result<Patch, Failure>
     ensures read { IfOk result (λ p. IsPatchText text.now (operations_of p)) }
     ensures whole { IfOk result (λ p. AreWhole (operations_of p)) }
-    ensures failure { IfErr result (IsPatchFailure text.now) }
+    ensures failure { IfErr result (IsFailure (of_check text.now)) }
 {
-    let value = match Value::from_slice(alloc, text) {
+    let value = match value_of(alloc, text) {
         Ok(value) => value,
-        Err(error) => {
-            if error.is_memory() {
-                return Err(Failure::Memory);
-            }
-            return Err(Failure::NoPatch(0, NOT_JSON));
-        }
+        Err(Unread::Text(kind)) => return Err(Failure::NoPatch(0, kind)),
+        Err(Unread::Memory) => return Err(Failure::Memory),
     };
     match Patch::from_value(alloc, &value) {
         Ok(patch) => Ok(patch),
@@ -76,10 +98,12 @@ pub(crate) fn patch_of(alloc: Global, text: &[u8]) -> Result<Patch, Failure>
     }
 }
 
-/// The text of a document.
+/// The text of a document, which is read again.
 pub(crate) fn text_of(alloc: Global, document: &Value) -> Result<String, Failure>
-    requires { IsDocument (view document.now) }
-    ensures text { IfOk result (λ s. string_bytes s ≡ compact_text (view document.now)) }
+    requires document { IsDocument (view document.now) }
+    requires shallow { depth (view document.now) ≤ 127 }
+    ensures text { IfOk result (λ s. (levels : ℕ) → depth (view document.now) ≤ levels
+        → IsTextOf levels (view document.now) (string_bytes s)) }
     ensures failure { IfErr result (λ failure. failure ≡ Memory) }
 {
     laws::documents();
@@ -87,40 +111,61 @@ pub(crate) fn text_of(alloc: Global, document: &Value) -> Result<String, Failure
 }
 
 /// The text of the document that a patch leaves of another.
-pub(crate) fn applied(alloc: Global, text: &[u8], changes: &[u8]) -> Result<String, Failure>
-    ensures text { IfOk result (λ s. (e : Data) × Makes text.now changes.now e
-        × (string_bytes s ≡ compact_text e)) }
-    ensures failure { IfErr result (IsApplyFailure text.now changes.now) }
+pub(crate) fn applied(
+    alloc: Global,
+    text: &[u8],
+    changes: &[u8],
+    limits: Limits,
+) -> Result<String, Failure>
+    requires { limits.depth ≤ 124 }
+    ensures text { IfOk result (λ s. (e : Data) × Makes limits text.now changes.now e
+        × IsTextOf limits.depth e (string_bytes s)) }
+    ensures failure { IfErr result (IsFailure (of_apply limits text.now changes.now)) }
 {
-    let mut document = document_of(alloc, text)?;
+    let mut document = document_of(alloc, text, limits)?;
     let operations = patch_of(alloc, changes)?;
-    patch(alloc, &mut document, operations.as_slice())?;
+    patch_within(alloc, &mut document, operations.as_slice(), limits)?;
     text_of(alloc, &document)
 }
 
 /// The text of the array of the document that a patch leaves of another, and the patch that leads
 /// back.
-pub(crate) fn recorded(alloc: Global, text: &[u8], changes: &[u8]) -> Result<String, Failure>
-    ensures text { IfOk result (λ s. (e : Data) × MakesBoth text.now changes.now e
-        × (string_bytes s ≡ compact_text e)) }
-    ensures failure { IfErr result (IsApplyFailure text.now changes.now) }
+pub(crate) fn recorded(
+    alloc: Global,
+    text: &[u8],
+    changes: &[u8],
+    limits: Limits,
+) -> Result<String, Failure>
+    requires { limits.depth ≤ 124 }
+    ensures text { IfOk result (λ s. (e : Data) × MakesBoth limits text.now changes.now e
+        × IsTextOf 127 e (string_bytes s)) }
+    ensures failure { IfErr result (IsFailure (of_apply limits text.now changes.now)) }
 {
     laws::values();
-    let mut document = document_of(alloc, text)?;
+    laws::limits();
+    let mut document = document_of(alloc, text, limits)?;
     let operations = patch_of(alloc, changes)?;
-    let undo = apply_patches(alloc, &mut document, operations.as_slice())?;
+    let undo = apply_patches_within(alloc, &mut document, operations.as_slice(), limits)?;
     let both = Value::Array(vec![in alloc; document, undo.to_value(alloc)?]?);
     text_of(alloc, &both)
 }
 
 /// The text of a document with a merge patch merged into it.
-pub(crate) fn merged(alloc: Global, text: &[u8], changes: &[u8]) -> Result<String, Failure>
-    ensures text { IfOk result (λ s. (e : Data) × Merges text.now changes.now e
-        × (string_bytes s ≡ compact_text e)) }
-    ensures failure { IfErr result (IsMergeFailure text.now changes.now) }
+#[tactic(auto, using(crate::proofs::Answered::failure_merged))]
+pub(crate) fn merged(
+    alloc: Global,
+    text: &[u8],
+    changes: &[u8],
+    limits: Limits,
+) -> Result<String, Failure>
+    requires { limits.depth ≤ 124 }
+    ensures text { IfOk result (λ s. (e : Data) × Merges limits.depth text.now changes.now e
+        × IsTextOf limits.depth e (string_bytes s)) }
+    ensures failure { IfErr result (IsFailure (of_merge limits text.now changes.now)) }
 {
-    let mut document = document_of(alloc, text)?;
-    let changes = merge_patch_of(alloc, changes)?;
+    laws::limits();
+    let mut document = document_of(alloc, text, limits)?;
+    let changes = merge_patch_of(alloc, changes, limits)?;
     merge(alloc, &mut document, &changes)?;
     text_of(alloc, &document)
 }

@@ -2,16 +2,20 @@
 
 ghost use Rattle.std.specs.Prelude.{◌≡◌};
 ghost use Rattle.json_patch_c.specs.Failures.{of_run};
-ghost use Rattle.json_patch_c.specs.Kinds.{reading_kind, refusal_kind};
+ghost use Rattle.json_patch_c.specs.Kinds.{limit_kind, reading_kind, refusal_kind};
 ghost use Rattle.json_patch_c.specs.declared.failure.Failure.TheVariants.{Memory};
 
-use json_patch::{PatchError, PatchErrorKind, PatchFault, ReadKind};
+use json_patch::{
+    LimitError, LimitFault, LimitKind, PatchError, PatchErrorKind, PatchFault, ReadKind,
+};
 use std::alloc::{AllocError, AllocFailed};
 
 /// A text is no UTF-8, or no JSON.
 pub(crate) const NOT_JSON: u8 = 1;
 /// A number in it is no whole one of 64 bits.
 pub(crate) const NOT_WHOLE: u8 = 2;
+/// It nests too deep, or a value would reach too deep.
+pub(crate) const TOO_DEEP: u8 = 7;
 
 #[derive(Drop)]
 pub(crate) enum Failure {
@@ -20,16 +24,18 @@ pub(crate) enum Failure {
     /// The second says no patch, for a fault in this operation, of this kind.
     NoPatch(usize, u8),
     Refused(PatchError),
+    Over(LimitError),
     Memory,
 }
 
-impl From<PatchFault> for Failure {
+impl From<LimitFault> for Failure {
     ghost from_gives = { λ fault failure. failure ≡ of_run fault };
 
-    fn from(fault: PatchFault) -> Failure {
+    fn from(fault: LimitFault) -> Failure {
         match fault {
-            PatchFault::Refused(error) => Failure::Refused(error),
-            PatchFault::Memory(_) => Failure::Memory,
+            LimitFault::Over(error) => Failure::Over(error),
+            LimitFault::Patch(PatchFault::Refused(error)) => Failure::Refused(error),
+            LimitFault::Patch(PatchFault::Memory(_)) => Failure::Memory,
         }
     }
 }
@@ -59,6 +65,16 @@ pub(crate) fn kind_of_refusal(kind: &PatchErrorKind) -> u8
         PatchErrorKind::InvalidFromPointer => 4,
         PatchErrorKind::InvalidPointer => 5,
         PatchErrorKind::CannotMoveInsideItself => 6,
+    }
+}
+
+/// The number of a kind of limit.
+pub(crate) fn kind_of_limit(kind: LimitKind) -> u8
+    ensures { result ≡ limit_kind kind }
+{
+    match kind {
+        LimitKind::TooDeep => TOO_DEEP,
+        LimitKind::TooMuch => 8,
     }
 }
 

@@ -1,11 +1,14 @@
 //! What a call tells beside its status, and what it writes.
 
-ghost use Rattle.std.specs.Prelude.{◌≡◌, ◌≢◌, ◌≤◌, ◌<◌, ◌⊎◌, ◌↔◌, IsTrue, length};
+ghost use Rattle.std.specs.Prelude.{◌≡◌, ◌≢◌, ◌≤◌, ◌<◌, ◌⊎◌, ◌↔◌, IfErr, IfOk, IsTrue, length, string_bytes};
+ghost use Rattle.json_patch.specs.LimitError.{LimitError};
 ghost use Rattle.json_patch.specs.PatchError.{PatchError};
+ghost use Rattle.json_patch_c.specs.Failures.{IsPutOut, IsReported};
+ghost use Rattle.json_patch_c.specs.Kinds.{limit_kind};
 ghost use Rattle.json_patch_c.specs.Reports.{IsPut, Tells, TellsRefusal};
-ghost use Rattle.json_patch_c.specs.declared.failure.Failure.TheVariants.{NoDocument, NoPatch, Refused};
+ghost use Rattle.json_patch_c.specs.declared.failure.Failure.TheVariants.{NoDocument, NoPatch, Over, Refused};
 
-use crate::failure::{Failure, kind_of_refusal};
+use crate::failure::{Failure, kind_of_limit, kind_of_refusal};
 use json_patch::PatchError;
 
 /// What a call tells beside its status: what doesn't belong to the status is 0.
@@ -33,8 +36,19 @@ fn put(text: &[u8], out: &mut [u8]) -> bool
     true
 }
 
+/// Writes the text that was made, or tells why none was.
+pub(crate) fn answer(made: Result<String, Failure>, out: &mut [u8], report: &mut Report) -> u8
+    ensures put_out { IfOk made (λ s. IsPutOut (string_bytes s) result out.old out.new report.new) }
+    ensures reported { IfErr made (λ failure. IsReported failure result out.old out.new report.new) }
+{
+    match made {
+        Ok(text) => write(text.as_bytes(), out, report),
+        Err(failure) => refuse(&failure, out, report),
+    }
+}
+
 /// Writes a text that was made: status 0, or 5 where `out` is shorter than it.
-pub(crate) fn write(text: &[u8], out: &mut [u8], report: &mut Report) -> u8
+fn write(text: &[u8], out: &mut [u8], report: &mut Report) -> u8
     ensures made { result ≡ 0 → IsPut text.now out.old out.new }
     ensures no_room { result ≡ 5 → length out.old < length text.now }
     ensures told { Tells (length text.now) 0 0 report.new }
@@ -62,7 +76,7 @@ pub(crate) fn tell(status: u8, operation: usize, kind: u8, report: &mut Report) 
     status
 }
 
-/// Tells why no text was made: status 1 to 4.
+/// Tells why nothing was made: status 1 to 4, or 9.
 pub(crate) fn refuse(failure: &Failure, out: &mut [u8], report: &mut Report) -> u8
     ensures refused { result ≡ 1 → (e : PatchError) × (failure.now ≡ Refused e)
         × TellsRefusal e out.old out.new report.new }
@@ -71,7 +85,9 @@ pub(crate) fn refuse(failure: &Failure, out: &mut [u8], report: &mut Report) -> 
     ensures no_patch { result ≡ 3
         → (failure.now ≡ NoPatch report.new.operation report.new.kind) × (report.new.size ≡ 0) }
     ensures no_memory { result ≡ 4 → Tells 0 0 0 report.new }
-    ensures status { (result ≢ 0) × (result ≤ 4) }
+    ensures over { result ≡ 9 → (e : LimitError) × (failure.now ≡ Over e)
+        × Tells 0 e.operation (limit_kind e.kind) report.new }
+    ensures status { (result ≢ 0) × ((result ≤ 4) ⊎ (result ≡ 9)) }
     ensures unchanged { result ≢ 1 → out.new ≡ out.old }
 {
     let (status, operation, kind) = match failure {
@@ -81,6 +97,7 @@ pub(crate) fn refuse(failure: &Failure, out: &mut [u8], report: &mut Report) -> 
         }
         Failure::NoDocument(kind) => (2, 0, *kind),
         Failure::NoPatch(operation, kind) => (3, *operation, *kind),
+        Failure::Over(error) => (9, error.operation, kind_of_limit(error.kind)),
         Failure::Memory => (4, 0, 0),
     };
     *report = Report {

@@ -92,6 +92,10 @@ pub fn limits()
     ensures step_depth { (d : Data) (op : Operation) (e : Data) (b : ℕ) → IsDocument d → IsWholeOp op
         → Leaves d op e → depth d ≤ b → reach_of d op ≤ b → depth e ≤ b }
 
+    // What stands where a pointer leads has fewer levels than the document, by the pointer's tokens.
+    ensures stands_depth { (d : Data) (P : Pointer) (c : Data) → StandsAt d P c
+        → length P + depth c ≤ depth d }
+
     // On a document of at most so many levels an operation leaves one of more exactly where its
     // value reaches deeper: so an operation is too deep exactly where it has to be.
     ensures deeper_exactly { (d : Data) (op : Operation) (e : Data) (b : ℕ) → IsDocument d

@@ -9,6 +9,7 @@ use std::alloc::AllocError;
 use thiserror::Error;
 
 /// How deep a value may reach that a list of operations puts, and how much the list may copy.
+#[repr(C)]
 #[derive(Clone, Copy)]
 pub struct Limits {
     /// The most levels at which a value may stand: the tokens of the path to which it is put, and

@@ -3,6 +3,8 @@ use Rattle.json_patch_laws.proofs.LimitedRuns.{over_ends, run_depth as depth_of_
 use Rattle.json_patch_limits.proofs.Depths.{deeper_exactly, step_depth as depth_of_step}
 use Rattle.json_patch_limits.proofs.Sizes.{step_size as size_of_step}
 use Rattle.json_patch_laws.proofs.InverseDepths.{inverse_shallow as shallow_of_inverse, written_depth as depth_of_written}
+use Rattle.json_patch_edit.proofs.StepOutcomes.{stands_found}
+use Rattle.json_patch_limits.proofs.Depths.{found_depth}
 use Rattle.json_patch_laws.proofs.laws.limits.Goals as goal
 
 pub returns-clause-step_depth : goal.returns-clause-step_depth
@@ -31,3 +33,6 @@ returns-clause-inverse_shallow c = shallow_of_inverse
 
 pub returns-clause-written_depth : goal.returns-clause-written_depth
 returns-clause-written_depth c = depth_of_written
+
+pub returns-clause-stands_depth : goal.returns-clause-stands_depth
+returns-clause-stands_depth c = λ d P v stands. found_depth d v P (stands_found d P v stands)
