@@ -1,11 +1,16 @@
-"""Times the calls of python/json_patch.py as bench/c_calls.c times those of json_patch.h."""
+"""Times the calls of the package in python/ as bench/c_calls.c times those of json_patch.h."""
 import json
+import os
 import sys
 import time
 from pathlib import Path
 
-sys.path.append(str(Path(__file__).resolve().parent.parent / "python"))
+TOP = Path(__file__).resolve().parent.parent
+sys.path.append(str(TOP / "python/src"))
+os.environ.setdefault("JSON_PATCH_LIBRARY", str(TOP / "c/out/lib/libjson_patch.so"))
 import json_patch  # noqa: E402
+from json_patch._calls import called  # noqa: E402
+from json_patch._library import LIBRARY  # noqa: E402
 
 mode, count = sys.argv[1], int(sys.argv[2])
 document, patch = (json.dumps(value, separators=(",", ":")).encode() for value in json.load(sys.stdin))
@@ -15,5 +20,5 @@ with json_patch.Document.from_string(document) as kept:
         if mode == "kept":
             kept.apply(patch)
         else:
-            json_patch._called(json_patch._LIBRARY.json_patch_apply, document, patch)
+            called(LIBRARY.json_patch_apply, document, patch)
     print((time.perf_counter_ns() - start) // count)

@@ -18,9 +18,15 @@
 #include <stddef.h>
 #include <stdint.h>
 
+/* The version of this header; json_patch_version() is that of the library. */
+#define JSON_PATCH_VERSION "5.0.0"
+
 #ifdef __cplusplus
 extern "C" {
 #endif
+
+/* The version of the library, such as "5.0.0": a string that stays. */
+const char *json_patch_version(void);
 
 /* What came of a call. */
 typedef uint8_t json_patch_status;

@@ -1,21 +1,26 @@
 #!/usr/bin/env python3
 """Answers lines as the driver of diff/driver.rt.txt does, by the calls of json_patch.h, through
-python/json_patch.py: c/build has to have built the library. One argument: patch, record or merge.
+the package in python/: c/build has to have built the library. One argument: patch, record or merge.
 
 Each case is answered twice, from text to text and on a document that is kept; where the two aren't
 alike, the line says so, which is no answer. A refusal is told with the document as it was: on one
 that is kept that is looked at, and the program fails where it isn't so."""
 import json
+import os
 import sys
 from pathlib import Path
 
-sys.path.append(str(Path(__file__).resolve().parent.parent / "python"))
+TOP = Path(__file__).resolve().parent.parent
+sys.path.append(str(TOP / "python/src"))
+os.environ.setdefault("JSON_PATCH_LIBRARY", str(TOP / "c/out/lib/libjson_patch.so"))
 import json_patch  # noqa: E402
+from json_patch._calls import called  # noqa: E402
+from json_patch._library import LIBRARY  # noqa: E402
 
 CALLS = {
-    "patch": json_patch._LIBRARY.json_patch_apply,
-    "record": json_patch._LIBRARY.json_patch_record,
-    "merge": json_patch._LIBRARY.json_patch_merge,
+    "patch": LIBRARY.json_patch_apply,
+    "record": LIBRARY.json_patch_record,
+    "merge": LIBRARY.json_patch_merge,
 }
 
 
@@ -24,7 +29,7 @@ def text(value):
 
 
 def from_texts(mode, document, patch):
-    return json.loads(json_patch._called(CALLS[mode], document.encode(), patch.encode()))
+    return json.loads(called(CALLS[mode], document.encode(), patch.encode()))
 
 
 def changed(mode, kept, patch):

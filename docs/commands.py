@@ -24,7 +24,7 @@ TOOL = TOP / "crates/json_patch_tool"
 BUILT = TOOL / "out/json_patch_tool"
 CALL = re.compile(r"\brt try -- |\bout/json_patch_tool ")
 # what c/check does
-ELSEWHERE = re.compile(r"^(c/build|PYTHONPATH=python python3)$")
+ELSEWHERE = re.compile(r"^(c/package|python3 -m pip install c/out/\S+)$")
 
 
 def blocks(page, language):

@@ -1,0 +1,80 @@
+"""JSON Patch (RFC 6902), JSON Pointer (RFC 6901) and JSON Merge Patch (RFC 7396).
+
+Patches are made by a library that is proved to do what RFC 6902 says. The names are those of the
+packages jsonpatch and jsonpointer:
+
+>>> apply_patch({"a": [1, 2]}, [{"op": "move", "from": "/a/0", "path": "/b"}])
+{'a': [2], 'b': 1}
+>>> JsonPatch.from_string('[{"op": "remove", "path": "/a"}]').apply({"a": 1})
+{}
+>>> resolve_pointer({"a": [1, 2]}, "/a/1")
+2
+
+A refused patch changes nothing, and the exception tells which operation is refused, why, and its
+path:
+
+>>> try:
+...     apply_patch({"a": 1}, [{"op": "test", "path": "/a", "value": 1}, {"op": "remove", "path": "/b"}])
+... except JsonPatchConflict as error:
+...     print(error, error.operation, error.kind, error.path)
+operation 1 failed at path '/b': InvalidPointer 1 InvalidPointer /b
+
+A patch that is recorded returns the patch that leads back:
+
+>>> record_patch({"a": [1, 2]}, [{"op": "remove", "path": "/a/0"}])
+({'a': [2]}, JsonPatch([{'op': 'add', 'path': '/a/0', 'value': 1}]))
+
+A large document that is changed again and again is kept by the library:
+
+>>> with Document({"rows": [1, 2]}) as document:
+...     document.apply([{"op": "replace", "path": "/rows/0", "value": 3}])
+...     document.get("/rows")
+[3, 2]
+
+Documents, and the values in a patch, hold whole numbers of 64 bits alone: 1.5, 1.0, 2**64 and nan
+are refused by NumberNotWhole. A document is what json.dumps writes of an object, and what comes back
+is what json.loads reads: new lists and dicts, the names in byte order, a key 1 as "1".
+
+What is no UTF-8, no JSON (RFC 8259), nested deeper than 127 levels, or has a number or an escape that
+the reader of JSON refuses (a number past a float's range, such as 1e400 in a text, or 10**400, or an
+unpaired surrogate), is refused with the `kind` NotJson; and so is an object that holds itself. A
+Document and a JsonPatch are read from a text by one reader: a text with -0 isn't whole, and one in
+UTF-16, or with a byte order mark, is no JSON.
+
+A patch can nest a document deeper, by what it copies or moves: past some 1,000 levels OverLimit is
+raised, and past some 9,000 the stack may end, and the process with it. So bound the length of a
+stranger's pointers.
+"""
+from ._version import __version__
+from .document import Document
+from .errors import (
+    InvalidJsonPatch,
+    JsonPatchConflict,
+    JsonPatchException,
+    JsonPatchTestFailed,
+    JsonPointerException,
+    NumberNotWhole,
+    OverLimit,
+)
+from .patch import JsonPatch, apply_patch, merge_patch, record_patch
+from .pointer import EndOfList, JsonPointer, resolve_pointer, set_pointer
+
+__all__ = [
+    "Document",
+    "EndOfList",
+    "InvalidJsonPatch",
+    "JsonPatch",
+    "JsonPatchConflict",
+    "JsonPatchException",
+    "JsonPatchTestFailed",
+    "JsonPointer",
+    "JsonPointerException",
+    "NumberNotWhole",
+    "OverLimit",
+    "__version__",
+    "apply_patch",
+    "merge_patch",
+    "record_patch",
+    "resolve_pointer",
+    "set_pointer",
+]

@@ -1,0 +1,68 @@
+"""The library's calls, made: room for what they write, and an exception for each status."""
+from __future__ import annotations
+
+import ctypes
+import json
+from typing import Any, Callable, Optional
+
+from ._library import CLOSED, LIBRARY, NO_DOCUMENT, NO_MEMORY, NO_ROOM, OK, REFUSED, Report
+from .errors import KINDS, NOT_A_LIST, JsonPatchException, NumberNotWhole, _LeadsNowhere, _TestsNothing
+
+
+def _of_document(kind: str, error: type) -> Exception:
+    made = NumberNotWhole if error is NumberNotWhole else JsonPatchException
+    return made(f"document: {kind}", kind=kind)
+
+
+def fault(status: int, report: Report, path: Optional[str] = None, patch: bytes = b"") -> Exception:
+    """The exception for a status of a call that was handed the text of this patch."""
+    if status == NO_MEMORY:
+        return MemoryError("out of memory")
+    if status == CLOSED:
+        return ValueError("the document is closed")
+    kind, error = KINDS[report.kind]
+    if status == NO_DOCUMENT:
+        return _of_document(kind, error)
+    if status == REFUSED:
+        if error is _LeadsNowhere and json.loads(patch)[report.operation]["op"] == "test":
+            error = _TestsNothing
+        told = f"operation {report.operation} failed at path {path!r}: {kind}"
+        return error(told, operation=report.operation, kind=kind, path=path)
+    if report.kind <= NOT_A_LIST:
+        return error(f"patch: {kind}", kind=kind)
+    return error(f"patch: operation {report.operation}: {kind}", operation=report.operation, kind=kind)
+
+
+def called(call: Callable[..., int], document: bytes, patch: bytes) -> bytes:
+    """The text that a call makes of two others."""
+    texts = document, len(document), patch, len(patch)
+    return written(lambda *out: call(*texts, *out), len(document) + len(patch) + 64, patch)
+
+
+def written(call: Callable[..., int], room: int, patch: bytes = b"") -> bytes:
+    """What a call writes, which is handed a buffer, its length and a report. It is made again only
+    where it wrote nothing for want of room, and so changed nothing."""
+    report = Report()
+    while True:
+        out = ctypes.create_string_buffer(room)
+        status = call(out, room, report)
+        if status == OK:
+            return ctypes.string_at(out, report.size)
+        # a text, or the path of a refusal, for which there was no room
+        if status == NO_ROOM or report.size > room:
+            room = report.size
+            continue
+        raise fault(status, report, ctypes.string_at(out, report.size).decode(), patch)
+
+
+def succeed(call: Callable[..., int], *arguments: Any) -> None:
+    """Makes a call that writes nothing but its report."""
+    report = Report()
+    status = call(*arguments, report)
+    if status != OK:
+        raise fault(status, report)
+
+
+def expect_patch(text: bytes) -> None:
+    """Raises why a text is no patch."""
+    succeed(LIBRARY.json_patch_check, text, len(text))

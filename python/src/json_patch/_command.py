@@ -1,0 +1,253 @@
+"""The command json-patch: patches on files."""
+from __future__ import annotations
+
+import argparse
+import json
+import os
+import signal
+import sys
+from contextlib import contextmanager
+from typing import Callable, Dict, Iterator, List, NoReturn, Optional, Union
+
+from . import _files
+from ._calls import expect_patch
+from ._texts import indented, value_of
+from ._version import __version__
+from .document import Document
+from .errors import JsonPatchConflict, JsonPatchException, JsonPatchTestFailed, JsonPointerException, OverLimit
+
+REFUSED, UNREADABLE, NO_MEMORY, UNWRITABLE, USAGE = 1, 2, 3, 4, 64
+
+_EPILOG = """\
+DOCUMENT and PATCH are names of files, or - for standard input. The result goes to standard output, as
+one line of compact JSON in UTF-8, or indented; with --in-place it takes the place of DOCUMENT, by a new
+file that is written beside it and renamed over it, so that DOCUMENT has the old content or the new one
+whenever the command is stopped.
+
+exit status:
+  0   done
+  1   the patch is refused, or the pointer leads nowhere: nothing is changed
+  2   DOCUMENT, PATCH or POINTER can't be read, or isn't one
+  3   out of memory
+  4   the output can't be written
+  64  the command line is none of those above
+"""
+
+
+class _Failure(Exception):
+    """What the command ends with: a status, and the line that says why."""
+
+    def __init__(self, status: int, told: str) -> None:
+        super().__init__(told)
+        self.status = status
+
+
+class _Parser(argparse.ArgumentParser):
+    def error(self, message: str) -> NoReturn:
+        self.exit(USAGE, f"{self.prog}: {message} (see {self.prog} --help)\n")
+
+
+def _parser() -> argparse.ArgumentParser:
+    parser = _Parser(
+        prog="json-patch",
+        description="Makes JSON patches (RFC 6902) and JSON merge patches (RFC 7396) on files.",
+        epilog=_EPILOG,
+        formatter_class=argparse.RawDescriptionHelpFormatter,
+    )
+    parser.add_argument("-v", "--version", action="version", version=f"json-patch {__version__}")
+    commands = parser.add_subparsers(dest="command", metavar="COMMAND", required=True)
+
+    def command(name: str, told: str) -> argparse.ArgumentParser:
+        made: argparse.ArgumentParser = commands.add_parser(name, help=told, description=f"{told[0].upper()}{told[1:]}.")
+        return made
+
+    for name, told in (
+        ("apply", "write what a patch leaves of a document"),
+        ("merge", "write a document with a merge patch merged into it"),
+        ("record", "apply a patch, and write the patch that leads back to another file"),
+    ):
+        changing = command(name, told)
+        changing.add_argument("document", metavar="DOCUMENT", help="the document's file, or -")
+        if name == "record":
+            changing.add_argument("patch", metavar="PATCH", help="the patch's file, or -")
+            changing.add_argument("inverse", metavar="INVERSE", help="the file for the patch that leads back")
+        else:
+            changing.add_argument("patch", metavar="PATCH", nargs="?", default="-", help="the patch's file, or -")
+        changing.add_argument("-i", "--in-place", action="store_true", help="change DOCUMENT itself")
+        changing.add_argument("-b", "--backup", action="store_true", help="with -i, keep the old one as DOCUMENT.orig")
+        _add_output(changing)
+    getting = command("get", "write what stands where a pointer leads in a document")
+    getting.add_argument("document", metavar="DOCUMENT", help="the document's file, or -")
+    getting.add_argument("pointer", metavar="POINTER", help="a JSON pointer (RFC 6901), such as /rows/0")
+    _add_output(getting)
+    checking = command("check", "say whether a file is a patch, and write nothing")
+    checking.add_argument("patch", metavar="PATCH", nargs="?", default="-", help="the patch's file, or -")
+    return parser
+
+
+def _add_output(parser: argparse.ArgumentParser) -> None:
+    parser.add_argument("--indent", type=_spaces, metavar="N", help="write each item on a line, indented by N spaces")
+    parser.add_argument("-u", "--preserve-unicode", action="store_true", help="as it always is: no character is escaped")
+
+
+def _spaces(text: str) -> int:
+    if not text.isdecimal() or int(text) > 100:
+        raise argparse.ArgumentTypeError(f"{text!r} is no number of spaces")
+    return int(text)
+
+
+def _shown(name: str) -> str:
+    """A file's name in one line, and of characters that a terminal shows."""
+    if name == _files.STANDARD:
+        return "standard input"
+    return name if name.isprintable() else repr(name)
+
+
+def _read(name: str) -> bytes:
+    try:
+        return _files.read(name)
+    except OSError as error:
+        raise _Failure(UNREADABLE, f"{_shown(name)}: {error.strerror}") from error
+
+
+def _writing(name: str, write: Callable[[], None]) -> None:
+    try:
+        write()
+    except OSError as error:
+        raise _Failure(UNWRITABLE, f"{name}: {error.strerror}") from error
+
+
+@contextmanager
+def _at_fault(name: str) -> Iterator[None]:
+    """What is raised in the block is told of this file, in one line."""
+    try:
+        yield
+    except (JsonPatchException, JsonPointerException) as error:
+        refused = isinstance(error, (JsonPatchConflict, JsonPatchTestFailed, OverLimit)) or error.kind == "Nothing"
+        raise _Failure(REFUSED if refused else UNREADABLE, _one_line(error, name)) from error
+
+
+def _one_line(error: Union[JsonPatchException, JsonPointerException], name: str) -> str:
+    """The file, the operation's number, the path and the kind."""
+    told = [_shown(name)]
+    if error.operation is not None:
+        told.append(f"operation {error.operation}")
+    if error.path is not None:
+        told.append(f"path {json.dumps(error.path)}")
+    return ": ".join([*told, str(error.kind)])
+
+
+def _as_asked(text: bytes, asked: argparse.Namespace) -> bytes:
+    """A text of the library's as it is to be written: a line, or indented."""
+    if asked.indent is None:
+        return text + b"\n"
+    with _at_fault(asked.document):
+        return indented(value_of(text), asked.indent) + b"\n"
+
+
+def _opened(asked: argparse.Namespace) -> Document:
+    text = _read(asked.document)
+    with _at_fault(asked.document):
+        return Document.from_string(text)
+
+
+def _put(kept: Document, asked: argparse.Namespace) -> None:
+    content = _as_asked(kept.to_string().encode(), asked)
+    if asked.in_place:
+        _writing(_shown(asked.document), lambda: _files.replace(asked.document, content, asked.backup))
+    else:
+        _show(content)
+
+
+def _show(content: bytes) -> None:
+    _writing("standard output", lambda: _files.write_to(1, content))
+
+
+def _apply(asked: argparse.Namespace) -> None:
+    with _opened(asked) as kept:
+        patch = _read(asked.patch)
+        with _at_fault(asked.patch):
+            kept.apply(patch)
+        _put(kept, asked)
+
+
+def _merge(asked: argparse.Namespace) -> None:
+    with _opened(asked) as kept:
+        patch = _read(asked.patch)
+        with _at_fault(asked.patch):
+            kept._merge_text(patch)
+        _put(kept, asked)
+
+
+def _record(asked: argparse.Namespace) -> None:
+    """The inverse is written first: where that fails, the document stays."""
+    with _opened(asked) as kept:
+        patch = _read(asked.patch)
+        with _at_fault(asked.patch):
+            inverse = kept._record_text(patch)
+        _writing(_shown(asked.inverse), lambda: _files.replace(asked.inverse, inverse + b"\n"))
+        _put(kept, asked)
+
+
+def _get(asked: argparse.Namespace) -> None:
+    with _opened(asked) as kept:
+        with _at_fault(asked.document):
+            found = kept._text_at(asked.pointer)
+        _show(_as_asked(found, asked))
+
+
+def _check(asked: argparse.Namespace) -> None:
+    patch = _read(asked.patch)
+    with _at_fault(asked.patch):
+        expect_patch(patch)
+
+
+_COMMANDS: Dict[str, Callable[[argparse.Namespace], None]] = {
+    "apply": _apply,
+    "merge": _merge,
+    "record": _record,
+    "get": _get,
+    "check": _check,
+}
+
+
+def _is_same_file(first: str, second: str) -> bool:
+    there = os.path.exists(first) and os.path.exists(second)
+    return os.path.samefile(first, second) if there else os.path.realpath(first) == os.path.realpath(second)
+
+
+def _why_none(asked: argparse.Namespace) -> Optional[str]:
+    """Why what is asked for can't be, or None."""
+    has = vars(asked)
+    if has.get("document") == _files.STANDARD and has.get("patch") == _files.STANDARD:
+        return "DOCUMENT and PATCH can't both be standard input"
+    if has.get("in_place") and asked.document == _files.STANDARD:
+        return "--in-place needs a file for DOCUMENT"
+    if has.get("backup") and not asked.in_place:
+        return "--backup needs --in-place"
+    if "inverse" in has and asked.inverse == _files.STANDARD:
+        return "INVERSE is the name of a file"
+    if "inverse" in has and any(_is_same_file(asked.inverse, name) for name in (asked.document, asked.patch)):
+        return "INVERSE can't be DOCUMENT or PATCH"
+    return None
+
+
+def main(arguments: Optional[List[str]] = None) -> int:
+    """Does what the command line asks for, and returns the status."""
+    # as a program that isn't Python's ends: at once, and without a word
+    signal.signal(signal.SIGPIPE, signal.SIG_DFL)
+    signal.signal(signal.SIGINT, signal.SIG_DFL)
+    parser = _parser()
+    asked = parser.parse_args(arguments)
+    why = _why_none(asked)
+    if why:
+        parser.error(why)
+    try:
+        _COMMANDS[asked.command](asked)
+    except _Failure as failure:
+        print(f"json-patch: {failure}", file=sys.stderr)
+        return failure.status
+    except MemoryError:
+        print("json-patch: out of memory", file=sys.stderr)
+        return NO_MEMORY
+    return 0

@@ -1,0 +1,82 @@
+"""libjson_patch.so, with what json_patch.h declares: the calls, the report, the handle and the
+statuses.
+
+The library is looked for where the environment variable JSON_PATCH_LIBRARY says, beside this file, and
+where the system looks."""
+from __future__ import annotations
+
+import ctypes
+import os
+from pathlib import Path
+from typing import Any, Dict, List
+
+from ._processor import lacking
+from ._version import __version__
+
+OK, REFUSED, NO_DOCUMENT, NO_PATCH, NO_MEMORY, NO_ROOM, CLOSED, NO_POINTER, NOTHING = range(9)
+
+
+class Report(ctypes.Structure):
+    """What a call tells beside its status."""
+
+    size: int
+    operation: int
+    kind: int
+    _fields_ = [("size", ctypes.c_size_t), ("operation", ctypes.c_size_t), ("kind", ctypes.c_uint8)]
+
+
+class Handle(ctypes.Structure):
+    """Where the library keeps a document."""
+
+    _fields_ = [("at", ctypes.c_void_p)]
+
+
+_TEXT: List[Any] = [ctypes.c_char_p, ctypes.c_size_t]
+_HANDLE: List[Any] = [ctypes.POINTER(Handle)]
+# what each call is handed before its report
+_CALLS: Dict[str, List[Any]] = {
+    "apply": [*_TEXT, *_TEXT, *_TEXT],
+    "record": [*_TEXT, *_TEXT, *_TEXT],
+    "merge": [*_TEXT, *_TEXT, *_TEXT],
+    "check": _TEXT,
+    "open": [*_HANDLE, *_TEXT],
+    "update": [*_HANDLE, *_TEXT, *_TEXT],
+    "update_recorded": [*_HANDLE, *_TEXT, *_TEXT],
+    "update_merged": [*_HANDLE, *_TEXT],
+    "inverse": [*_HANDLE, *_TEXT],
+    "text": [*_HANDLE, *_TEXT],
+    "text_at": [*_HANDLE, *_TEXT, *_TEXT],
+}
+
+
+def _place() -> str:
+    said = os.environ.get("JSON_PATCH_LIBRARY")
+    beside = Path(__file__).resolve().parent / "libjson_patch.so"
+    return said or (str(beside) if beside.exists() else f"libjson_patch.so.{__version__.split('.')[0]}")
+
+
+def _loaded() -> ctypes.CDLL:
+    """The library. An ImportError says why it can't be used here."""
+    if lacking():
+        raise ImportError(f"json_patch needs a processor with x86-64-v2, and this one lacks {', '.join(lacking())}")
+    try:
+        library = ctypes.CDLL(_place())
+        library.json_patch_version.restype = ctypes.c_char_p
+        version = library.json_patch_version().decode()
+    except (OSError, AttributeError) as error:
+        raise ImportError(f"json_patch can't load its library: {error}") from error
+    if version != __version__:
+        raise ImportError(f"json_patch {__version__} can't use {_place()}, which is version {version}")
+    return library
+
+
+def _declared(library: ctypes.CDLL) -> ctypes.CDLL:
+    for name, arguments in _CALLS.items():
+        call = getattr(library, f"json_patch_{name}")
+        call.argtypes = [*arguments, ctypes.POINTER(Report)]
+        call.restype = ctypes.c_uint8
+    library.json_patch_close.argtypes, library.json_patch_close.restype = _HANDLE, None
+    return library
+
+
+LIBRARY = _declared(_loaded())

@@ -1,0 +1,134 @@
+"""Documents that the library keeps."""
+from __future__ import annotations
+
+import threading
+import warnings
+from types import TracebackType
+from typing import Any, Callable, Optional, Type, Union
+
+from ._calls import succeed, written
+from ._library import LIBRARY, NO_POINTER, NOTHING, Handle
+from ._texts import as_bytes, document_text, merge_patch_text, patch_text, value_of
+from .errors import JsonPointerException
+from .patch import JsonPatch, Patch
+
+
+class _Here(threading.local):
+    """What a thread is told by: `thread` is an object of its own. A thread's number is given to another
+    when it has ended, and no other object is this one while it is kept."""
+
+    def __init__(self) -> None:
+        self.thread = object()
+
+
+_HERE = _Here()
+
+
+class Document:
+    """A document that the library keeps, so that a change takes the time that it wants, and not
+    that of reading and writing the whole. It is a context manager, and closed at its end. It stays
+    on the thread that made it: on another each call raises RuntimeError, and the memory of one that
+    goes there without being closed isn't given back.
+
+    >>> with Document({"a": 1, "b": [2]}) as document:
+    ...     inverse = document.record([{"op": "move", "from": "/b/0", "path": "/a"}])
+    ...     print(document, inverse)
+    ...     document.merge({"b": None})
+    ...     document.get()
+    {"a":2,"b":[]} [{"op": "replace", "path": "/a", "value": 1}, {"op": "add", "path": "/b/0", "value": 2}]
+    {'a': 2}
+    """
+
+    def __init__(self, document: Any) -> None:
+        self._open(document_text(document))
+
+    @classmethod
+    def from_string(cls, document_str: Union[str, bytes]) -> Document:
+        """The document that a JSON text says."""
+        made = cls.__new__(cls)
+        made._open(as_bytes(document_str))
+        return made
+
+    def _open(self, text: bytes) -> None:
+        handle = Handle()
+        succeed(LIBRARY.json_patch_open, handle, text, len(text))
+        self._opened, self._thread, self._is_open = handle, _HERE.thread, True
+
+    @property
+    def _handle(self) -> Handle:
+        if self._thread is not _HERE.thread:
+            raise RuntimeError("the document is kept on another thread")
+        return self._opened
+
+    def _updated(self, call: Callable[..., int], patch: Patch) -> None:
+        if isinstance(patch, (str, bytes)):
+            text = as_bytes(patch)
+        else:
+            text = patch_text(patch.patch if isinstance(patch, JsonPatch) else patch)
+        written(lambda *out: call(self._handle, text, len(text), *out), len(text) + 64, text)
+
+    def apply(self, patch: Patch) -> None:
+        """Changes the document by a list of operations, a JSON text or a JsonPatch, or not at all."""
+        self._updated(LIBRARY.json_patch_update, patch)
+
+    def record(self, patch: Patch) -> JsonPatch:
+        """The same, and returns the JsonPatch that leads back."""
+        return JsonPatch._of_library(value_of(self._record_text(patch)))
+
+    def _record_text(self, patch: Patch) -> bytes:
+        self._updated(LIBRARY.json_patch_update_recorded, patch)
+        return self._read(LIBRARY.json_patch_inverse)
+
+    def merge(self, patch: Any) -> None:
+        """Merges a merge patch, which is any object and no text of one, into the document."""
+        self._merge_text(merge_patch_text(patch))
+
+    def _merge_text(self, text: bytes) -> None:
+        succeed(LIBRARY.json_patch_update_merged, self._handle, text, len(text))
+
+    def get(self, pointer: str = "") -> Any:
+        """What stands where a JSON pointer leads; JsonPointerException, where nothing does."""
+        return value_of(self._text_at(pointer))
+
+    def _text_at(self, pointer: str) -> bytes:
+        text = as_bytes(pointer)
+
+        def call(*out: Any) -> int:
+            status: int = LIBRARY.json_patch_text_at(self._handle, text, len(text), *out)
+            if status in (NO_POINTER, NOTHING):
+                kind = "NoPointer" if status == NO_POINTER else "Nothing"
+                raise JsonPointerException(f"pointer {pointer!r}: {kind}", kind=kind, path=pointer)
+            return status
+
+        return written(call, 256)
+
+    def to_string(self) -> str:
+        """The document as a JSON text."""
+        return self._read(LIBRARY.json_patch_text).decode()
+
+    def _read(self, call: Callable[..., int]) -> bytes:
+        return written(lambda *out: call(self._handle, *out), 256)
+
+    def close(self) -> None:
+        """Gives the document's memory back. From then on each call raises ValueError."""
+        LIBRARY.json_patch_close(self._handle)
+        self._is_open = False
+
+    def __str__(self) -> str:
+        return self.to_string()
+
+    def __enter__(self) -> Document:
+        return self
+
+    def __exit__(
+        self, raised: Optional[Type[BaseException]], error: Optional[BaseException], frames: Optional[TracebackType]
+    ) -> None:
+        self.close()
+
+    def __del__(self) -> None:
+        if not getattr(self, "_is_open", False):
+            return
+        if self._thread is _HERE.thread:
+            self.close()
+        else:
+            warnings.warn("a document wasn't closed on its thread", ResourceWarning, source=self)

@@ -1,0 +1,102 @@
+"""What the calls raise, and what each exception tells."""
+from __future__ import annotations
+
+from typing import Dict, Optional, Tuple, Type
+
+
+class _Told(Exception):
+    """An exception that tells more than its message: `kind` names what went wrong, `operation` is the
+    number of the operation at fault, from 0, and `path` its path. Those that don't apply are None."""
+
+    def __init__(
+        self,
+        *message: object,
+        operation: Optional[int] = None,
+        kind: Optional[str] = None,
+        path: Optional[str] = None,
+    ) -> None:
+        super().__init__(*message)
+        self.operation, self.kind, self.path = operation, kind, path
+
+
+class JsonPatchException(_Told):
+    """What goes wrong with a document or a patch."""
+
+
+class InvalidJsonPatch(JsonPatchException):
+    """The patch isn't one, whatever the document."""
+
+
+class JsonPatchConflict(JsonPatchException):
+    """An operation can't be made on this document."""
+
+
+class JsonPatchTestFailed(JsonPatchException, AssertionError):
+    """Another value stands where a `test` looks, or none."""
+
+
+class JsonPointerException(_Told):
+    """A pointer isn't one, or leads nowhere."""
+
+
+class NumberNotWhole(JsonPatchException, ValueError):
+    """A number has a fraction or an exponent, is minus zero, or past 64 bits (but for a whole one past
+    a float's range, which is no JSON), or is nan or infinite."""
+
+
+class OverLimit(JsonPatchException):
+    """What a call would make nests too deep."""
+
+
+# jsonpatch raises one or the other by where on the way a pointer leads nowhere: both catch these.
+class _LeadsNowhere(JsonPatchConflict, JsonPointerException):
+    pass
+
+
+# It raises JsonPatchTestFailed where that is the pointer of a `test`.
+class _TestsNothing(_LeadsNowhere, JsonPatchTestFailed):
+    pass
+
+
+# It leaves what json.loads raises, a ValueError.
+class _NoPatchText(InvalidJsonPatch, ValueError):
+    pass
+
+
+class _InvalidPointer(InvalidJsonPatch, JsonPointerException):
+    pass
+
+
+class _InvalidNumber(InvalidJsonPatch, NumberNotWhole):
+    pass
+
+
+# jsonpointer leaves what a list raises that is assigned to past its end, an IndexError.
+class _PastTheEnd(JsonPointerException, IndexError):
+    pass
+
+
+# the kinds of json_patch.h, and what is raised for each
+KINDS: Dict[int, Tuple[str, Type[_Told]]] = {
+    1: ("NotJson", _NoPatchText),
+    2: ("NotWhole", NumberNotWhole),
+    3: ("TestFailed", JsonPatchTestFailed),
+    4: ("InvalidFromPointer", _LeadsNowhere),
+    5: ("InvalidPointer", _LeadsNowhere),
+    6: ("CannotMoveInsideItself", _LeadsNowhere),
+    11: ("NotAList", InvalidJsonPatch),
+    12: ("NotAnObject", InvalidJsonPatch),
+    13: ("MissingOp", InvalidJsonPatch),
+    14: ("OpNotText", InvalidJsonPatch),
+    15: ("UnknownOp", InvalidJsonPatch),
+    16: ("MissingFrom", InvalidJsonPatch),
+    17: ("FromNotText", InvalidJsonPatch),
+    18: ("BadFrom", _InvalidPointer),
+    19: ("MissingPath", InvalidJsonPatch),
+    20: ("PathNotText", InvalidJsonPatch),
+    21: ("BadPath", _InvalidPointer),
+    22: ("MissingValue", InvalidJsonPatch),
+    23: ("ValueNotWhole", _InvalidNumber),
+}
+# up to this kind a patch is at fault as a whole, and after it by one of its operations
+NOT_A_LIST = 11

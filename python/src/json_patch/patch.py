@@ -1,0 +1,135 @@
+"""Patches, and the calls that make them on Python's objects."""
+from __future__ import annotations
+
+import json
+from typing import Any, Callable, Iterator, List, Mapping, Optional, Sequence, Tuple, Union
+
+from ._calls import called, expect_patch
+from ._in_place import changed
+from ._library import LIBRARY
+from ._texts import as_bytes, document_text, merge_patch_text, not_too_deep, patch_text, pointer_path, value_of
+
+Operation = Mapping[str, Any]
+# what is read as a patch: operations, a JSON text, or a JsonPatch
+Patch = Union["JsonPatch", str, bytes, Sequence[Operation]]
+
+
+class JsonPatch:
+    """A list of operations, in `patch`.
+
+    >>> patch = JsonPatch([{"op": "add", "path": "/a/-", "value": 3}])
+    >>> patch.apply({"a": [1, 2]})
+    {'a': [1, 2, 3]}
+    >>> JsonPatch([{"op": "add", "path": "a"}])
+    Traceback (most recent call last):
+        ...
+    json_patch.errors._InvalidPointer: patch: operation 0: BadPath
+    """
+
+    def __init__(self, patch: Union[JsonPatch, Sequence[Operation]]) -> None:
+        operations = patch.patch if isinstance(patch, JsonPatch) else patch
+        expect_patch(patch_text(operations))
+        self.patch: List[Any] = operations if isinstance(operations, list) else list(operations)
+
+    @classmethod
+    def from_string(cls, patch_str: Union[str, bytes], loads: Optional[Callable[[Any], Any]] = None) -> JsonPatch:
+        """The patch that a JSON text says, read by the library, or by `loads`."""
+        return cls((loads or cls.json_loader)(patch_str))
+
+    @staticmethod
+    def json_loader(patch_str: Union[str, bytes]) -> Any:
+        """The operations of a text, of which the library says whether it is a patch."""
+        text = as_bytes(patch_str)
+        expect_patch(text)
+        return json.loads(text)
+
+    @staticmethod
+    def json_dumper(value: Any) -> str:
+        with not_too_deep("patch"):
+            return json.dumps(value, default=pointer_path)
+
+    @classmethod
+    def _of_library(cls, operations: List[Any]) -> JsonPatch:
+        """Of operations that the library wrote: they may nest deeper than it reads."""
+        made = cls.__new__(cls)
+        made.patch = operations
+        return made
+
+    def to_string(self, dumps: Optional[Callable[[Any], str]] = None) -> str:
+        """The patch as a JSON text."""
+        return (dumps or self.json_dumper)(self.patch)
+
+    def apply(self, obj: Any, in_place: bool = False) -> Any:
+        """What the patch leaves of an object, which stays as it is. With `in_place` it is the object
+        itself that is changed, and returned; a document that is no list or dict can't be.
+
+        >>> document = {"a": [1]}
+        >>> rows = document["a"]
+        >>> JsonPatch([{"op": "add", "path": "/a/-", "value": 2}]).apply(document, in_place=True) is document
+        True
+        >>> rows
+        [1, 2]
+        """
+        document, patch = document_text(obj), patch_text(self.patch)
+        made = called(LIBRARY.json_patch_apply, document, patch)
+        return changed(obj, patch, made) if in_place else value_of(made)
+
+    def record(self, obj: Any) -> Tuple[Any, JsonPatch]:
+        """What the patch leaves of an object, and the patch that leads back.
+
+        >>> JsonPatch([{"op": "remove", "path": "/a"}]).record({"a": 1})
+        ({}, JsonPatch([{'op': 'add', 'path': '/a', 'value': 1}]))
+        """
+        texts = document_text(obj), patch_text(self.patch)
+        made, inverse = value_of(called(LIBRARY.json_patch_record, *texts))
+        return made, JsonPatch._of_library(inverse)
+
+    def _key(self) -> str:
+        """What two patches share that are equal: the order of members is none of it."""
+        return json.dumps(value_of(patch_text(self.patch)), sort_keys=True)
+
+    def __eq__(self, other: object) -> bool:
+        return isinstance(other, JsonPatch) and self._key() == other._key()
+
+    def __hash__(self) -> int:
+        return hash(self._key())
+
+    def __bool__(self) -> bool:
+        return bool(self.patch)
+
+    def __iter__(self) -> Iterator[Any]:
+        return iter(self.patch)
+
+    def __len__(self) -> int:
+        return len(self.patch)
+
+    def __str__(self) -> str:
+        return self.to_string()
+
+    def __repr__(self) -> str:
+        return f"JsonPatch({self.patch!r})"
+
+
+def _as_patch(patch: Patch) -> JsonPatch:
+    if isinstance(patch, JsonPatch):
+        return patch
+    return JsonPatch.from_string(patch) if isinstance(patch, (str, bytes)) else JsonPatch(patch)
+
+
+def apply_patch(doc: Any, patch: Patch, in_place: bool = False) -> Any:
+    """What a patch, as a list of operations, a JSON text or a JsonPatch, leaves of a document."""
+    return _as_patch(patch).apply(doc, in_place)
+
+
+def record_patch(doc: Any, patch: Patch) -> Tuple[Any, JsonPatch]:
+    """What a patch leaves of a document, and the JsonPatch that leads back."""
+    return _as_patch(patch).record(doc)
+
+
+def merge_patch(doc: Any, patch: Any) -> Any:
+    """A document with a merge patch (RFC 7396) merged into it.
+
+    >>> merge_patch({"a": 1, "b": 2}, {"a": None, "c": [3]})
+    {'b': 2, 'c': [3]}
+    """
+    return value_of(called(LIBRARY.json_patch_merge, document_text(doc), merge_patch_text(patch)))

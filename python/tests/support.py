@@ -1,0 +1,45 @@
+"""What the tests share."""
+import json
+import threading
+from pathlib import Path
+
+from json_patch import apply_patch, merge_patch, record_patch
+
+C = Path(__file__).resolve().parents[2] / "c"
+ROWS = json.loads((C / "cases.json").read_text(encoding="utf-8"))
+CALLS = {"apply": apply_patch, "record": record_patch, "merge": merge_patch}
+OK, REFUSED = 0, 1
+
+NOT_WHOLE = (1.5, 1.0, -0.0, 1e-400, 2**64, -(2**63) - 1, 10**308, float("nan"), float("inf"), -1e400)
+PAST_FLOATS = (10**309, 10**400, -(10**400), 10**5000)
+
+
+def nested(levels):
+    """A list in a list and so on."""
+    made = []
+    for _ in range(levels - 1):
+        made = [made]
+    return made
+
+
+def holding_itself():
+    items = []
+    items.append(items)
+    return items
+
+
+def on_another_thread(call):
+    """What a call raises there, or what it answers."""
+    told = []
+
+    def run():
+        try:
+            told.append(call())
+        except Exception as error:
+            # without the frames, which hold what the call was made on
+            told.append(error.with_traceback(None))
+
+    thread = threading.Thread(target=run)
+    thread.start()
+    thread.join()
+    return told[0]

@@ -1,0 +1,172 @@
+"""The command json-patch, through a shell: what it writes, how it ends, and what it leaves."""
+import json
+import os
+import shutil
+import signal
+import stat
+import subprocess
+import sys
+import tempfile
+import unittest
+from pathlib import Path
+
+import json_patch
+
+MODULE = f"'{sys.executable}' -m json_patch"
+# where the package is installed there is a program, too
+COMMAND = shutil.which("json-patch") or MODULE
+DOCUMENT = '{ "b": [1, 2], "a": "\\u00e9" }'
+PATCH = '[{"op": "move", "from": "/b/0", "path": "/c"}]'
+PATCHED = '{"a":"\u00e9","b":[2],"c":1}\n'
+INVERSE = [{"op": "remove", "path": "/c"}, {"op": "add", "path": "/b/0", "value": 1}]
+
+
+class Command(unittest.TestCase):
+    def setUp(self):
+        self.folder = Path(tempfile.mkdtemp())
+        self.addCleanup(shutil.rmtree, self.folder)
+        self.write("d.json", DOCUMENT)
+        self.write("p.json", PATCH)
+
+    def write(self, name, text):
+        (self.folder / name).write_text(text, encoding="utf-8")
+
+    def text(self, name):
+        return (self.folder / name).read_text(encoding="utf-8")
+
+    def run_lines(self, lines):
+        """What a shell's lines write, and the status of the last."""
+        lines = f"json-patch() {{ {COMMAND} \"$@\"; }}\n{lines}"
+        done = subprocess.run(["bash", "-c", lines], cwd=self.folder, capture_output=True, timeout=60)
+        return done.stdout.decode(), done.stderr.decode(), done.returncode
+
+    def assertDoes(self, lines, written=""):
+        self.assertEqual(self.run_lines(lines), (written, "", 0), lines)
+
+    def assertEnds(self, status, told, lines):
+        """It ends with a status, one line on standard error and nothing written, and the document stays."""
+        self.assertEqual(self.run_lines(lines), ("", f"json-patch: {told}\n", status), lines)
+        self.assertEqual(self.text("d.json"), DOCUMENT)
+        self.assertEqual([path.name for path in self.folder.iterdir() if path.name[0] == "."], [])
+
+    def test_apply(self):
+        self.assertDoes("json-patch apply d.json p.json", PATCHED)
+        self.assertDoes("json-patch apply d.json - < p.json", PATCHED)
+        self.assertDoes("json-patch apply d.json < p.json", PATCHED)
+        self.assertDoes("cat d.json | json-patch apply - p.json", PATCHED)
+        self.assertDoes("json-patch apply -u d.json p.json", PATCHED)
+        self.assertDoes(f"{MODULE} apply d.json p.json", PATCHED)
+        self.assertDoes("json-patch apply --indent 2 d.json p.json", json.dumps(json.loads(PATCHED), indent=2, ensure_ascii=False) + "\n")
+
+    def test_merge(self):
+        self.write("m.json", '{"a": null, "d": {"e": null}}')
+        self.assertDoes("json-patch merge d.json m.json", '{"b":[1,2],"d":{}}\n')
+
+    def test_record(self):
+        self.assertDoes("json-patch record d.json p.json inverse.json", PATCHED)
+        self.assertEqual(json.loads(self.text("inverse.json")), INVERSE)
+        self.assertDoes("json-patch record -i d.json p.json inverse.json && json-patch apply d.json inverse.json", '{"a":"\u00e9","b":[1,2]}\n')
+
+    def test_get(self):
+        self.assertDoes("json-patch get d.json /b", "[1,2]\n")
+        self.assertDoes("json-patch get - '' < d.json", '{"a":"\u00e9","b":[1,2]}\n')
+        self.assertEnds(1, 'd.json: path "/b/2": Nothing', "json-patch get d.json /b/2")
+        self.assertEnds(2, 'd.json: path "b": NoPointer', "json-patch get d.json b")
+
+    def test_check(self):
+        self.assertDoes("json-patch check p.json")
+        self.assertDoes("json-patch check < p.json")
+        self.write("p.json", '[{"op": "remove", "path": ""}, {"op": "add"}]')
+        self.assertEnds(2, "p.json: operation 1: MissingPath", "json-patch check p.json")
+
+    def test_in_place(self):
+        (self.folder / "d.json").chmod(0o640)
+        (self.folder / "link").symlink_to("d.json")
+        self.assertDoes("json-patch apply --in-place --backup link p.json")
+        self.assertEqual((self.text("d.json"), self.text("d.json.orig")), (PATCHED, DOCUMENT))
+        self.assertEqual(stat.S_IMODE((self.folder / "d.json").stat().st_mode), 0o640)
+        self.assertTrue((self.folder / "link").is_symlink())
+        self.assertDoes("echo '{\"a\": null}' | json-patch merge -i --indent 1 d.json")
+        self.assertEqual(self.text("d.json"), '{\n "b": [\n  2\n ],\n "c": 1\n}\n')
+        self.assertEqual({path.name for path in self.folder.iterdir()}, {"d.json", "d.json.orig", "link", "p.json"})
+
+    def test_refused(self):
+        self.write("p.json", '[{"op": "test", "path": "/a", "value": "\u00e9"}, {"op": "remove", "path": "/c\\n\u00e9"}]')
+        told = 'p.json: operation 1: path "/c\\n\\u00e9": InvalidPointer'
+        for options in ("", "-i", "-ib"):
+            self.assertEnds(1, told, f"json-patch apply {options} d.json p.json")
+        self.assertEnds(1, told, "json-patch record -i d.json p.json inverse.json")
+        self.assertFalse((self.folder / "inverse.json").exists())
+        self.write("p.json", '[{"op": "test", "path": "/a", "value": 1}]')
+        self.assertEnds(1, 'standard input: operation 0: path "/a": TestFailed', "json-patch apply d.json < p.json")
+
+    def test_unreadable(self):
+        self.write("bad", "[1.5")
+        self.write("half", "[1.5]")
+        self.write("line\nfeed", "7")
+        for told, arguments in (
+            ("none: No such file or directory", "apply none p.json"), (".: Is a directory", "apply d.json ."),
+            ("bad: NotJson", "apply bad p.json"), ("half: NotWhole", "apply half p.json"),
+            ("bad: NotJson", "apply d.json bad"), ("half: operation 0: NotAnObject", "apply d.json half"),
+            ("'line\\nfeed': NotAList", "apply d.json line*"), ("half: NotWhole", "merge d.json half"),
+            ("d.json: NotAList", "record d.json d.json i"), ("bad: NotJson", "get bad /a"), ("half: operation 0: NotAnObject", "check half"),
+        ):
+            self.assertEnds(2, told, f"json-patch {arguments}")
+
+    def test_usage(self):
+        for arguments in (
+            "", "spam", "apply", "get d.json", "apply - -", "apply -", "apply -i - p.json", "apply -b d.json p.json", "apply --indent x d.json p.json",
+            "apply --indent -1 d.json p.json", "record d.json p.json", "record d.json p.json d.json", "record d.json p.json ./p.json",
+            "record d.json p.json -", "check a b", "apply --spam d.json p.json",
+        ):
+            written, told, status = self.run_lines(f"json-patch {arguments} < p.json")
+            self.assertEqual((written, told.count("\n"), status), ("", 1, 64), (arguments, told))
+            self.assertTrue(told.startswith("json-patch"), told)
+        self.assertEqual(self.text("d.json"), DOCUMENT)
+
+    def test_help(self):
+        self.assertDoes("json-patch --version", f"json-patch {json_patch.__version__}\n")
+        written, told, status = self.run_lines("json-patch --help && json-patch apply --help && COLUMNS=40 json-patch -h")
+        self.assertEqual((told, status), ("", 0))
+        for word in ("apply", "merge", "record", "get", "check", "--in-place", "--backup", "--indent", "exit status"):
+            self.assertIn(word, written)
+
+    def test_memory(self):
+        self.write("d.json", "[1]")
+        self.write("p.json", json.dumps([{"op": "copy", "from": "", "path": "/-"}] * 40))
+        written, told, status = self.run_lines("ulimit -v 200000; json-patch apply -i d.json p.json")
+        self.assertEqual((written, told, status), ("", "json-patch: out of memory\n", 3))
+        self.assertEqual(self.text("d.json"), "[1]")
+
+    def test_full_disks(self):
+        told = "standard output: No space left on device"
+        self.assertEnds(4, told, "json-patch apply d.json p.json > /dev/full")
+        self.assertEnds(4, told, "json-patch get d.json /b > /dev/full")
+        self.assertEnds(4, "/dev/full: No space left on device", "json-patch record -i d.json p.json /dev/full")
+        self.assertEnds(4, "standard output: Bad file descriptor", "json-patch apply d.json p.json >&-")
+        self.assertEnds(4, "nowhere/i: No such file or directory", "json-patch record -i d.json p.json nowhere/i")
+
+    def test_files_that_may_not_grow(self):
+        self.write("p.json", json.dumps([{"op": "add", "path": "/b/-", "value": "x" * 100_000}]))
+        for options in ("-i", "-ib"):
+            self.assertEnds(4, "d.json: File too large", f"ulimit -f 10; json-patch apply {options} d.json p.json")
+
+    def test_readers_that_go(self):
+        self.write("p.json", json.dumps([{"op": "add", "path": "/b/-", "value": "x" * 1_000_000}]))
+        lines = "json-patch apply d.json p.json | head -c 1 > /dev/null; echo ${PIPESTATUS[0]}"
+        self.assertDoes(lines, f"{128 + signal.SIGPIPE}\n")
+
+    def test_interrupts(self):
+        fifo = self.folder / "fifo"
+        os.mkfifo(fifo)
+        for number in (signal.SIGINT, signal.SIGTERM):
+            process = subprocess.Popen(["bash", "-c", f"exec {COMMAND} apply -i d.json fifo"], cwd=self.folder, stderr=subprocess.PIPE)
+            with open(fifo, "wb"):  # opens when the command does
+                process.send_signal(number)
+                self.assertEqual((process.stderr.read(), process.wait(timeout=60)), (b"", -number))
+            process.stderr.close()
+            self.assertEqual(self.text("d.json"), DOCUMENT)
+
+
+if __name__ == "__main__":
+    unittest.main()

@@ -1,0 +1,140 @@
+"""Documents that the library keeps."""
+import copy
+import json
+import unittest
+
+from json_patch import (
+    Document, InvalidJsonPatch, JsonPatch, JsonPatchConflict, JsonPatchException, JsonPatchTestFailed,
+    JsonPointerException, NumberNotWhole,
+)
+from support import CALLS, OK, ROWS, nested, on_another_thread
+
+
+class Kept(unittest.TestCase):
+    def test_tables(self):
+        for call, document, patch, status, *_ in ROWS:
+            with self.subTest(call=call, document=document, patch=patch), Document.from_string(document) as kept:
+                before, change = str(kept), {"apply": kept.apply, "record": kept.record, "merge": kept.merge}[call]
+                try:
+                    inverse = change(json.loads(patch))
+                except JsonPatchException:
+                    self.assertNotEqual(status, OK)
+                    self.assertEqual(str(kept), before)
+                    continue
+                self.assertEqual(status, OK)
+                self.assertEqual(kept.get(), CALLS["merge" if call == "merge" else "apply"](json.loads(document), json.loads(patch)))
+                if inverse is not None:
+                    kept.apply(inverse)
+                    self.assertEqual(str(kept), before)
+
+    def test_kinds_of_patch(self):
+        operations = [{"op": "add", "path": "/-", "value": "é"}]
+        text = json.dumps(operations)
+        with Document([]) as kept:
+            for patch in (operations, text, text.encode(), JsonPatch(operations)):
+                kept.apply(patch)
+            self.assertEqual(kept.get(), ["é"] * 4)
+            self.assertEqual(len(kept.record(text)), 1)
+
+    def test_get(self):
+        with Document({"a": ["b" * 1000, 2]}) as kept:
+            self.assertEqual(kept.get("/a/0"), "b" * 1000)
+            self.assertEqual(kept.get("/a/1"), 2)
+            for pointer, kind in (("/a/2", "Nothing"), ("/c", "Nothing"), ("a", "NoPointer"), ("/~2", "NoPointer")):
+                with self.assertRaises(JsonPointerException) as caught:
+                    kept.get(pointer)
+                self.assertEqual((caught.exception.path, caught.exception.kind), (pointer, kind))
+
+    def test_many(self):
+        with Document([]) as kept:
+            for number in range(1000):
+                kept.apply([{"op": "add", "path": "/-", "value": number}])
+            self.assertEqual(kept.get(), list(range(1000)))
+
+    def test_long_paths(self):
+        path = "/" + "~1" * 5_000
+        with Document({}) as kept, self.assertRaises(JsonPatchConflict) as caught:
+            kept.apply([{"op": "remove", "path": path}])
+        self.assertEqual(caught.exception.path, path)
+
+    def test_tests(self):
+        with Document({}) as kept:
+            for patch in ('[{"op":"test","path":"/a","value":1}]', [{"op": "test", "path": "/a", "value": 1}]):
+                with self.assertRaises(JsonPatchTestFailed):
+                    kept.apply(patch)
+
+    def test_deep_inverses(self):
+        document = nested(127)
+        with Document(document) as kept:
+            inverse = kept.record([{"op": "replace", "path": "", "value": 1}])
+            self.assertEqual(kept.get(), 1)
+            self.assertEqual(list(inverse), [{"op": "replace", "path": "", "value": document}])
+            # The library wrote it, and doesn't read so deep a text.
+            with self.assertRaises(InvalidJsonPatch):
+                kept.apply(inverse)
+
+    def test_no_json(self):
+        texts = "[", "", '"\ud800"', '"\\ud800"', b"\xff", "[" * 128 + "]" * 128, "[" * 100_000
+        with Document({}) as kept:
+            for text in texts:
+                with self.assertRaises(JsonPatchException) as caught:
+                    Document.from_string(text)
+                self.assertEqual(caught.exception.kind, "NotJson")
+                with self.assertRaises(InvalidJsonPatch) as caught:
+                    kept.apply(text)
+                self.assertEqual(caught.exception.kind, "NotJson")
+            with self.assertRaises(JsonPointerException):
+                kept.get("/\ud800")
+
+    def test_threads(self):
+        with Document([]) as kept:
+            patch = [{"op": "add", "path": "/-", "value": 1}]
+            for call in (kept.get, kept.to_string, lambda: kept.apply(patch), lambda: kept.merge(1), kept.close):
+                self.assertIsInstance(on_another_thread(call), RuntimeError)
+            self.assertEqual(kept.get(), [])
+
+    def test_owner_that_has_ended(self):
+        for _ in range(100):
+            # A thread that starts after this one can have its number.
+            kept, lost = on_another_thread(lambda: (Document([]), [Document([])]))
+            self.assertIsInstance(on_another_thread(kept.get), RuntimeError)
+            with self.assertWarns(ResourceWarning):
+                on_another_thread(lost.clear)
+            with self.assertWarns(ResourceWarning):
+                del kept
+
+    def test_lost_on_another_thread(self):
+        made = [Document([])]
+        with self.assertWarns(ResourceWarning):
+            on_another_thread(made.clear)
+
+    def test_copies(self):
+        with Document([1]) as kept:
+            shared = copy.copy(kept)
+            shared.apply([{"op": "remove", "path": "/0"}])
+            self.assertEqual(kept.get(), [])
+            shared.close()
+            with self.assertRaises(ValueError):
+                kept.get()
+        with Document([1]) as kept, self.assertRaises(ValueError):
+            copy.deepcopy(kept)
+
+    def test_closed(self):
+        kept = Document([])
+        kept.close()
+        kept.close()
+        for call in (kept.get, kept.to_string, lambda: kept.apply([]), lambda: kept.merge({}), lambda: kept.record([])):
+            with self.assertRaises(ValueError):
+                call()
+
+    def test_refused(self):
+        with self.assertRaises(NumberNotWhole):
+            Document(1.5)
+        with self.assertRaises(JsonPatchException):
+            Document.from_string("[")
+        with Document({}) as kept:
+            for patch, error in ((7, InvalidJsonPatch), ([{"op": "remove", "path": "/a"}], JsonPatchConflict)):
+                with self.assertRaises(error):
+                    kept.apply(patch)
+            with self.assertRaises(NumberNotWhole):
+                kept.merge(1.5)

@@ -1,0 +1,129 @@
+"""Files that are replaced: killed at any call of the system's, a document has its old content or its new
+one, whole, and its backup the old one."""
+import os
+import shutil
+import signal
+import stat
+import tempfile
+import unittest
+import unittest.mock
+from pathlib import Path
+
+from json_patch import _files
+
+OLD, NEW = b"old" * 50_000, b"new" * 70_000
+# the calls that may end in the middle of a change
+CALLS = ("open", "write", "fsync", "fchmod", "fchown", "replace", "unlink", "close", "stat")
+
+
+def killed_at(number, after, change):
+    """A process of its own makes a change, and is killed before or after its call of this number.
+    Returns whether it was: else the change has fewer calls."""
+    child = os.fork()
+    if child == 0:
+        count = 0
+
+        def counted(call):
+            def made(*arguments, **named):
+                nonlocal count
+                count += 1
+                if count == number and not after:
+                    os.kill(os.getpid(), signal.SIGKILL)
+                told = call(*arguments, **named)
+                if count == number:
+                    os.kill(os.getpid(), signal.SIGKILL)
+                return told
+
+            return made
+
+        try:
+            for name in CALLS:
+                setattr(os, name, counted(getattr(os, name)))
+            change()
+        finally:
+            os._exit(0)
+    return os.WIFSIGNALED(os.waitpid(child, 0)[1])
+
+
+class Replaced(unittest.TestCase):
+    def setUp(self):
+        self.folder = Path(tempfile.mkdtemp())
+        self.addCleanup(shutil.rmtree, self.folder)
+        self.file = self.folder / "document.json"
+        self.file.write_bytes(OLD)
+        self.file.chmod(0o640)
+
+    def replaced(self, keeps_old=False):
+        _files.replace(str(self.file), NEW, keeps_old)
+
+    @property
+    def backup(self):
+        return self.folder / "document.json.orig"
+
+    def test_killed(self):
+        for kept in (False, True):
+            for after in (False, True):
+                number = 1
+                while killed_at(number, after, lambda: self.replaced(kept)):
+                    content = self.file.read_bytes()
+                    self.assertIn(content, (OLD, NEW))
+                    self.assertEqual(stat.S_IMODE(self.file.stat().st_mode), 0o640)
+                    if kept and content == NEW:
+                        self.assertEqual(self.backup.read_bytes(), OLD)
+                    for left in self.folder.iterdir():
+                        left.unlink()
+                    self.file.write_bytes(OLD)
+                    self.file.chmod(0o640)
+                    number += 1
+                self.assertGreater(number, 5)
+                self.assertEqual(self.file.read_bytes(), NEW)
+                self.setUp()
+
+    def test_permissions_and_owner(self):
+        for mode in (0o600, 0o644, 0o755, 0o400):
+            self.file.chmod(mode)
+            self.replaced()
+            self.assertEqual(stat.S_IMODE(self.file.stat().st_mode), mode)
+        try:
+            os.chown(self.file, 1234, 2345)
+        except OSError:
+            self.skipTest("a file can be given away by root alone")
+        self.replaced()
+        there = self.file.stat()
+        self.assertEqual((there.st_uid, there.st_gid), (1234, 2345))
+
+    def test_new_files(self):
+        new = self.folder / "new.json"
+        before = os.umask(0o027)
+        try:
+            _files.replace(str(new), NEW)
+        finally:
+            os.umask(before)
+        self.assertEqual(stat.S_IMODE(new.stat().st_mode), 0o640)
+
+    def test_links(self):
+        link = self.folder / "link"
+        link.symlink_to("document.json")
+        _files.replace(str(link), NEW)
+        self.assertTrue(link.is_symlink())
+        self.assertEqual(self.file.read_bytes(), NEW)
+
+    def test_backups(self):
+        self.replaced(keeps_old=True)
+        self.assertEqual(stat.S_IMODE(self.backup.stat().st_mode), 0o640)
+        _files.replace(str(self.file), b"newer", keeps_old=True)
+        self.assertEqual((self.file.read_bytes(), self.backup.read_bytes()), (b"newer", NEW))
+        self.assertEqual(len(list(self.folder.iterdir())), 2)
+
+    def test_faults_leave_nothing(self):
+        for name in ("write", "fsync", "fchmod", "replace"):
+            with unittest.mock.patch(f"os.{name}", side_effect=OSError(28, "No space left on device")):
+                for keeps_old in (False, True):
+                    with self.subTest(name=name), self.assertRaises(OSError):
+                        self.replaced(keeps_old)
+            self.assertEqual(self.file.read_bytes(), OLD)
+            self.assertEqual(list(self.folder.iterdir()), [self.file])
+
+
+if __name__ == "__main__":
+    unittest.main()
