@@ -103,7 +103,7 @@ typedef struct {
  * - It is not called from a signal handler, nor in the forked child of a process with threads.
  * - malloc, realloc and free are of one allocator, and align a block to each power of two up to 16
  *   that divides its size.
- * - The stack has room for 64 kB.
+ * - The stack has room for 192 kB, whatever is handed in.
  *
  * Where the status is no JSON_PATCH_OK, out is as it was, but for the path of JSON_PATCH_REFUSED.
  * After a text, out is as it was too. Of a name that stands twice the last value is read, and the

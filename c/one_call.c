@@ -5,7 +5,8 @@
  *     one_call CALL DOCUMENT TEXT
  *
  * CALL is apply, record, merge or check, or of a document that is kept open, open, update,
- * update_recorded, update_merged, text, text_at or inverse. It prints what the call answers with ample memory: the
+ * update_recorded, update_merged, undo, text, text_at or inverse; and apply, record, merge and open
+ * with _within behind, whose limits are those of the calls that are given none. It prints what the call answers with ample memory: the
  * status and the report, what was written, and then the text of the document that is kept; and, in a
  * last line, how many requests there were. Whether a request was refused is told by the functions
  * below that stand in for malloc and realloc: so it is linked with
@@ -79,6 +80,8 @@ typedef struct {
     char out[ROOM], before[ROOM], after[ROOM];
 } outcome;
 
+static const json_patch_limits usual = {JSON_PATCH_MOST_LEVELS, JSON_PATCH_MOST_COPIED};
+
 static json_patch_status called(const input *it, json_patch_document *kept, char *out,
                                 json_patch_report *report) {
     const char *name = it->name, *document = it->document, *text = it->text;
@@ -89,6 +92,16 @@ static json_patch_status called(const input *it, json_patch_document *kept, char
         return json_patch_record(document, size, text, length, out, ROOM, report);
     if (strcmp(name, "merge") == 0)
         return json_patch_merge(document, size, text, length, out, ROOM, report);
+    if (strcmp(name, "apply_within") == 0)
+        return json_patch_apply_within(document, size, text, length, &usual, out, ROOM, report);
+    if (strcmp(name, "record_within") == 0)
+        return json_patch_record_within(document, size, text, length, &usual, out, ROOM, report);
+    if (strcmp(name, "merge_within") == 0)
+        return json_patch_merge_within(document, size, text, length, &usual, out, ROOM, report);
+    if (strcmp(name, "open_within") == 0)
+        return json_patch_open_within(kept, text, length, &usual, report);
+    if (strcmp(name, "undo") == 0)
+        return json_patch_undo(kept, report);
     if (strcmp(name, "check") == 0)
         return json_patch_check(text, length, report);
     if (strcmp(name, "open") == 0)
@@ -117,11 +130,11 @@ static json_patch_status kept_text(json_patch_document *kept, char *text) {
     return status;
 }
 
-/* Opens the document, and keeps an inverse for the call of that name: of the text, a patch. */
+/* Opens the document, and keeps an inverse for the calls inverse and undo: of the text, a patch. */
 static void prepare(const input *it, json_patch_document *kept, char *out) {
     json_patch_report told;
-    int is_inverse = strcmp(it->name, "inverse") == 0;
-    if (json_patch_open(kept, it->document, strlen(it->document), &told) == JSON_PATCH_OK && is_inverse)
+    int is_recorded = strcmp(it->name, "inverse") == 0 || strcmp(it->name, "undo") == 0;
+    if (json_patch_open(kept, it->document, strlen(it->document), &told) == JSON_PATCH_OK && is_recorded)
         json_patch_update_recorded(kept, it->text, strlen(it->text), out, ROOM, &told);
 }
 

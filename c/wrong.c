@@ -106,3 +106,29 @@ json_patch_status json_patch_text_at(json_patch_document *document, const char *
     return *pointer && pointer_length ? json_patch_text(document, out, out_length, report)
                                       : told(report, JSON_PATCH_NOTHING, 0);
 }
+
+/* ---- calls within limits, which are the others here */
+
+#define WITHIN(name)                                                                               \
+    json_patch_status name##_within(const char *document, size_t document_length,                  \
+                                    const char *patch, size_t patch_length,                        \
+                                    const json_patch_limits *limits, char *out, size_t out_length, \
+                                    json_patch_report *report) {                                   \
+        (void)limits;                                                                              \
+        return name(document, document_length, patch, patch_length, out, out_length, report);      \
+    }
+
+WITHIN(json_patch_apply)
+WITHIN(json_patch_record)
+WITHIN(json_patch_merge)
+
+json_patch_status json_patch_open_within(json_patch_document *document, const char *text,
+                                         size_t length, const json_patch_limits *limits,
+                                         json_patch_report *report) {
+    (void)limits;
+    return json_patch_open(document, text, length, report);
+}
+
+json_patch_status json_patch_undo(json_patch_document *document, json_patch_report *report) {
+    return told(report, document->at ? JSON_PATCH_NOTHING : JSON_PATCH_CLOSED, 0);
+}

@@ -1,0 +1,379 @@
+/*
+ * Tests of the limits, each call on a thread with the stack that the header names: patches that nest
+ * a document in itself, values and texts nested up to the limit and past it, and patches that copy
+ * too much. What has to come of each is counted here, from the levels and sizes alone.
+ *
+ *     test_limits [STACK]     the stack's bytes (65536)
+ */
+#include "json_patch.h"
+
+#include <limits.h>
+#include <pthread.h>
+#include <stdarg.h>
+#include <stdio.h>
+#include <stdlib.h>
+#include <string.h>
+
+enum { ROOM = 1 << 16, MOST = JSON_PATCH_MOST_LEVELS, LONGEST = 1 << 20 };
+
+static unsigned long calls;
+static char *out;
+
+static void fail(const char *format, ...) {
+    va_list parts;
+    va_start(parts, format);
+    fputs("c: ", stderr);
+    vfprintf(stderr, format, parts);
+    fputc('\n', stderr);
+    va_end(parts);
+    exit(1);
+}
+
+/* ---- texts */
+
+typedef struct {
+    char *bytes;
+    size_t length, room;
+} text;
+
+static void put(text *to, const char *format, ...) {
+    va_list parts;
+    va_start(parts, format);
+    char piece[128];
+    int length = vsnprintf(piece, sizeof piece, format, parts);
+    va_end(parts);
+    if (to->length + (size_t)length + 1 > to->room) {
+        to->room = 2 * (to->room + (size_t)length + 1);
+        to->bytes = realloc(to->bytes, to->room);
+        if (!to->bytes)
+            fail("no memory");
+    }
+    memcpy(to->bytes + to->length, piece, (size_t)length + 1);
+    to->length += (size_t)length;
+}
+
+static void put_times(text *to, const char *piece, size_t times) {
+    while (times--)
+        put(to, "%s", piece);
+}
+
+/* A way to nest: how a level opens and closes, and the token that leads a level down. */
+typedef struct {
+    const char *open, *close, *token;
+} nest;
+
+static const nest nests[] = {
+    {"{\"a\":", "}", "/a"},
+    {"[", "]", "/0"},
+    {"{\"a/m~\":", "}", "/a~1m~0"},
+    {"[[", "]]", "/0/0"},
+    {"{\"a\":[", "]}", "/a/0"},
+};
+enum { NESTS = sizeof nests / sizeof *nests };
+
+static size_t levels_of(const nest *by) {
+    return strlen(by->token) > 4 && by->token[3] == '1' ? 1 : strchr(by->token + 1, '/') ? 2 : 1;
+}
+
+/* 0 in so many turns of nesting. */
+static text nested(const nest *by, size_t turns) {
+    text made = {NULL, 0, 0};
+    put_times(&made, by->open, turns);
+    put(&made, "0");
+    put_times(&made, by->close, turns);
+    return made;
+}
+
+/* ---- what is expected */
+
+static void expect(json_patch_status status, const json_patch_report *report,
+                   json_patch_status wanted, size_t operation, json_patch_kind kind,
+                   const char *of) {
+    calls++;
+    if (status != wanted || report->operation != operation || report->kind != kind)
+        fail("status %d, operation %zu, kind %d, and not %d, %zu and %d: %s", status,
+             report->operation, report->kind, wanted, operation, kind, of);
+}
+
+/* The patch in each call that takes one, with the same outcome; a kept document is as it was. */
+static void expect_each(const text *document, const text *patch, const json_patch_limits *limits,
+                        json_patch_status wanted, size_t operation, json_patch_kind kind,
+                        const char *of) {
+    json_patch_report report;
+    json_patch_document kept = JSON_PATCH_DOCUMENT;
+    const char *d = document->bytes, *p = patch->bytes;
+    size_t n = document->length, m = patch->length;
+    expect(json_patch_apply_within(d, n, p, m, limits, out, ROOM, &report), &report, wanted,
+           operation, kind, of);
+    expect(json_patch_record_within(d, n, p, m, limits, out, ROOM, &report), &report, wanted,
+           operation, kind, of);
+    expect(json_patch_open_within(&kept, d, n, limits, &report), &report, JSON_PATCH_OK, 0, 0, of);
+    expect(json_patch_update_recorded(&kept, p, m, out, ROOM, &report), &report, wanted, operation,
+           kind, of);
+    if (wanted == JSON_PATCH_OK)
+        expect(json_patch_undo(&kept, &report), &report, JSON_PATCH_OK, 0, 0, of);
+    else
+        expect(json_patch_update(&kept, p, m, out, ROOM, &report), &report, wanted, operation, kind,
+               of);
+    expect(json_patch_text(&kept, out, ROOM, &report), &report, JSON_PATCH_OK, 0, 0, of);
+    if (report.size != n || memcmp(out, d, n) != 0)
+        fail("%.*s is left: %s", (int)report.size, out, of);
+    json_patch_close(&kept);
+}
+
+/* ---- patches that nest */
+
+/* Copies of the document into what stands innermost in it, each of which doubles the levels. */
+static void expect_doubling(const nest *by, size_t longest, const json_patch_limits *limits) {
+    text document = nested(by, 1), patch = {NULL, 0, 0};
+    size_t each = levels_of(by), number = 0, over = SIZE_MAX;
+    put(&patch, "[");
+    for (size_t turns = 1; patch.length + turns * strlen(by->token) < longest; turns *= 2) {
+        put(&patch, "%s{\"op\":\"copy\",\"from\":\"\",\"path\":\"", number ? "," : "");
+        put_times(&patch, by->token, turns);
+        put(&patch, "\"}");
+        if (over == SIZE_MAX && 2 * turns * each > limits->depth)
+            over = number;
+        number++;
+    }
+    put(&patch, "]");
+    if (over == SIZE_MAX)
+        expect_each(&document, &patch, limits, JSON_PATCH_OK, 0, 0, by->token);
+    else
+        expect_each(&document, &patch, limits, JSON_PATCH_OVER, over, JSON_PATCH_TOO_DEEP, by->token);
+    free(document.bytes);
+    free(patch.bytes);
+}
+
+/* Moves of a member into the one beside it, each of which puts it a level deeper: never past what a
+   document of so many levels allows. */
+static void expect_moves(size_t turns, const json_patch_limits *limits) {
+    text document = {NULL, 0, 0}, patch = {NULL, 0, 0};
+    put(&document, "{");
+    for (size_t i = 0; i <= turns; i++)
+        put(&document, "%s\"m%04zu\":{}", i ? "," : "", i);
+    put(&document, "}");
+    put(&patch, "[");
+    for (size_t i = 1; i <= turns; i++)
+        put(&patch, "%s{\"op\":\"move\",\"from\":\"/m%04zu\",\"path\":\"/m%04zu/m\"}", i > 1 ? "," : "",
+            i - 1, i);
+    put(&patch, "]");
+    /* before operation k the value that is moved has k + 1 levels, and it goes two tokens deep */
+    if (turns + 2 <= limits->depth)
+        expect_each(&document, &patch, limits, JSON_PATCH_OK, 0, 0, "moves");
+    else
+        expect_each(&document, &patch, limits, JSON_PATCH_OVER, limits->depth - 2,
+                    JSON_PATCH_TOO_DEEP, "moves");
+    free(document.bytes);
+    free(patch.bytes);
+}
+
+/* A value of so many levels in an add, a replace and a test, beside a document that has none. */
+static void expect_values(size_t levels, const json_patch_limits *limits) {
+    static const char *const names[] = {"add", "replace", "test"};
+    text document = {NULL, 0, 0}, value = nested(&nests[1], levels);
+    put(&document, "{\"a\":0}");
+    for (int i = 0; i < 3; i++) {
+        for (int below = 0; below <= 1; below++) {
+            text patch = {NULL, 0, 0};
+            put(&patch, "[{\"op\":\"%s\",\"path\":\"%s\",\"value\":", names[i], below ? "/a" : "");
+            put_times(&patch, nests[1].open, levels);
+            put(&patch, "0");
+            put_times(&patch, nests[1].close, levels);
+            put(&patch, "}]");
+            /* the patch's text nests two levels more than the value */
+            if (levels + 2 > 127)
+                expect_each(&document, &patch, limits, JSON_PATCH_NO_PATCH, 0, JSON_PATCH_TOO_DEEP,
+                            names[i]);
+            else if (i == 2)
+                expect_each(&document, &patch, limits, JSON_PATCH_REFUSED, 0, JSON_PATCH_TEST_FAILED,
+                            names[i]);
+            else if (levels + (size_t)below > limits->depth)
+                expect_each(&document, &patch, limits, JSON_PATCH_OVER, 0, JSON_PATCH_TOO_DEEP,
+                            names[i]);
+            else
+                expect_each(&document, &patch, limits, JSON_PATCH_OK, 0, 0, names[i]);
+            free(patch.bytes);
+        }
+    }
+    free(document.bytes);
+    free(value.bytes);
+}
+
+/* ---- texts that nest */
+
+/* A text of so many turns, as a document, a merge patch and a patch. */
+static void expect_text(const nest *by, size_t turns, const json_patch_limits *limits) {
+    text deep = nested(by, turns);
+    size_t levels = turns * levels_of(by);
+    int fits = levels <= limits->depth && levels <= MOST;
+    json_patch_report report;
+    json_patch_document kept = JSON_PATCH_DOCUMENT;
+    expect(json_patch_apply_within(deep.bytes, deep.length, "[]", 2, limits, out, ROOM, &report),
+           &report, fits ? JSON_PATCH_OK : JSON_PATCH_NO_DOCUMENT, 0,
+           fits ? JSON_PATCH_KIND_NONE : JSON_PATCH_TOO_DEEP, "a deep document");
+    expect(json_patch_merge_within("{}", 2, deep.bytes, deep.length, limits, out, ROOM, &report),
+           &report, fits ? JSON_PATCH_OK : JSON_PATCH_NO_PATCH, 0,
+           fits ? JSON_PATCH_KIND_NONE : JSON_PATCH_TOO_DEEP, "a deep merge patch");
+    expect(json_patch_check(deep.bytes, deep.length, &report), &report, JSON_PATCH_NO_PATCH, 0,
+           levels > 127                            ? JSON_PATCH_TOO_DEEP
+           : levels == 0 || by->open[0] != '[' ? JSON_PATCH_NOT_A_LIST
+                                                   : JSON_PATCH_NOT_AN_OBJECT,
+           "a deep patch");
+    expect(json_patch_open_within(&kept, deep.bytes, deep.length, limits, &report), &report,
+           fits ? JSON_PATCH_OK : JSON_PATCH_NO_DOCUMENT, 0,
+           fits ? JSON_PATCH_KIND_NONE : JSON_PATCH_TOO_DEEP, "a deep document that is opened");
+    if (fits) {
+        text pointer = {NULL, 0, 0};
+        put_times(&pointer, by->token, turns);
+        expect(json_patch_text_at(&kept, turns ? pointer.bytes : "", pointer.length, out, ROOM,
+                                  &report),
+               &report, JSON_PATCH_OK, 0, 0, "a deep pointer");
+        expect(json_patch_update_merged(&kept, deep.bytes, deep.length, &report), &report,
+               JSON_PATCH_OK, 0, 0, "a deep merge into a deep document");
+        free(pointer.bytes);
+    }
+    json_patch_close(&kept);
+    free(deep.bytes);
+}
+
+/* Brackets that never close, that are in a string, and that no document has. */
+static void expect_brackets(void) {
+    json_patch_report report;
+    text open = {NULL, 0, 0}, quoted = {NULL, 0, 0};
+    put_times(&open, "[", LONGEST);
+    expect(json_patch_apply(open.bytes, open.length, "[]", 2, out, ROOM, &report), &report,
+           JSON_PATCH_NO_DOCUMENT, 0, JSON_PATCH_TOO_DEEP, "a million brackets");
+    expect(json_patch_apply(open.bytes, 127, "[]", 2, out, ROOM, &report), &report,
+           JSON_PATCH_NO_DOCUMENT, 0, JSON_PATCH_NOT_JSON, "127 brackets that never close");
+    expect(json_patch_apply(open.bytes, 128, "[]", 2, out, ROOM, &report), &report,
+           JSON_PATCH_NO_DOCUMENT, 0, JSON_PATCH_TOO_DEEP, "128 brackets");
+    put(&quoted, "[\"\\\"");
+    put_times(&quoted, "[{", 200);
+    put(&quoted, "\\\\\",1");
+    expect(json_patch_apply(quoted.bytes, quoted.length, "[]", 2, out, ROOM, &report), &report,
+           JSON_PATCH_NO_DOCUMENT, 0, JSON_PATCH_NOT_JSON, "brackets in a string");
+    put(&quoted, "]");
+    expect(json_patch_apply(quoted.bytes, quoted.length, "[]", 2, out, ROOM, &report), &report,
+           JSON_PATCH_OK, 0, 0, "brackets in a string of a document");
+    free(open.bytes);
+    free(quoted.bytes);
+}
+
+/* ---- copies */
+
+/* Copies of a string of so many bytes, one after another: each counts one and its bytes. */
+static void expect_copies(size_t bytes, size_t copies, const json_patch_limits *limits) {
+    text document = {NULL, 0, 0}, patch = {NULL, 0, 0};
+    put(&document, "{\"a\":\"");
+    put_times(&document, "x", bytes);
+    put(&document, "\"}");
+    put(&patch, "[");
+    for (size_t i = 0; i < copies; i++)
+        put(&patch, "%s{\"op\":\"copy\",\"from\":\"/a\",\"path\":\"/b\"}", i ? "," : "");
+    put(&patch, "]");
+    size_t most = limits->copied / (bytes + 1);
+    if (copies <= most)
+        expect_each(&document, &patch, limits, JSON_PATCH_OK, 0, 0, "copies");
+    else
+        expect_each(&document, &patch, limits, JSON_PATCH_OVER, most, JSON_PATCH_TOO_MUCH, "copies");
+    free(document.bytes);
+    free(patch.bytes);
+}
+
+/* A name counts its bytes too, and so does each value: {"ab":[1,2]} counts 6. */
+static void expect_sizes(void) {
+    const char *document = "{\"x\":{\"ab\":[1,2]}}", *patch = "[{\"op\":\"copy\",\"from\":\"/x\",\"path\":\"/y\"}]";
+    json_patch_report report;
+    for (size_t copied = 5; copied <= 6; copied++) {
+        json_patch_limits limits = {MOST, copied};
+        expect(json_patch_apply_within(document, strlen(document), patch, strlen(patch), &limits, out,
+                                       ROOM, &report),
+               &report, copied < 6 ? JSON_PATCH_OVER : JSON_PATCH_OK, 0,
+               copied < 6 ? JSON_PATCH_TOO_MUCH : JSON_PATCH_KIND_NONE, "the size of a value");
+    }
+}
+
+/* ---- taking back */
+
+static void expect_undo(void) {
+    json_patch_document kept = JSON_PATCH_DOCUMENT;
+    json_patch_report report;
+    text deep = nested(&nests[0], MOST), patch = {NULL, 0, 0};
+    expect(json_patch_undo(&kept, &report), &report, JSON_PATCH_CLOSED, 0, 0, "nothing is open");
+    json_patch_open(&kept, deep.bytes, deep.length, &report);
+    expect(json_patch_undo(&kept, &report), &report, JSON_PATCH_NOTHING, 0, 0, "nothing is recorded");
+    put(&patch, "[{\"op\":\"replace\",\"path\":\"\",\"value\":1}]");
+    json_patch_update_recorded(&kept, patch.bytes, patch.length, out, ROOM, &report);
+    expect(json_patch_inverse(&kept, out, ROOM, &report), &report, JSON_PATCH_OK, 0, 0, "the inverse");
+    /* its text is read again, though the document is as deep as one may be */
+    static char inverse[ROOM];
+    memcpy(inverse, out, report.size);
+    size_t length = report.size;
+    expect(json_patch_check(inverse, length, &report), &report, JSON_PATCH_OK, 0, 0, "the inverse");
+    expect(json_patch_undo(&kept, &report), &report, JSON_PATCH_OK, 0, 0, "what is recorded");
+    json_patch_text(&kept, out, ROOM, &report);
+    if (report.size != deep.length || memcmp(out, deep.bytes, deep.length) != 0)
+        fail("%.*s is left by json_patch_undo", (int)report.size, out);
+    expect(json_patch_undo(&kept, &report), &report, JSON_PATCH_NOTHING, 0, 0, "it is used up");
+    json_patch_update(&kept, patch.bytes, patch.length, out, ROOM, &report);
+    expect(json_patch_undo(&kept, &report), &report, JSON_PATCH_NOTHING, 0, 0, "no inverse is kept");
+    expect(json_patch_update(&kept, inverse, length, out, ROOM, &report), &report, JSON_PATCH_OK, 0, 0,
+           "the inverse as a patch");
+    json_patch_text(&kept, out, ROOM, &report);
+    if (report.size != deep.length || memcmp(out, deep.bytes, deep.length) != 0)
+        fail("%.*s is left by the inverse", (int)report.size, out);
+    json_patch_close(&kept);
+    free(deep.bytes);
+    free(patch.bytes);
+}
+
+/* ---- all of it, on a thread */
+
+static void *made(void *unused) {
+    static const size_t depths[] = {1, 2, 3, 7, 60, 123, 124, 125, 127, 1000};
+    static const size_t lengths[] = {100, 300, 3000, 70000, LONGEST};
+    for (size_t i = 0; i < sizeof depths / sizeof *depths; i++) {
+        json_patch_limits given = {depths[i], JSON_PATCH_MOST_COPIED};
+        json_patch_limits limits = given;
+        if (limits.depth > MOST)
+            limits.depth = MOST;
+        for (size_t j = 0; j < NESTS; j++) {
+            if (levels_of(&nests[j]) <= limits.depth)
+                for (size_t k = 0; k < sizeof lengths / sizeof *lengths; k++)
+                    expect_doubling(&nests[j], lengths[k], &limits);
+            for (size_t turns = 0; turns <= 130; turns++)
+                expect_text(&nests[j], turns, given.depth > MOST ? &given : &limits);
+        }
+        if (limits.depth >= 2) {
+            expect_moves(1, &limits);
+            expect_moves(limits.depth, &limits);
+            expect_moves(500, &limits);
+        }
+        for (size_t levels = 1; levels <= 130; levels++)
+            expect_values(levels, &limits);
+    }
+    const json_patch_limits usual = {MOST, JSON_PATCH_MOST_COPIED}, small = {MOST, 1000};
+    expect_copies(50000, 1400, &usual);
+    expect_copies(9, 100, &small);
+    expect_copies(9, 101, &small);
+    expect_copies(0, 1000, &small);
+    expect_copies(0, 1001, &small);
+    expect_sizes();
+    expect_brackets();
+    expect_undo();
+    return unused;
+}
+
+int main(int count, char **words) {
+    size_t stack = count > 1 ? strtoul(words[1], NULL, 10) : 65536;
+    pthread_attr_t attributes;
+    pthread_t thread;
+    out = malloc(ROOM);
+    if (!out || pthread_attr_init(&attributes) || pthread_attr_setstacksize(&attributes, stack) ||
+        pthread_create(&thread, &attributes, made, NULL) || pthread_join(thread, NULL))
+        fail("no thread with a stack of %zu bytes", stack);
+    printf("c: %lu calls within limits, on a stack of %zu bytes\n", calls, stack);
+    free(out);
+    return 0;
+}
