@@ -19,6 +19,7 @@ CAPTIONS = {
     "json_patch_document": ("what a document is, equality", "library"),
     "json_patch_operation": ("operations: read, written, printed", "library"),
     "json_patch_edit": ("one edit, and what undoes it", "library"),
+    "json_patch_limits": ("how deep, and how much", "library"),
     "json_patch_merge": ("merge patches", "library"),
     "json_patch_laws": ("laws of the definitions", "library"),
     "json_patch_apart": ("lists that may change order", "library"),

@@ -18,7 +18,7 @@ pub use json_patch_document::{is_whole, same};
 pub use json_patch_edit::walk::lookup;
 pub use json_patch_laws::laws;
 pub use json_patch_limits::limits::{LimitError, LimitFault, LimitKind, Limits};
-pub use json_patch_limits::measure::is_shallow;
+pub use json_patch_limits::measure::{is_shallow, is_small};
 pub use json_patch_merge::merge;
 pub use json_patch_operation::{
     AddOperation, CopyOperation, Fault, MoveOperation, Patch, PatchError, PatchErrorKind,

@@ -74,10 +74,13 @@ pub fn patch(alloc: Global, doc: &mut Value, patch: &[PatchOperation]) -> Result
 /// `limits.copied`; so no call on it recurses deeper.
 ///
 /// ```rust
-/// let limits = Limits { depth: 127, copied: 1_000_000 };
+/// let limits = Limits {
+///     depth: 3,
+///     copied: 1_000,
+/// };
 /// match patch_within(alloc, document, changes.as_slice(), limits) {
 ///     Ok(()) => String::from_str(alloc, "accepted"),
-///     // operation '/3' is over the limits: value would reach too deep
+///     // operation '/1' is over the limits: value would reach too deep
 ///     Err(LimitFault::Over(error)) => format!(in alloc; "{error}"),
 ///     Err(LimitFault::Patch(fault)) => format!(in alloc; "{fault}"),
 /// }
@@ -189,7 +192,10 @@ pub fn apply_patches(
 /// undoes them, as [`apply_patches`] does.
 ///
 /// ```rust
-/// let limits = Limits { depth: 127, copied: 1_000_000 };
+/// let limits = Limits {
+///     depth: 3,
+///     copied: 1_000,
+/// };
 /// let undo = apply_patches_within(alloc, document, changes.as_slice(), limits)?;
 /// patch(alloc, document, undo.as_slice())?;
 /// ```

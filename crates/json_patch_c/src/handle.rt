@@ -115,7 +115,7 @@ pub extern "C" fn json_patch_update(
     // 6: no document is open.
     ensures closed { (result ≡ 6) ↔ (document.old.held ≡ None) }
     ensures closed_told { result ≡ 6 → Tells 0 0 0 report.new × (out.new ≡ out.old) }
-    ensures status { (result ≤ 6) ⊎ (result ≡ 9) }
+    ensures status { (result ≤ 4) ⊎ ((result ≡ 6) ⊎ (result ≡ 9)) }
     ensures limits { limits_in document.new.held ≡ limits_in document.old.held }
     ensures unchanged { result ≢ 0
         → document_in document.new.held ≡ document_in document.old.held }
@@ -154,7 +154,7 @@ pub extern "C" fn json_patch_update_recorded(
     // 6: no document is open.
     ensures closed { (result ≡ 6) ↔ (document.old.held ≡ None) }
     ensures closed_told { result ≡ 6 → Tells 0 0 0 report.new × (out.new ≡ out.old) }
-    ensures status { (result ≤ 6) ⊎ (result ≡ 9) }
+    ensures status { (result ≤ 4) ⊎ ((result ≡ 6) ⊎ (result ≡ 9)) }
     ensures limits { limits_in document.new.held ≡ limits_in document.old.held }
     ensures unchanged { result ≢ 0
         → document_in document.new.held ≡ document_in document.old.held }
@@ -192,7 +192,7 @@ pub extern "C" fn json_patch_update_merged(
     // 6: no document is open.
     ensures closed { (result ≡ 6) ↔ (document.old.held ≡ None) }
     ensures closed_told { result ≡ 6 → Tells 0 0 0 report.new }
-    ensures status { (result ≤ 6) ⊎ (result ≡ 9) }
+    ensures status { (result ≤ 4) ⊎ ((result ≡ 6) ⊎ (result ≡ 9)) }
     ensures limits { limits_in document.new.held ≡ limits_in document.old.held }
     ensures unchanged { result ≢ 0
         → document_in document.new.held ≡ document_in document.old.held }

@@ -4,6 +4,7 @@ ghost use Rattle.std.specs.Prelude.{◌≡◌, ◌≤◌, ◌<◌, ◌+◌, ◌�
 ghost use Rattle.serde_json.specs.Data.{depth};
 ghost use Rattle.serde_json.specs.View.{view};
 ghost use Rattle.jsonptr.specs.Pointers.{tokens_of};
+ghost use Rattle.json_patch_document.specs.Document.{IsDocument};
 ghost use Rattle.json_patch_limits.specs.OverLimits.{size};
 ghost use Rattle.json_patch_limits.specs.OverLimitsComputed.{Spares};
 ghost use Rattle.json_patch_edit.specs.Marked.{seen};
@@ -49,6 +50,22 @@ pub fn is_shallow(value: &Value, levels: usize) -> bool
         }
         _ => true,
     }
+}
+
+/// Whether the document's size is at most so much, in the measure of [`crate::limits::Limits`]: one
+/// for each value in it, itself included, and one for each byte of a string or a member's name. It
+/// looks at no more of the document than that, and takes no memory.
+///
+/// ```rust
+/// is_small(&document, 4)
+/// // true of {"a":[1]}: two values around a third, and a name of one byte
+/// ```
+#[tactic(auto, using(json_patch_edit::proofs::MarkedRuns::document_seen))]
+pub fn is_small(document: &Value, most: usize) -> bool
+    requires { IsDocument (view document.now) }
+    ensures { IsTrue result ↔ (size (view document.now) ≤ most) }
+{
+    spare(document, most).is_some()
 }
 
 /// What is left of so much, less the size of what is seen of the value, where that isn't more. It

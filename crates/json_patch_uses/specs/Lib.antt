@@ -6,3 +6,5 @@ pub mod Versioned
 pub mod Layers
 pub mod History
 pub mod SharedDocuments
+pub mod Guards
+pub mod Guarded

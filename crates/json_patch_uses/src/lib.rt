@@ -2,6 +2,7 @@
 #![tactic(auto)]
 
 mod example;
+mod guarded;
 mod history;
 mod layers;
 mod newest;
@@ -19,6 +20,7 @@ mod texts;
 mod versioned;
 
 pub use example::first_example;
+pub use guarded::{GuardFault, Guarded};
 pub use layers::{merge_all, number_or};
 pub use newest::undo_newest;
 pub use pointers::{depth, item, member};

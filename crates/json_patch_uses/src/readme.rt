@@ -1,18 +1,21 @@
 //! The examples of the README and of the crates' comments, word for word.
 
-ghost use Rattle.std.specs.Prelude.{◌≡◌, ◌↔◌, IfOk, IsTrue, OnOk, take};
+ghost use Rattle.std.specs.Prelude.{◌≡◌, ◌≤◌, ◌↔◌, IfOk, IsTrue, OnOk, take};
+ghost use Rattle.serde_json.specs.Data.{depth};
 ghost use Rattle.serde_json.specs.View.{view};
 ghost use Rattle.json_patch.specs.Apart.{AreApart};
 ghost use Rattle.json_patch.specs.Document.{IsDocument};
 ghost use Rattle.json_patch.specs.Operation.{AreWhole, operations_of};
+ghost use Rattle.json_patch.specs.OverLimits.{size};
 ghost use Rattle.json_patch.specs.Run.{Accepts};
 
 mod tests;
 
 use json_patch::jsonptr::{ParseError, Pointer, PointerBuf};
 use json_patch::{
-    AddOperation, Fault, Patch, PatchFault, PatchOperation, apply_patches, are_apart,
-    document_from_str, lookup, merge, patch, patch_unsafe,
+    AddOperation, Fault, LimitFault, Limits, Patch, PatchFault, PatchOperation, apply_patches,
+    apply_patches_within, are_apart, document_from_str, is_shallow, is_small, lookup, merge, patch,
+    patch_unsafe, patch_within,
 };
 use json_patch_editor::Editor;
 use serde_json::{Value, json};
@@ -62,6 +65,53 @@ fn there_and_back(alloc: Global, document: &mut Value, changes: &Patch) -> Resul
     let told = format!(in alloc; "{undo}")?;
     patch(alloc, document, undo.as_slice())?;
     Ok(told)
+}
+
+fn told_within(alloc: Global, document: &mut Value, changes: &Patch) -> Result<String, AllocError>
+    requires document { IsDocument (view document.old) }
+    requires whole { AreWhole (operations_of changes.now) }
+    ensures { depth (view document.old) ≤ 3 → depth (view document.new) ≤ 3 }
+{
+    let limits = Limits {
+        depth: 3,
+        copied: 1_000,
+    };
+    match patch_within(alloc, document, changes.as_slice(), limits) {
+        Ok(()) => String::from_str(alloc, "accepted"),
+        Err(LimitFault::Over(error)) => format!(in alloc; "{error}"),
+        Err(LimitFault::Patch(fault)) => format!(in alloc; "{fault}"),
+    }
+}
+
+fn there_and_back_within(
+    alloc: Global,
+    document: &mut Value,
+    changes: &Patch,
+) -> Result<(), LimitFault>
+    requires document { IsDocument (view document.old) }
+    requires whole { AreWhole (operations_of changes.now) }
+    ensures { OnOk result (view document.new ≡ view document.old) }
+{
+    let limits = Limits {
+        depth: 3,
+        copied: 1_000,
+    };
+    let undo = apply_patches_within(alloc, document, changes.as_slice(), limits)?;
+    patch(alloc, document, undo.as_slice())?;
+    Ok(())
+}
+
+fn has_two_levels(document: Value) -> bool
+    ensures { IsTrue result ↔ (depth (view document) ≤ 2) }
+{
+    is_shallow(&document, 2)
+}
+
+fn is_of_size_four(document: Value) -> bool
+    requires { IsDocument (view document) }
+    ensures { IsTrue result ↔ (size (view document) ≤ 4) }
+{
+    is_small(&document, 4)
 }
 
 fn written_and_read(alloc: Global, value: Value) -> Result<bool, Fault> {

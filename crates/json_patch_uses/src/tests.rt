@@ -1,8 +1,9 @@
 //! Each program on an example.
 
 use crate::{
-    ChangeFault, SectionFault, Settings, SharedDocument, Store, VersionFault, depth, first_example,
-    item, member, merge_all, number_or, patch_section, patched, tried, undo_newest, update_version,
+    ChangeFault, GuardFault, Guarded, SectionFault, Settings, SharedDocument, Store, VersionFault,
+    depth, first_example, item, member, merge_all, number_or, patch_section, patched, tried,
+    undo_newest, update_version,
 };
 use json_patch::jsonptr::Pointer;
 use json_patch::{Fault, Patch, document_from_str, is_whole, patch};
@@ -304,5 +305,41 @@ fn a_change_is_refused_as_on_its_version(rt: HostRuntime) -> Result<(), Fail> {
     }
     assert!(rt; matches!(shared.update(alloc, 2, third), Err(ChangeFault::NoVersion)));
     assert_eq!(rt; shared.version(), 1);
+    Ok(())
+}
+
+/// A stranger who nests, copies, or sends too much changes nothing, and one who doesn't does.
+#[test]
+fn a_stranger_is_kept_within(rt: HostRuntime) -> Result<(), Fail> {
+    let alloc = rt.alloc();
+    let document = document_from_str(alloc, r#"{"a":{}}"#).expect(&rt, "a document");
+    // two objects and a name: three levels and the size 8 are allowed
+    let mut guarded = Guarded::open(document, 3, 8).expect(&rt, "a small document");
+    let over = |fault: &GuardFault| matches!(fault, GuardFault::Over(_));
+    let deep =
+        r#"[{"op":"copy","from":"","path":"/a/b"},{"op":"copy","from":"","path":"/a/b/a/c"}]"#;
+    assert!(rt; guarded.change(alloc, deep).is_err_and(|fault| over(&fault)));
+    let large = r#"[{"op":"add","path":"/b","value":"12345"}]"#;
+    assert!(rt;
+        guarded
+            .change(alloc, large)
+            .is_err_and(|fault| matches!(fault, GuardFault::TooLarge))
+    );
+    let lost = r#"[{"op":"remove","path":"/b"}]"#;
+    assert!(rt;
+        guarded
+            .change(alloc, lost)
+            .is_err_and(|fault| matches!(fault, GuardFault::NotApplied(_)))
+    );
+    assert_eq!(rt;
+        guarded.document().to_string(alloc)?.as_str(),
+        r#"{"a":{}}"#
+    );
+    let small = r#"[{"op":"add","path":"/b","value":"123"}]"#;
+    guarded.change(alloc, small).expect(&rt, "a small change");
+    assert_eq!(rt;
+        guarded.document().to_string(alloc)?.as_str(),
+        r#"{"a":{},"b":"123"}"#
+    );
     Ok(())
 }

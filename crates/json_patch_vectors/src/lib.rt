@@ -17,6 +17,8 @@ mod equality;
 #[cfg(test)]
 mod hostile;
 #[cfg(test)]
+mod limits;
+#[cfg(test)]
 mod merges;
 #[cfg(test)]
 mod pointers;

@@ -5,8 +5,9 @@ ghost use Rattle.json_patch.specs.Document.{IsDocument};
 ghost use Rattle.json_patch.specs.Operation.{AreWhole, operations, operations_of};
 
 use crate::readme::{
-    from_texts, is_of_ann, left_part_way, made_late, merged_and_looked_up, taken_back,
-    there_and_back, what_was_refused, written_and_read,
+    from_texts, has_two_levels, is_of_ann, is_of_size_four, left_part_way, made_late,
+    merged_and_looked_up, taken_back, there_and_back, there_and_back_within, told_within,
+    what_was_refused, written_and_read,
 };
 use json_patch::{Patch, is_whole};
 use serde_json::Value;
@@ -64,6 +65,37 @@ fn a_refusal_leaves_what_was_made(rt: HostRuntime) -> Result<(), Fail> {
     let made = left_part_way(alloc, &mut document, &changes(alloc, operations))?;
     assert_eq!(rt; made, 1);
     assert_eq!(rt; document.to_string(alloc)?.as_str(), r#"{"a":1,"b":2}"#);
+    Ok(())
+}
+
+#[test]
+fn a_copy_reaches_too_deep(rt: HostRuntime) -> Result<(), Fail> {
+    let alloc = rt.alloc();
+    let mut document = whole(alloc, r#"{"a":1}"#);
+    let operations =
+        r#"[{"op":"add","path":"/b","value":[]},{"op":"copy","from":"","path":"/b/0"}]"#;
+    let told = told_within(alloc, &mut document, &changes(alloc, operations))?;
+    assert_eq!(rt;
+        told.as_str(),
+        "operation '/1' is over the limits: value would reach too deep"
+    );
+    there_and_back_within(
+        alloc,
+        &mut document,
+        &changes(alloc, r#"[{"op":"remove","path":"/a"}]"#),
+    )
+    .expect(&rt, "an accepted patch");
+    assert_eq!(rt; document.to_string(alloc)?.as_str(), r#"{"a":1}"#);
+    Ok(())
+}
+
+#[test]
+fn levels_and_sizes_are_told(rt: HostRuntime) -> Result<(), Fail> {
+    let alloc = rt.alloc();
+    assert!(rt; has_two_levels(whole(alloc, r#"{"a":[1]}"#)));
+    assert!(rt; !has_two_levels(whole(alloc, r#"{"a":[[1]]}"#)));
+    assert!(rt; is_of_size_four(whole(alloc, r#"{"a":[1]}"#)));
+    assert!(rt; !is_of_size_four(whole(alloc, r#"{"ab":[1]}"#)));
     Ok(())
 }
 

@@ -8,5 +8,6 @@ use Rattle.json_patch_c.proofs.handle.json_patch_text_at.Goals as goal
 pub returns-in-Nothing-clause-nothing : goal.returns-in-Nothing-clause-nothing
 returns-in-Nothing-clause-nothing c = λ _. (
   subst (λ held. IfSome held (λ k. LeadsNowhere (view k.document) c.args.pointer.now)) c.in-Some.ensures.held
-  (subst (λ k. LeadsNowhere (view k.document) c.args.pointer.now) c.deref.ensures c.in-Nothing.ensures),
-  c.tell-in-Nothing.ensures.told)
+      (subst (λ k. LeadsNowhere (view k.document) c.args.pointer.now) c.deref.ensures c.in-Nothing.ensures),
+  c.tell-in-Nothing.ensures.told,
+)
