@@ -366,7 +366,7 @@ SHIFTED = {
 }
 
 # More than a thousand changes, with an item that shifts on. Past that number json_patch's log doesn't
-# follow where it went (MOST_FOLLOWED in its module `log`).
+# follow where it went (MOST_FOLLOWED in its module `clearing`).
 MANY = [remove("/9/x"), add("/0", 1), *[add("/0", 2), remove("/0")] * 500]
 LONG = {
     "more than a thousand changes": shifting(behind(9, KEPT), MANY),
@@ -583,7 +583,7 @@ def kind_calls(line, kind, value, read, told):
 def text_call(line, call, value, told):
     """The call on the text of a value: `told` is the text of what is read."""
     text = compact(value)
-    return Call(f"from_str: {line}", [call, text], left(told, text), [left(MEMORY, text)])
+    return Call(f"{call}: {line}", [call, text], left(told, text), [left(MEMORY, text)])
 
 
 def vector_calls():
@@ -600,6 +600,7 @@ def vector_calls():
         answer = left(indented(document), text)
         yield Call("pretty", ["pretty", text], answer, [left(MEMORY, text)])
         yield text_call("a document", "document_from_str", document, text)
+        yield text_call("a document", "document_from_slice", document, text)
     for name, run in {**TAKEN, **SHIFTED}.items():
         told = printed_patch(run.operations)
         yield from kind_calls(name, "patch", run.operations, run.operations, told)
@@ -610,6 +611,8 @@ def vector_calls():
     for call, text, why in (
         ("document_from_str", '{"a":[1,2', "text is not JSON: EOF while parsing at line 1 column 9"),
         ("document_from_str", '{"a":["text",1.5]}', "document holds a number that is not whole"),
+        ("document_from_slice", '{"a":[1,2', "text is not JSON: EOF while parsing at line 1 column 9"),
+        ("document_from_slice", '{"a":["text",1.5]}', "document holds a number that is not whole"),
         ("patch_from_str", '[{"op":"add"', "text is not JSON: EOF while parsing at line 1 column 12"),
         ("patch_from_str", '{"op":"add"}', "patch is not a list"),
         (
@@ -618,7 +621,7 @@ def vector_calls():
             """operation '/1': member "value" is missing""",
         ),
     ):
-        yield Call(f"from_str: no {call.partition('_')[0]}", [call, text], left(why, text), [left(MEMORY, text)])
+        yield Call(f"{call}: no {call.partition('_')[0]}", [call, text], left(why, text), [left(MEMORY, text)])
 
 
 def tool_runs():

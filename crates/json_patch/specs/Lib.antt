@@ -52,10 +52,10 @@ pub use Rattle.json_patch_operation.specs.declared.operation.TestOperation
 pub use Rattle.json_patch_operation.specs.declared.error.PatchErrorKind
 pub use Rattle.json_patch_operation.specs.declared.error.PatchError
 pub use Rattle.json_patch_operation.specs.declared.error.PatchFault
-pub use Rattle.json_patch_operation.specs.declared.error.ReadKind
-pub use Rattle.json_patch_operation.specs.declared.error.ReadError
-pub use Rattle.json_patch_operation.specs.declared.error.ReadFault
-pub use Rattle.json_patch_operation.specs.declared.error.Fault
+pub use Rattle.json_patch_operation.specs.declared.read_error.ReadKind
+pub use Rattle.json_patch_operation.specs.declared.read_error.ReadError
+pub use Rattle.json_patch_operation.specs.declared.read_error.ReadFault
+pub use Rattle.json_patch_operation.specs.declared.fault.Fault
 pub use Rattle.json_patch_limits.specs.declared.limits.Limits
 pub use Rattle.json_patch_limits.specs.declared.limits.LimitKind
 pub use Rattle.json_patch_limits.specs.declared.limits.LimitError

@@ -8,10 +8,13 @@
 //! ```
 #![tactic(auto)]
 
+mod clearing;
+mod inverse;
 mod log;
 mod run;
 mod shared;
 mod shifts;
+mod undoing;
 
 pub use json_patch_apart::are_apart;
 pub use json_patch_document::{is_whole, same};
@@ -23,7 +26,7 @@ pub use json_patch_merge::merge;
 pub use json_patch_operation::{
     AddOperation, CopyOperation, Fault, MoveOperation, Patch, PatchError, PatchErrorKind,
     PatchFault, PatchOperation, ReadError, ReadFault, ReadKind, RemoveOperation, ReplaceOperation,
-    TestOperation, document_from_str, pretty,
+    TestOperation, document_from_slice, document_from_str, pretty,
 };
 pub use jsonptr;
 pub use run::{apply_patches, apply_patches_within, patch, patch_unsafe, patch_within};

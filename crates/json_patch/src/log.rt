@@ -1,8 +1,7 @@
-//! Operations that are made on a document with marks, and what undoes them.
+//! Operations that are made on a document with marks, and what a run keeps of them.
 
-ghost use Rattle.std.specs.Prelude.{◌≡◌, ◌+◌, ◌*◌, ◌≤◌, ◌++◌, ◌↔◌, [], IfErr, IfOk, IfSome, IsOk, IsTrue, OnErr, OnOk, Some, ℕ};
-ghost use Rattle.std.specs.Prelude.{vec_capacity, vec_len};
-ghost use Rattle.serde_json.specs.Data.{Data, null};
+ghost use Rattle.std.specs.Prelude.{◌≡◌, ◌≤◌, ◌↔◌, [], IfErr, IfOk, IsTrue, OnErr, OnOk, Some};
+ghost use Rattle.serde_json.specs.Data.{Data};
 ghost use Rattle.serde_json.specs.View.{view};
 ghost use Rattle.jsonptr.specs.Pointers.{tokens_of};
 ghost use Rattle.jsonptr.specs.Text.{IsProperPrefix};
@@ -12,38 +11,28 @@ ghost use Rattle.json_patch_document.specs.Document.{IsDocument};
 ghost use Rattle.json_patch_edit.specs.Exchange.{AreFitting, IsUnmarkedFor, made_where, room};
 ghost use Rattle.json_patch_edit.specs.NoMemory.{AreUnescaped, NeverShort};
 ghost use Rattle.json_patch_edit.specs.InverseComputed.{block, undo_add};
-ghost use Rattle.json_patch.specs.Logged.{AreRoomy, IsEnd, IsFor, IsFree, IsKept, IsMade, IsRoomy, IsTakenFrom, IsTest};
-ghost use Rattle.json_patch.specs.Logged.{IsUndone, Keeps, LeadsBack, LogsAs, held, kept_at, kept_block, kept_blocks, lasting};
-ghost use Rattle.json_patch.specs.Logged.{place_undone, taken, takes, count_some, count_true};
-ghost use Rattle.json_patch_edit.specs.MarkedComputed.{marks};
-ghost use Rattle.json_patch_edit.specs.Marked.{IsSeen, IsValue, seen};
-ghost use Rattle.json_patch_operation.specs.Operation.{IsWholeOp, move as move_at, operation_of, operations, path_of};
+ghost use Rattle.json_patch.specs.Logged.{IsEnd, IsFor, IsFree, IsKept, IsMade, IsTakenFrom, IsTest, Keeps, LogsAs, kept_at};
+ghost use Rattle.json_patch.specs.Logged.{lasting, place_undone};
+ghost use Rattle.json_patch_edit.specs.Marked.{IsMarked, IsValue, seen};
+ghost use Rattle.json_patch_operation.specs.Operation.{IsWholeOp, move as move_at, operation_of, path_of};
 ghost use Rattle.json_patch_operation.specs.Operation.{remove as remove_at, test as test_at};
 ghost use Rattle.json_patch_edit.specs.RunComputed.{after_copy, after_step};
-ghost use Rattle.json_patch_edit.specs.SeenEdits.{operation_at, undo_found};
-ghost use Rattle.json_patch_edit.specs.declared.edits.Edit.TheVariants.{Clear, Take};
+ghost use Rattle.json_patch_edit.specs.SeenEdits.{operation_at};
+ghost use Rattle.json_patch_edit.specs.declared.edits.Edit.TheVariants.{Take, Undo};
+ghost use Rattle.json_patch_edit.specs.declared.edits.Found.TheVariants.{Taken};
 ghost use Rattle.json_patch.specs.declared.log.Change.{Change};
-ghost use Rattle.json_patch.specs.declared.log.Keep.TheVariants.{Inverse, Neither};
+ghost use Rattle.json_patch.specs.declared.log.Keep.TheVariants.{Neither};
 
-use crate::shared::shared_pointer;
-use crate::shifts::Place;
 use json_patch_edit::edits::{Edit, Found, Names, make};
 use json_patch_edit::equality::shows;
 use json_patch_edit::error::StepFault;
-use json_patch_edit::marks::{clear, count_marks, is_mark, mark};
+use json_patch_edit::marks::mark;
 use json_patch_edit::seen::{copy_seen, count_shown, find_shown};
-use json_patch_edit::walk::find;
-use json_patch_operation::{
-    AddOperation, PatchErrorKind, PatchOperation, RemoveOperation, ReplaceOperation,
-};
+use json_patch_operation::{PatchErrorKind, PatchOperation};
 use jsonptr::{Pointer, PointerBuf};
 use serde_json::Value;
 use std::alloc::{AllocError, Global};
 use std::mem;
-
-/// Following marks takes time as the square of the changes: with more than so many a walk through
-/// some megabytes takes less.
-const MOST_FOLLOWED: usize = 1_000;
 
 /// What a run keeps of its changes.
 #[derive(Clone, Copy)]
@@ -89,6 +78,14 @@ pub(crate) struct Change<'a> {
     pub(crate) kept: Option<Kept>,
 }
 
+/// An edit at a path, and what is kept of it.
+#[derive(Clone, Copy)]
+pub(crate) struct Step<'a> {
+    pub(crate) path: Pointer<'a>,
+    pub(crate) edit: Edit,
+    pub(crate) keep: Keep,
+}
+
 /// What the inverse says of a change, beside what that found.
 #[derive(Drop)]
 pub(crate) struct Kept {
@@ -109,6 +106,7 @@ impl<'a> Log<'a> {
     }
 
     /// Makes the operation, and logs what undoes it, or does neither.
+    #[tactic(auto, using(json_patch_edit::proofs::Locations::found_document))]
     pub(crate) fn step(
         &mut self,
         doc: &mut Value,
@@ -130,55 +128,46 @@ impl<'a> Log<'a> {
             → self.new.changes.items ≡ self.old.changes.items }
         ensures no_memory { IsFree (operation_of operation.now) keep → NeverShort result }
     {
-        match operation {
+        let (path, edit, value) = match operation {
             PatchOperation::Add(made) => {
-                let value = made.value.clone()?;
-                self.change(doc, made.path.as_pointer(), Edit::Insert, value, keep)
+                (made.path.as_pointer(), Edit::Insert, made.value.clone()?)
             }
-            PatchOperation::Remove(made) => {
-                self.change(doc, made.path.as_pointer(), Edit::Take, mark(), keep)
-            }
+            PatchOperation::Remove(made) => (made.path.as_pointer(), Edit::Take, mark()),
             PatchOperation::Replace(made) => {
-                let value = made.value.clone()?;
-                self.change(doc, made.path.as_pointer(), Edit::Swap, value, keep)
+                (made.path.as_pointer(), Edit::Swap, made.value.clone()?)
             }
             PatchOperation::Move(made) => {
-                self.relocate(doc, made.path.as_pointer(), made.from.as_pointer(), keep)
+                return self.relocate(doc, made.path.as_pointer(), made.from.as_pointer(), keep);
             }
             PatchOperation::Copy(made) => {
                 let value = copy_at(doc, made.from.as_pointer())?;
-                self.change(doc, made.path.as_pointer(), Edit::Insert, value, keep)
+                (made.path.as_pointer(), Edit::Insert, value)
             }
-            PatchOperation::Test(made) => test(doc, made.path.as_pointer(), &made.value),
-        }
+            PatchOperation::Test(made) => return test(doc, made.path.as_pointer(), &made.value),
+        };
+        self.change(doc, Step { path, edit, keep }, value)
     }
 
     /// Makes the edit, and logs what undoes it, or does neither.
-    fn change(
-        &mut self,
-        doc: &mut Value,
-        path: Pointer<'a>,
-        edit: Edit,
-        mut value: Value,
-        keep: Keep,
-    ) -> Result<(), StepFault>
+    fn change(&mut self, doc: &mut Value, step: Step<'a>, mut value: Value) -> Result<(), StepFault>
         requires marked { IsValue (view doc.old) }
-        requires value { IsFor edit (view value) }
-        requires alone { keep ≡ Neither → IsDocument (view doc.old) }
+        requires value { IsFor step.edit (view value) }
+        requires alone { step.keep ≡ Neither → IsDocument (view doc.old) }
         ensures comes { ComesTo result
-            (after_step (seen (view doc.old)) (operation_at edit (tokens_of path.entry) (view value)))
+            (after_step (seen (view doc.old)) (operation_at step.entry.edit (tokens_of step.entry.path) (view value)))
             (seen (view doc.new)) }
         ensures marked { IsValue (view doc.new) }
         ensures unchanged { OnErr result (view doc.new ≡ view doc.old) }
-        ensures logs { LogsAs result keep self.old self.new (view doc.old) (view doc.new) }
-        ensures keeps { IfOk result (λ _. Keeps keep self.old self.new
-            (block (seen (view doc.old)) (operation_at edit (tokens_of path.entry) (view value)))) }
-        ensures no_memory { edit ≡ Take → IsFree (remove_at (tokens_of path.entry)) keep → NeverShort result }
+        ensures logs { LogsAs result step.entry.keep self.old self.new (view doc.old) (view doc.new) }
+        ensures keeps { IfOk result (λ _. Keeps step.entry.keep self.old self.new
+            (block (seen (view doc.old)) (operation_at step.entry.edit (tokens_of step.entry.path) (view value)))) }
+        ensures no_memory { step.entry.edit ≡ Take
+            → IsFree (remove_at (tokens_of step.entry.path)) step.entry.keep → NeverShort result }
     {
-        if let Keep::Neither = keep {
-            return self.change_for_good(doc, path, edit, value);
+        if let Keep::Neither = step.keep {
+            return self.change_for_good(doc, step.path, step.edit, value);
         }
-        self.log_edit(doc, path, None, edit, &mut value, keep)
+        self.log_edit(doc, step, None, &mut value)
     }
 
     /// Makes the edit, which nothing is to undo, or does nothing.
@@ -225,49 +214,39 @@ impl<'a> Log<'a> {
             (block (seen (view doc.old)) (move_at (tokens_of from.entry) (tokens_of path.entry)))) }
     {
         let mut value = take_source(&mut self.names, doc, from, path)?;
-        if let Err(fault) = self.log_edit(doc, path, Some(from), Edit::Insert, &mut value, keep) {
-            if make(
-                &mut self.names,
-                doc,
-                from,
-                Edit::Undo(Found::Taken),
-                &mut value,
-            )
-            .is_err()
-            {
-                unreachable!();
-            }
+        let edit = Edit::Insert;
+        if let Err(fault) = self.log_edit(doc, Step { path, edit, keep }, Some(from), &mut value) {
+            put_back(&mut self.names, doc, from, value);
             return Err(fault);
         }
         Ok(())
     }
 
-    /// Makes the edit, and logs it, or does neither. Then the caller has its value again.
+    /// Makes the edit, with a value that was taken from `from` if it was, and logs it, or does
+    /// neither. Then the caller has its value again.
     fn log_edit(
         &mut self,
         doc: &mut Value,
-        path: Pointer<'a>,
+        step: Step<'a>,
         from: Option<Pointer<'a>>,
-        edit: Edit,
         value: &mut Value,
-        keep: Keep,
     ) -> Result<(), StepFault>
         requires marked { IsValue (view doc.old) }
-        requires unmarked { IsUnmarkedFor edit (view doc.old) }
-        ensures logged { OnOk result ((c : Change) × IsEnd path.entry from.entry self.old self.new c
-            × IsMade edit keep c (view doc.old) (view value.old) (view doc.new)) }
+        requires unmarked { IsUnmarkedFor step.edit (view doc.old) }
+        ensures logged { OnOk result ((c : Change) × IsEnd step.entry.path from.entry self.old self.new c
+            × IsMade step.entry.edit step.entry.keep c (view doc.old) (view value.old) (view doc.new)) }
         ensures refused { IfErr result (λ fault. Excuses fault
-            (made_where edit (view value.old) (view doc.old) (tokens_of path.entry))) }
+            (made_where step.entry.edit (view value.old) (view doc.old) (tokens_of step.entry.path))) }
         ensures unchanged { OnErr result ((view doc.new ≡ view doc.old) × (view value.new ≡ view value.old)
             × (self.new.changes.items ≡ self.old.changes.items)) }
         ensures grows { room self.old.names ≤ room self.new.names }
     {
-        let kept = kept_of(self.names.alloc, doc, path, from, edit, value, keep)?;
-        self.names.make_room(path)?;
+        let kept = kept_of(self.names.alloc, doc, step, from, value)?;
+        self.names.make_room(step.path)?;
         self.changes.reserve(1)?;
-        let found = make(&mut self.names, doc, path, edit, value)?;
+        let found = make(&mut self.names, doc, step.path, step.edit, value)?;
         self.changes.push_reserved(Change {
-            path,
+            path: step.path,
             from,
             found,
             value: mem::take(value),
@@ -317,6 +296,20 @@ fn take_source(
     }
 }
 
+/// Puts the value back where it was taken from, without memory.
+pub(crate) fn put_back(names: &mut Names, doc: &mut Value, from: Pointer<'_>, mut value: Value)
+    requires marked { IsMarked (view doc.old) }
+    requires fits { AreFitting (room names.old) (tokens_of from) }
+    requires back { (p : Data) × (made_where (Undo Taken) (view value) (view doc.old) (tokens_of from) ≡ Some p) }
+    ensures back { (p : Data) → made_where (Undo Taken) (view value) (view doc.old) (tokens_of from.entry) ≡ Some p
+        → view doc.new ≡ p }
+    ensures grows { room names.old ≤ room names.new }
+{
+    if make(names, doc, from, Edit::Undo(Found::Taken), &mut value).is_err() {
+        unreachable!();
+    }
+}
+
 /// Whether something follows in `path` after all of `from`.
 fn is_inside(path: Pointer<'_>, from: Pointer<'_>) -> bool
     ensures { IsTrue result ↔ IsProperPrefix (tokens_of from.entry) (tokens_of path.entry) }
@@ -331,22 +324,21 @@ fn is_inside(path: Pointer<'_>, from: Pointer<'_>) -> bool
 fn kept_of(
     alloc: Global,
     doc: &Value,
-    path: Pointer<'_>,
+    step: Step<'_>,
     from: Option<Pointer<'_>>,
-    edit: Edit,
     value: &Value,
-    keep: Keep,
 ) -> Result<Option<Kept>, AllocError>
     requires { IsValue (view doc.now) }
-    ensures { IfOk result (λ kept. IsKept keep (place_undone edit (seen (view doc.now)) (tokens_of path.entry))
+    ensures { IfOk result (λ kept. IsKept step.entry.keep
+        (place_undone step.entry.edit (seen (view doc.now)) (tokens_of step.entry.path))
         from.entry (view value.now) kept) }
 {
-    let Keep::Inverse = keep else {
+    let Keep::Inverse = step.keep else {
         return Ok(None);
     };
-    let place = match edit {
-        Edit::Insert => undo_place(alloc, doc, path)?,
-        _ => path.to_buf(alloc)?,
+    let place = match step.edit {
+        Edit::Insert => undo_place(alloc, doc, step.path)?,
+        _ => step.path.to_buf(alloc)?,
     };
     let back = match from {
         Some(from) => Some((from.to_buf(alloc)?, copy_seen(value)?)),
@@ -398,282 +390,4 @@ fn test(doc: &Value, path: Pointer<'_>, value: &Value) -> Result<(), StepFault>
         Some(_) => Err(StepFault::Refused(PatchErrorKind::TestFailed)),
         None => Err(StepFault::Refused(PatchErrorKind::InvalidPointer)),
     }
-}
-
-/// Undoes the changes, the last one first.
-pub(crate) fn undo_all(doc: &mut Value, mut log: Log<'_>)
-    requires roomy { AreRoomy (room log.names) log.changes.items }
-    requires leads { (p : Data) × LeadsBack log.changes.items (view doc.old) p }
-    ensures back { (p : Data) → LeadsBack log.entry.changes.items (view doc.old) p → view doc.new ≡ p }
-{
-    while let Some(change) = log.changes.pop() {
-        undo_one(&mut log.names, doc, change);
-    }
-}
-
-fn undo_one(names: &mut Names, doc: &mut Value, change: Change<'_>)
-    requires roomy { IsRoomy (room names.old) change }
-    requires undone { (p : Data) × IsUndone change (view doc.old) p }
-    ensures undoes { (p : Data) → IsUndone change.entry (view doc.old) p → view doc.new ≡ p }
-    ensures grows { room names.old ≤ room names.new }
-{
-    let mut value = change.value;
-    if make(
-        names,
-        doc,
-        change.path,
-        Edit::Undo(change.found),
-        &mut value,
-    )
-    .is_err()
-    {
-        unreachable!();
-    }
-    let Some(from) = change.from else {
-        return;
-    };
-    if make(names, doc, from, Edit::Undo(Found::Taken), &mut value).is_err() {
-        unreachable!();
-    }
-}
-
-/// Takes out the marks that the changes of the operations left: at the places of the changes; where
-/// some are left, as items shift, at the places that they have by now; and what is left after that by
-/// a walk through what the operations share.
-pub(crate) fn clear_marks(
-    names: &mut Names,
-    changes: &[Change<'_>],
-    patch: &[PatchOperation],
-    doc: &mut Value,
-)
-    requires marked { IsValue (view doc.old) }
-    requires roomy { AreRoomy (room names.old) changes.now }
-    requires counts { marks (view doc.old) + held changes.now ≤ takes changes.now }
-    ensures { view doc.new ≡ seen (view doc.old) }
-{
-    let left = clear_places(names, changes, doc);
-    if left == 0 {
-        return;
-    }
-    let left = left - count_held(changes);
-    let left = clear_followed(names, changes, doc, left);
-    if left == 0 {
-        return;
-    }
-    let left = left - sweep(names, doc, patch);
-    if left > 0 {
-        clear(doc);
-    }
-}
-
-/// Takes out the marks that stand at the places of their changes, and returns how many marks are
-/// left at most, with those in what the changes found.
-fn clear_places(names: &mut Names, changes: &[Change<'_>], doc: &mut Value) -> usize
-    requires marked { IsValue (view doc.old) }
-    requires roomy { AreRoomy (room names.old) changes.now }
-    requires counts { marks (view doc.old) + held changes.now ≤ takes changes.now }
-    ensures cleared { IsSeen (view doc.new) (seen (view doc.old)) }
-    ensures left { marks (view doc.new) + held changes.now ≤ result }
-{
-    let mut left = count_taken(changes);
-    for change in changes {
-        let Some(place) = taken_at(change) else {
-            continue;
-        };
-        if clear_mark(names, doc, place) {
-            left -= 1;
-        }
-    }
-    left
-}
-
-/// Takes out the marks that have shifted since, and returns how many are left at most, of so many.
-fn clear_followed(
-    names: &mut Names,
-    changes: &[Change<'_>],
-    doc: &mut Value,
-    mut left: usize,
-) -> usize
-    requires marked { IsValue (view doc.old) }
-    requires counts { marks (view doc.old) ≤ left }
-    ensures cleared { IsSeen (view doc.new) (seen (view doc.old)) }
-    ensures left { marks (view doc.new) ≤ result }
-{
-    if changes.len() > MOST_FOLLOWED {
-        return left;
-    }
-    let mut place = Place::new();
-    for number in 0..changes.len() {
-        if left == 0 {
-            break;
-        }
-        if !place.follow(&changes[number], &changes[number + 1..]) {
-            continue;
-        }
-        let Some(pointer) = place.pointer() else {
-            continue;
-        };
-        if names.has_room(pointer) && clear_mark(names, doc, pointer) {
-            left -= 1;
-        }
-    }
-    left
-}
-
-/// Takes all marks out of what the operations share, and returns how many.
-fn sweep(names: &mut Names, doc: &mut Value, patch: &[PatchOperation]) -> usize
-    requires { IsValue (view doc.old) }
-    ensures cleared { IsSeen (view doc.new) (seen (view doc.old)) }
-    ensures fewer { marks (view doc.new) + result ≤ marks (view doc.old) }
-{
-    let Some(shared) = shared_pointer(patch) else {
-        return 0;
-    };
-    if !names.has_room(shared) {
-        return 0;
-    }
-    let Some(part) = find(doc, shared.tokens()) else {
-        return 0;
-    };
-    let count = count_marks(part);
-    let mut none = Value::Null;
-    match make(names, doc, shared, Edit::Sweep, &mut none) {
-        Ok(_found) => count,
-        Err(StepFault::Refused(_)) => 0,
-        Err(StepFault::Memory(_)) => unreachable!(),
-    }
-}
-
-/// How many marks are in what the changes found.
-fn count_held(changes: &[Change<'_>]) -> usize
-    ensures { result ≤ held changes.now }
-{
-    let mut count: usize = 0;
-    for change in changes {
-        if !matches!(change.found, Found::Nothing) {
-            count = count.saturating_add(count_marks(&change.value));
-        }
-    }
-    count
-}
-
-/// How many marks the changes left, at most.
-fn count_taken(changes: &[Change<'_>]) -> usize
-    ensures { result ≡ takes changes.now }
-{
-    let mut count = 0;
-    for change in changes {
-        if taken_at(change).is_some() {
-            count += 1;
-        }
-    }
-    count
-}
-
-/// Where a change left a mark, if it took a value away.
-pub(crate) fn taken_at<'a>(change: &Change<'a>) -> Option<Pointer<'a>>
-    ensures counted { count_some result ≡ taken change.now.found change.now.from }
-    ensures fits { (n : ℕ) → IsRoomy n change.now
-        → IfSome result (λ place. AreFitting n (tokens_of place)) }
-{
-    match change.found {
-        Found::Taken => Some(change.path),
-        _ => change.from,
-    }
-}
-
-/// Takes away a mark, if one is there: then it is found, whatever the memory.
-fn clear_mark(names: &mut Names, doc: &mut Value, place: Pointer<'_>) -> bool
-    requires marked { IsValue (view doc.old) }
-    requires fits { AreFitting (room names.old) (tokens_of place) }
-    ensures cleared { IsSeen (view doc.new) (seen (view doc.old)) }
-    ensures fewer { marks (view doc.new) + count_true result ≡ marks (view doc.old) }
-    ensures finds { count_true result
-        ≡ count_some (made_where Clear null (view doc.old) (tokens_of place.entry)) }
-    ensures grows { room names.old ≤ room names.new }
-{
-    let mut mark = Value::Null;
-    match make(names, doc, place, Edit::Clear, &mut mark) {
-        Ok(_found) => true,
-        Err(StepFault::Refused(_)) => false,
-        Err(StepFault::Memory(_)) => unreachable!(),
-    }
-}
-
-/// Room for the inverse of so many changes, if that is kept: it has at most two operations for each.
-pub(crate) fn undo_room(
-    alloc: Global,
-    keep: Keep,
-    changes: usize,
-) -> Result<Vec<PatchOperation>, AllocError>
-    ensures empty { IfOk result (λ undo. undo.items ≡ []) }
-    ensures room { IfOk result (λ undo. keep ≡ Inverse → 2 * changes ≤ vec_capacity undo) }
-    ensures no_memory { (keep ≡ Inverse → ⊥) → IsOk result }
-{
-    let Keep::Inverse = keep else {
-        return Ok(Vec::new(alloc));
-    };
-    let count = changes.checked_mul(2).ok_or(AllocError)?;
-    Vec::with_capacity(alloc, count)
-}
-
-/// What undoes the changes, the last one's first, if that is kept.
-pub(crate) fn inverse_of(
-    keep: Keep,
-    mut changes: Vec<Change<'_>>,
-    mut undo: Vec<PatchOperation>,
-) -> Vec<PatchOperation>
-    requires { keep ≡ Inverse → vec_len undo + 2 * vec_len changes ≤ vec_capacity undo }
-    ensures { keep ≡ Inverse
-        → operations result.items ≡ operations undo.items ++ kept_blocks changes.entry.items }
-{
-    let Keep::Inverse = keep else {
-        return undo;
-    };
-    while let Some(change) = changes.pop() {
-        push_block(&mut undo, change);
-    }
-    undo
-}
-
-/// Pushes what undoes the change.
-fn push_block(undo: &mut Vec<PatchOperation>, change: Change<'_>)
-    requires { vec_len undo.old + 2 ≤ vec_capacity undo.old }
-    ensures says { operations undo.new.items ≡ operations undo.old.items
-        ++ kept_block change.entry.kept change.entry.found (view change.entry.value) }
-    ensures len { vec_len undo.new ≤ vec_len undo.old + 2 }
-    ensures capacity { vec_capacity undo.new ≡ vec_capacity undo.old }
-{
-    let Change {
-        found,
-        value,
-        kept,
-        ..
-    } = change;
-    let Some(Kept { place, back }) = kept else {
-        return;
-    };
-    undo.push_reserved(undo_operation(place, found, value));
-    let Some((path, value)) = back else {
-        return;
-    };
-    undo.push_reserved(PatchOperation::Add(AddOperation { path, value }));
-}
-
-/// What takes back, at this place, a change that found this.
-fn undo_operation(path: PointerBuf, found: Found, mut value: Value) -> PatchOperation
-    ensures { operation_of result ≡ undo_found path found (view value) }
-{
-    if let Found::Nothing = found {
-        return PatchOperation::Remove(RemoveOperation { path });
-    }
-    if let Found::Taken = found {
-        clear(&mut value);
-        return PatchOperation::Add(AddOperation { path, value });
-    }
-    if is_mark(&value) {
-        return PatchOperation::Remove(RemoveOperation { path });
-    }
-    clear(&mut value);
-    PatchOperation::Replace(ReplaceOperation { path, value })
 }

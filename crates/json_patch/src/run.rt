@@ -19,7 +19,10 @@ ghost use Rattle.json_patch_laws.specs.Run.{Accepts, IsAccepted};
 ghost use Rattle.json_patch_edit.specs.RunComputed.{after_step};
 ghost use Rattle.json_patch.specs.declared.log.Keep.TheVariants.{Inverse, Neither, Undo};
 
-use crate::log::{Keep, Log, clear_marks, inverse_of, undo_all, undo_room};
+use crate::clearing::clear_marks;
+use crate::inverse::{inverse_of, undo_room};
+use crate::log::{Keep, Log};
+use crate::undoing::undo_all;
 use json_patch_edit::error::StepFault;
 use json_patch_limits::charge::charge;
 use json_patch_limits::limits::{LimitError, LimitFault, Limits};

@@ -4,7 +4,12 @@
 //! left is looked for by a walk. A member whose name is a number may be taken for an item. A place is
 //! followed in memory of a fixed size, so that following asks for none.
 
-use crate::log::{Change, taken_at};
+ghost use Rattle.std.specs.Prelude.{◌≡◌, IfSome, ℕ};
+ghost use Rattle.jsonptr.specs.Pointers.{tokens_of};
+ghost use Rattle.json_patch_edit.specs.Exchange.{AreFitting};
+ghost use Rattle.json_patch.specs.Logged.{IsRoomy, taken, count_some};
+
+use crate::log::Change;
 use json_patch_edit::edits::Found;
 use jsonptr::{Pointer, Token};
 use std::ops::Range;
@@ -160,4 +165,16 @@ fn write_digits(digits: &mut [u8; MOST_DIGITS], number: usize) -> usize {
 
 fn index_of(token: Token<'_>) -> Option<usize> {
     token.to_index().ok()?.for_len(usize::MAX).ok()
+}
+
+/// Where a change left a mark, if it took a value away.
+pub(crate) fn taken_at<'a>(change: &Change<'a>) -> Option<Pointer<'a>>
+    ensures counted { count_some result ≡ taken change.now.found change.now.from }
+    ensures fits { (n : ℕ) → IsRoomy n change.now
+        → IfSome result (λ place. AreFitting n (tokens_of place)) }
+{
+    match change.found {
+        Found::Taken => Some(change.path),
+        _ => change.from,
+    }
 }

@@ -134,6 +134,13 @@ fn is_unescaped(path: Pointer<'_>) -> bool
     true
 }
 
+/// An edit at a token of a container.
+#[derive(Clone, Copy)]
+struct TokenEdit<'a> {
+    token: Token<'a>,
+    edit: Edit,
+}
+
 /// Makes the edit where the pointer leads.
 pub fn make(
     names: &mut Names,
@@ -153,7 +160,10 @@ pub fn make(
     ensures grows { room names.old ≤ room names.new }
 {
     match path.split_back() {
-        Some((parent, last)) => edit_at(names, doc, parent.tokens(), last, edit, value),
+        Some((parent, token)) => {
+            let last = TokenEdit { token, edit };
+            edit_at(names, doc, parent.tokens(), last, value)
+        }
         None => edit_root(doc, edit, value),
     }
 }
@@ -177,27 +187,27 @@ fn edit_root(doc: &mut Value, edit: Edit, value: &mut Value) -> Result<Found, St
     }
 }
 
-/// Makes the edit at the token `last` of the container to which the tokens of `parent` lead.
+/// Makes the edit in the container to which the tokens of `parent` lead.
 fn edit_at(
     names: &mut Names,
     target: &mut Value,
     mut parent: Tokens<'_>,
-    last: Token<'_>,
-    edit: Edit,
+    last: TokenEdit<'_>,
     value: &mut Value,
 ) -> Result<Found, StepFault>
     requires marked { IsMarked (view target.old) }
-    requires unmarked { IsUnmarkedFor edit (view target.old) }
+    requires unmarked { IsUnmarkedFor last.edit (view target.old) }
     ensures makes { Exchanges result
-        (after_change (made edit (view value.old) (token_of last.entry)) (view target.old) (tokens_left parent.entry))
-        (FindsAt edit (view target.old) (tokens_left parent.entry) (token_of last.entry))
+        (after_change (made last.entry.edit (view value.old) (token_of last.entry.token))
+        (view target.old) (tokens_left parent.entry))
+        (FindsAt last.entry.edit (view target.old) (tokens_left parent.entry) (token_of last.entry.token))
         (view target.old) (view target.new) (view value.old) (view value.new) }
-    ensures no_memory { IsLight edit → AreFitting (room names.old) (tokens_left parent.entry)
-        → Fits (room names.old) (token_of last.entry) → NeverShort result }
+    ensures no_memory { IsLight last.entry.edit → AreFitting (room names.old) (tokens_left parent.entry)
+        → Fits (room names.old) (token_of last.entry.token) → NeverShort result }
     ensures grows { room names.old ≤ room names.new }
 {
     let Some(token) = parent.next() else {
-        return edit_in(names, target, last, edit, value);
+        return edit_in(names, target, last, value);
     };
     match target {
         Value::Object(members) => {
@@ -205,11 +215,11 @@ fn edit_at(
             let Some(child) = members.get_mut(names.name(token, decoded)) else {
                 return Err(StepFault::Refused(PatchErrorKind::InvalidPointer));
             };
-            edit_at(names, child, parent, last, edit, value)
+            edit_at(names, child, parent, last, value)
         }
         Value::Array(items) => {
             let index = item_index(token, items.len())?;
-            edit_at(names, &mut items[index], parent, last, edit, value)
+            edit_at(names, &mut items[index], parent, last, value)
         }
         _ => Err(StepFault::Refused(PatchErrorKind::InvalidPointer)),
     }
@@ -219,17 +229,18 @@ fn edit_at(
 fn edit_in(
     names: &mut Names,
     container: &mut Value,
-    token: Token<'_>,
-    edit: Edit,
+    at: TokenEdit<'_>,
     value: &mut Value,
 ) -> Result<Found, StepFault>
     requires marked { IsMarked (view container.old) }
-    requires unmarked { IsUnmarkedFor edit (view container.old) }
-    ensures makes { ExchangesIn result edit (token_of token.entry)
+    requires unmarked { IsUnmarkedFor at.edit (view container.old) }
+    ensures makes { ExchangesIn result at.entry.edit (token_of at.entry.token)
         (view container.old) (view container.new) (view value.old) (view value.new) }
-    ensures no_memory { IsLight edit → Fits (room names.old) (token_of token.entry) → NeverShort result }
+    ensures no_memory { IsLight at.entry.edit → Fits (room names.old) (token_of at.entry.token)
+        → NeverShort result }
     ensures grows { room names.old ≤ room names.new }
 {
+    let TokenEdit { token, edit } = at;
     match container {
         Value::Object(members) => edit_members(names, members, token, edit, value),
         Value::Array(items) => edit_items(items, token, edit, value),

@@ -12,7 +12,7 @@ use Rattle.json_patch.specs.Run.{Accepts, IsAccepted, Ends}
 use Rattle.json_patch.specs.RunComputed.{Outcome, after_run}
 use Rattle.json_patch.specs.Trails.{IfEnds, IsTrail}
 use Rattle.json_patch.specs.Patch.{Patch}
-use Rattle.json_patch_editor.specs.History.{documents_along, documents_from, Lead, AreKept, IsTaken, Shifts, Records}
+use Rattle.json_patch_editor.specs.History.{documents_along, documents_from, Lead, AreKept, IsTaken, Shifts}
 use Rattle.json_patch_editor.specs.Versions.{Versions, after_apply}
 
 -- ---- one patch more or less
@@ -78,18 +78,6 @@ pub record AreFit (depth : ℕ) (d : Data) (undos redos : List Patch) : Type 0 w
 fit_kept : (depth : ℕ) (d e : Data) (undos redos grown left : List Patch) → AreKept d undos redos e grown left → AreFit depth d undos redos → AreFit depth e grown left
 fit_kept depth d e undos redos grown left k f = rw (k.0, k.1, k.2) f
 
-fit_recorded : (depth : ℕ) (d e : Data) (undos grown left : List Patch) → Records depth d undos e grown left → IsTrail d undos → AreFit depth e grown left
-fit_recorded depth d e undos grown left r s = record {
-  undoable = rw r.grown_is (stored_taken depth e (r.q ∷ undos) (stored_more d e r.q undos r.whole r.leads_back s));
-  redoable = rw r.redos_is tt;
-  bounded = rw (r.grown_is, r.redos_is) (let h : length (take depth (r.q ∷ undos)) ≡ _ = length-take depth (r.q ∷ undos) in omega arith);
-}
-
-pub fit_record : {T E : Type 0} (r : Result T E) (depth : ℕ) (d e : Data) (undos redos grown left : List Patch) → OnOk r (Records depth d undos e grown left) → OnErr r (AreKept d undos redos e grown left)
-    → AreFit depth d undos redos → AreFit depth e grown left
-fit_record (Ok x) depth d e undos redos grown left ok err f = fit_recorded depth d e undos grown left ok f.undoable
-fit_record (Err x) depth d e undos redos grown left ok err f = fit_kept depth d e undos redos grown left err f
-
 fit_taken : (depth : ℕ) (d e : Data) (from to left grown : List Patch) → IsTaken d from to e left grown → AreFit depth d from to → AreFit depth e left grown
 fit_taken depth d e from to left grown t f = record {
   undoable = stored_less d e t.p left t.leads (rw t.from_is at f.undoable);
@@ -107,14 +95,20 @@ fit_shift (Err x) depth d e from to left grown s f = fit_kept depth d e from to 
 abbrev pub versions_of : ℕ → Data → List Patch → List Patch → Versions
 versions_of depth d undos redos = record { before = documents_along d undos; here = d; after = documents_along d redos; depth = depth }
 
-seen_recorded : (depth : ℕ) (d e : Data) (undos redos grown left : List Patch) → Records depth d undos e grown left → versions_of depth e grown left ≡ after_apply e (versions_of depth d undos redos)
-seen_recorded depth d e undos redos grown left r =
-    rw (r.grown_is, r.redos_is, documents_along-take depth e (r.q ∷ undos), documents_along-more d e r.q undos r.leads_back) refl
+-- ---- a change that is made, and stored
 
-pub seen_record : {T E : Type 0} (r : Result T E) (depth : ℕ) (d e : Data) (undos redos grown left : List Patch) → OnOk r (Records depth d undos e grown left)
-    → OnOk r (versions_of depth e grown left ≡ after_apply e (versions_of depth d undos redos))
-seen_record (Ok x) depth d e undos redos grown left ok = seen_recorded depth d e undos redos grown left ok
-seen_record (Err x) depth d e undos redos grown left ok = tt
+-- q leads back from e to d, and is stored before the undos, of which `depth` are kept; there are no redos then
+module _ (depth : ℕ) (d e : Data) (q : Patch) (undos grown left : List Patch) (whole : AreWhole (operations_of q)) (back : after_run e (operations_of q) ≡ Ok d)
+    (grown_is : grown ≡ take depth (q ∷ undos)) (left_is : left ≡ []) where
+  pub fit_recorded : IsTrail d undos → AreFit depth e grown left
+  fit_recorded s = record {
+    undoable = rw grown_is (stored_taken depth e (q ∷ undos) (stored_more d e q undos whole back s));
+    redoable = rw left_is tt;
+    bounded = rw (grown_is, left_is) (let h : length (take depth (q ∷ undos)) ≡ _ = length-take depth (q ∷ undos) in omega arith);
+  }
+
+  pub seen_recorded : (redos : List Patch) → versions_of depth e grown left ≡ after_apply e (versions_of depth d undos redos)
+  seen_recorded redos = rw (grown_is, left_is, documents_along-take depth e (q ∷ undos), documents_along-more d e q undos back) refl
 
 -- ---- what the patches lead to
 

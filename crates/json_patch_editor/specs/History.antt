@@ -41,11 +41,3 @@ abbrev pub Shifts : Result Bool AllocError → Data → List Patch → List Patc
 Shifts (Ok true) d from to e left grown = IsTaken d from to e left grown
 Shifts (Ok false) d from to e left grown = (from ≡ []) × AreKept d from to e left grown
 Shifts (Err f) d from to e left grown = AreKept d from to e left grown
-
--- for a private clause: q leads back from e to d, and is stored before the undos, of which `depth` are kept
-pub record Records (depth : ℕ) (d : Data) (undos : List Patch) (e : Data) (grown redos : List Patch) : Type 0 where
-  pub q : Patch
-  pub grown_is : grown ≡ take depth (q ∷ undos)
-  pub redos_is : redos ≡ []
-  pub whole : AreWhole (operations_of q)
-  pub leads_back : after_run e (operations_of q) ≡ Ok d

@@ -33,10 +33,10 @@ ghost use Rattle.json_patch_document.specs.Sight.{Sight};
 ghost use Rattle.json_patch_edit.specs.Step.{Leaves, Refuses};
 ghost use Rattle.json_patch_operation.specs.Texts.{NoDocument, NoPatch, SaysDocument, SaysPatch};
 ghost use Rattle.json_patch_laws.specs.Trails.{AreEachWhole, IsTrail, LeadsTo};
-ghost use Rattle.json_patch_operation.specs.declared.error.Fault.{Fault};
-ghost use Rattle.json_patch_operation.specs.declared.error.Fault.TheVariants.{Memory};
+ghost use Rattle.json_patch_operation.specs.declared.fault.Fault.{Fault};
+ghost use Rattle.json_patch_operation.specs.declared.fault.Fault.TheVariants.{Memory};
 ghost use Rattle.json_patch_operation.specs.declared.error.PatchErrorKind.{PatchErrorKind};
-ghost use Rattle.json_patch_operation.specs.declared.error.ReadKind.{ReadKind};
+ghost use Rattle.json_patch_operation.specs.declared.read_error.ReadKind.{ReadKind};
 ghost use Rattle.json_patch_operation.specs.declared.operation.Patch.{Patch};
 ghost use Rattle.std.specs.declared.alloc.AllocError.{AllocError};
 

@@ -41,6 +41,7 @@ fn on_one(rt: &HostRuntime, call: &str, text: &str) -> io::Result<String> {
         "clone" => pointers::clone(rt, text),
         "pretty" => runs::pretty(rt, text),
         "document_from_str" => texts::document(rt, text),
+        "document_from_slice" => texts::document_of_bytes(rt, text),
         "patch_from_str" => texts::patch(rt, text),
         _ => Err(io::Error::from(ErrorKind::InvalidInput)),
     }

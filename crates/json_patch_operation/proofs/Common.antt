@@ -43,12 +43,12 @@ pub use Rattle.json_patch_operation.specs.Printed.{operation_items, object_of}
 pub use Rattle.json_patch_operation.specs.ReadSteps.{HasAnyFrom, IsPointerAt}
 pub use Rattle.json_patch_operation.specs.SameComputed.{same_operation, same_parts}
 pub use Rattle.json_patch_operation.specs.Shared.{AreWithin}
-pub use Rattle.json_patch_operation.specs.declared.error.ReadKind.{ReadKind}
-pub use Rattle.json_patch_operation.specs.declared.error.ReadKind.TheVariants.{BadFrom, BadPath, FromNotText}
-pub use Rattle.json_patch_operation.specs.declared.error.ReadKind.TheVariants.{MissingFrom, MissingOp, MissingPath}
-pub use Rattle.json_patch_operation.specs.declared.error.ReadKind.TheVariants.{MissingValue, NotAList, NotAnObject}
-pub use Rattle.json_patch_operation.specs.declared.error.ReadKind.TheVariants.{OpNotText, PathNotText, UnknownOp}
-pub use Rattle.json_patch_operation.specs.declared.error.ReadKind.TheVariants.{ValueNotWhole}
+pub use Rattle.json_patch_operation.specs.declared.read_error.ReadKind.{ReadKind}
+pub use Rattle.json_patch_operation.specs.declared.read_error.ReadKind.TheVariants.{BadFrom, BadPath, FromNotText}
+pub use Rattle.json_patch_operation.specs.declared.read_error.ReadKind.TheVariants.{MissingFrom, MissingOp, MissingPath}
+pub use Rattle.json_patch_operation.specs.declared.read_error.ReadKind.TheVariants.{MissingValue, NotAList, NotAnObject}
+pub use Rattle.json_patch_operation.specs.declared.read_error.ReadKind.TheVariants.{OpNotText, PathNotText, UnknownOp}
+pub use Rattle.json_patch_operation.specs.declared.read_error.ReadKind.TheVariants.{ValueNotWhole}
 pub use Rattle.json_patch_operation.specs.declared.operation.PatchOperation.{PatchOperation}
 pub use denote.Shadow.{shadow}
 pub use denote.Text.{Utf8}

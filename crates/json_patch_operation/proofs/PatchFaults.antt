@@ -3,7 +3,7 @@ use Rattle.json_patch_operation.proofs.Common.{◌≡◌, ℕ, List, [], ◌∷�
 use Rattle.jsonptr.specs.Faults.{IsFault}
 use Rattle.jsonptr.specs.declared.ParseError.{ParseError}
 use Rattle.std.specs.Prelude.{IsErrAnd}
-use Rattle.json_patch_operation.specs.declared.error.ReadFault.{ReadFault}
+use Rattle.json_patch_operation.specs.declared.read_error.ReadFault.{ReadFault}
 use Rattle.json_patch_document.proofs.DocumentOrNot.{document_or_not}
 
 -- ---- what is found at a member

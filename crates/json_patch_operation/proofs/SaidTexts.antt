@@ -3,8 +3,8 @@ use Rattle.json_patch_operation.proofs.Common.{◌≡◌, ℕ, List, Some, None,
 use Rattle.json_patch_operation.proofs.Common.{Operation, IsDocument, ReadsPatch}
 use Rattle.serde_json.specs.Read.{read}
 use Rattle.json_patch_operation.specs.Texts.{SaysDocument, SaysPatch, NoDocument, NoPatch}
-use Rattle.json_patch_operation.specs.declared.error.Fault.{Fault}
-use Rattle.json_patch_operation.specs.declared.error.Fault.TheVariants.{Syntax, NotWhole, Unreadable, Refused, Memory}
+use Rattle.json_patch_operation.specs.declared.fault.Fault.{Fault}
+use Rattle.json_patch_operation.specs.declared.fault.Fault.TheVariants.{Syntax, NotWhole, Unreadable, Refused, Memory}
 use Rattle.json_patch_operation.proofs.PatchValues.{read_is}
 
 one_value : (t : List ℕ) (d e : Data) → read t ≡ Some d → read t ≡ Some e → e ≡ d

@@ -12,13 +12,13 @@ use Rattle.jsonptr.specs.Faults.{IsFault}
 use Rattle.jsonptr.specs.declared.ParseError.{ParseError}
 use Rattle.json_patch_document.specs.Document.{IsDocument}
 use Rattle.json_patch_operation.specs.Operation.{Operation, Parts, parts_of, IsWholeOp}
-use Rattle.json_patch_operation.specs.declared.error.ReadKind.{ReadKind}
-use Rattle.json_patch_operation.specs.declared.error.ReadKind.TheVariants.{NotAList, NotAnObject, MissingOp, OpNotText, UnknownOp}
-use Rattle.json_patch_operation.specs.declared.error.ReadKind.TheVariants.{MissingFrom, FromNotText, BadFrom, MissingPath}
-use Rattle.json_patch_operation.specs.declared.error.ReadKind.TheVariants.{PathNotText, BadPath, MissingValue, ValueNotWhole}
-use Rattle.json_patch_operation.specs.declared.error.ReadError.{ReadError}
-use Rattle.json_patch_operation.specs.declared.error.ReadFault.{ReadFault}
-use Rattle.json_patch_operation.specs.declared.error.ReadFault.TheVariants.{Refused, Memory}
+use Rattle.json_patch_operation.specs.declared.read_error.ReadKind.{ReadKind}
+use Rattle.json_patch_operation.specs.declared.read_error.ReadKind.TheVariants.{NotAList, NotAnObject, MissingOp, OpNotText, UnknownOp}
+use Rattle.json_patch_operation.specs.declared.read_error.ReadKind.TheVariants.{MissingFrom, FromNotText, BadFrom, MissingPath}
+use Rattle.json_patch_operation.specs.declared.read_error.ReadKind.TheVariants.{PathNotText, BadPath, MissingValue, ValueNotWhole}
+use Rattle.json_patch_operation.specs.declared.read_error.ReadError.{ReadError}
+use Rattle.json_patch_operation.specs.declared.read_error.ReadFault.{ReadFault}
+use Rattle.json_patch_operation.specs.declared.read_error.ReadFault.TheVariants.{Refused, Memory}
 
 -- ---- the members of an operation (RFC 6902, section 4)
 

@@ -4,7 +4,7 @@ use Rattle.serde_json.specs.Data.{Data}
 use Rattle.json_patch_operation.specs.Operation.{Operation}
 use Rattle.json_patch_operation.specs.PatchValue.{name_of, field_names, ReadsFields, ReadsOperation, ReadsPatch, RefusesFields}
 use Rattle.json_patch_operation.specs.PatchValue.{RefusesOperation, RefusesPatch}
-use Rattle.json_patch_operation.specs.declared.error.ReadKind.{ReadKind}
+use Rattle.json_patch_operation.specs.declared.read_error.ReadKind.{ReadKind}
 
 -- v reads as these operations and no others, and is refused for nothing
 pub record IsRead (v : Data) (ops : List Operation) : Type 0 where

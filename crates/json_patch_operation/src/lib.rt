@@ -4,18 +4,22 @@
 
 mod equality;
 mod error;
+mod fault;
 mod operation;
 mod parsing;
 mod printing;
+mod read_error;
 mod reading;
 mod within;
 mod writing;
 
-pub use error::{Fault, PatchError, PatchErrorKind, PatchFault, ReadError, ReadFault, ReadKind};
+pub use error::{PatchError, PatchErrorKind, PatchFault};
+pub use fault::Fault;
 pub use jsonptr;
 pub use operation::{
     AddOperation, CopyOperation, MoveOperation, Patch, PatchOperation, RemoveOperation,
     ReplaceOperation, TestOperation,
 };
-pub use parsing::document_from_str;
+pub use parsing::{document_from_slice, document_from_str};
 pub use printing::pretty;
+pub use read_error::{ReadError, ReadFault, ReadKind};

@@ -1,11 +1,12 @@
-//! Documents and patches from texts.
+//! Documents and patches from texts, and documents from bytes.
 
 ghost use Rattle.std.specs.Prelude.{IfErr, IfOk};
 ghost use Rattle.serde_json.specs.View.{view};
 ghost use Rattle.json_patch_operation.specs.Operation.{AreWhole, operations_of};
-ghost use Rattle.json_patch_operation.specs.Texts.{NoDocument, NoPatch, SaysDocument, SaysPatch};
+ghost use Rattle.json_patch_operation.specs.Texts.{BytesSayDocument, NoDocument, NoDocumentInBytes, NoPatch, SaysDocument};
+ghost use Rattle.json_patch_operation.specs.Texts.{SaysPatch};
 
-use crate::error::Fault;
+use crate::fault::Fault;
 use crate::operation::Patch;
 use json_patch_document::is_whole;
 use serde_json::Value;
@@ -22,6 +23,24 @@ pub fn document_from_str(alloc: Global, text: &str) -> Result<Value, Fault>
     ensures fault { IfErr result (NoDocument text.now) }
 {
     let document = Value::from_str(alloc, text)?;
+    if !is_whole(&document) {
+        return Err(Fault::NotWhole);
+    }
+    Ok(document)
+}
+
+/// The document that bytes say, as [`document_from_str`] does of a text. Bytes that aren't UTF-8 are
+/// `Syntax`.
+///
+/// ```rust
+/// let mut document = document_from_slice(alloc, bytes)?;
+/// patch(alloc, &mut document, changes.as_slice())?;
+/// ```
+pub fn document_from_slice(alloc: Global, bytes: &[u8]) -> Result<Value, Fault>
+    ensures document { IfOk result (λ d. BytesSayDocument bytes.now (view d)) }
+    ensures fault { IfErr result (NoDocumentInBytes bytes.now) }
+{
+    let document = Value::from_slice(alloc, bytes)?;
     if !is_whole(&document) {
         return Err(Fault::NotWhole);
     }

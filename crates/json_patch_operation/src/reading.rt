@@ -10,13 +10,13 @@ ghost use Rattle.json_patch_operation.specs.PatchValue.{IfUnreadAlone, IfUnreada
 ghost use Rattle.json_patch_operation.specs.PatchValue.{ReadsOperation, ReadsPatch, RefusesFields, RefusesOperation};
 ghost use Rattle.json_patch_operation.specs.PatchValue.{RefusesPatch};
 ghost use Rattle.json_patch_operation.specs.ReadSteps.{HasAnyFrom, IsPointerAt};
-ghost use Rattle.json_patch_operation.specs.declared.error.ReadFault.TheVariants.{Refused};
+ghost use Rattle.json_patch_operation.specs.declared.read_error.ReadFault.TheVariants.{Refused};
 
-use crate::error::{ReadError, ReadFault, ReadKind};
 use crate::operation::{
     AddOperation, CopyOperation, MoveOperation, Patch, PatchOperation, RemoveOperation,
     ReplaceOperation, TestOperation,
 };
+use crate::read_error::{ReadError, ReadFault, ReadKind};
 use json_patch_document::is_whole;
 use jsonptr::{Pointer, PointerBuf};
 use serde_json::Value;

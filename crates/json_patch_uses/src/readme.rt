@@ -1,21 +1,22 @@
 //! The examples of the README and of the crates' comments, word for word.
 
 ghost use Rattle.std.specs.Prelude.{◌≡◌, ◌≤◌, ◌↔◌, IfOk, IsTrue, OnOk, take};
-ghost use Rattle.serde_json.specs.Data.{depth};
+ghost use Rattle.serde_json.specs.Data.{Data, depth};
 ghost use Rattle.serde_json.specs.View.{view};
 ghost use Rattle.json_patch.specs.Apart.{AreApart};
 ghost use Rattle.json_patch.specs.Document.{IsDocument};
 ghost use Rattle.json_patch.specs.Operation.{AreWhole, operations_of};
 ghost use Rattle.json_patch.specs.OverLimits.{size};
 ghost use Rattle.json_patch.specs.Run.{Accepts};
+ghost use Rattle.json_patch.specs.Texts.{BytesSayDocument};
 
 mod tests;
 
 use json_patch::jsonptr::{ParseError, Pointer, PointerBuf};
 use json_patch::{
     AddOperation, Fault, LimitFault, Limits, Patch, PatchFault, PatchOperation, apply_patches,
-    apply_patches_within, are_apart, document_from_str, is_shallow, is_small, lookup, merge, patch,
-    patch_unsafe, patch_within,
+    apply_patches_within, are_apart, document_from_slice, document_from_str, is_shallow, is_small,
+    lookup, merge, patch, patch_unsafe, patch_within,
 };
 use json_patch_editor::Editor;
 use serde_json::{Value, json};
@@ -24,6 +25,16 @@ use std::alloc::{AllocError, Global};
 fn from_texts(alloc: Global) -> Result<Value, Fault> {
     let mut document = document_from_str(alloc, r#"{"a":1,"l":[1,2]}"#)?;
     let changes = Patch::from_str(alloc, r#"[{"op":"add","path":"/l/-","value":3}]"#)?;
+    patch(alloc, &mut document, changes.as_slice())?;
+    Ok(document)
+}
+
+fn from_bytes(alloc: Global, bytes: &[u8], changes: &Patch) -> Result<Value, Fault>
+    requires { AreWhole (operations_of changes.now) }
+    ensures { IfOk result (λ e. (d : Data) × BytesSayDocument bytes.now d
+        × Accepts d (operations_of changes.now) (view e)) }
+{
+    let mut document = document_from_slice(alloc, bytes)?;
     patch(alloc, &mut document, changes.as_slice())?;
     Ok(document)
 }

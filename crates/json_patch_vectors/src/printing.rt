@@ -188,7 +188,7 @@ fn patches_are_printed(rt: HostRuntime) -> Result<(), Fail> {
     Ok(())
 }
 
-// The value of this text is printed so within an `add`.
+// The value of this text is printed so within an `add`, by itself and as an operation.
 fn assert_printed_in_add(
     rt: &impl Abort,
     alloc: Global,
@@ -198,8 +198,10 @@ fn assert_printed_in_add(
     let value = Value::from_str(alloc, text)?;
     let path = PointerBuf::parse(alloc, "/a")?;
     let add = AddOperation { path, value };
-    let expected = format!(in alloc; r#"{{"path":"/a","value":{expected}}}"#)?;
-    assert_printed(rt, alloc, &add, expected.as_str())
+    let fields = format!(in alloc; r#"{{"path":"/a","value":{expected}}}"#)?;
+    assert_printed(rt, alloc, &add, fields.as_str())?;
+    let operation = format!(in alloc; r#"{{"op":"add","path":"/a","value":{expected}}}"#)?;
+    assert_printed(rt, alloc, &PatchOperation::Add(add), operation.as_str())
 }
 
 #[test]

@@ -1,9 +1,10 @@
-//! Documents and patches read from texts.
+//! Documents and patches read from texts, and documents from bytes.
 
 use crate::runner::assert_shown;
 use json_patch::jsonptr::PointerBuf;
 use json_patch::{
-    Fault, Patch, PatchError, PatchErrorKind, PatchFault, ReadKind, document_from_str,
+    Fault, Patch, PatchError, PatchErrorKind, PatchFault, ReadKind, document_from_slice,
+    document_from_str,
 };
 use std::alloc::{AllocError, AllocGlobal, Global};
 use std::fmt::Display;
@@ -97,6 +98,27 @@ fn documents_are_read(rt: HostRuntime) -> Result<(), Fail> {
         ("[1,", CUT_SHORT),
     ] {
         assert_answer(&rt, &document_from_str(rt.alloc(), text), expected)?;
+        let bytes = text.as_bytes();
+        assert_answer(&rt, &document_from_slice(rt.alloc(), bytes), expected)?;
+    }
+    Ok(())
+}
+
+// RFC 3629, sections 3 and 10: a byte that stands nowhere, a character cut short, a slash in two
+// bytes, half of a surrogate pair, and a character past the last one. And a text in UTF-16.
+#[test]
+fn bytes_that_are_not_utf8_are_no_json(rt: HostRuntime) -> Result<(), Fail> {
+    let inputs: [&[u8]; 6] = [
+        b"\"\xff\"",
+        b"\"\xc3\"",
+        b"\"\xc0\xaf\"",
+        b"\"\xed\xa0\x80\"",
+        b"\"\xf4\x90\x80\x80\"",
+        b"\xff\xfe1\0",
+    ];
+    for bytes in inputs {
+        let document = document_from_slice(rt.alloc(), bytes);
+        assert!(rt; matches!(document, Err(Fault::Syntax(_))));
     }
     Ok(())
 }

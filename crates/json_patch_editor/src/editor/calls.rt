@@ -10,8 +10,8 @@ ghost use Rattle.json_patch_editor.specs.Versions.{after_apply, after_redo, afte
 ghost use Rattle.json_patch_editor.specs.Shown.{versions};
 
 use crate::editor::Editor;
-use crate::shifting::{record, shift};
-use json_patch::{PatchFault, PatchOperation};
+use crate::shifting::shift;
+use json_patch::{PatchFault, PatchOperation, apply_patches, laws};
 use serde_json::Value;
 use std::alloc::{AllocError, Global};
 use std::collections::VecDeque;
@@ -65,14 +65,13 @@ impl Editor {
             (NamesFirst (versions self.old).here (operations changes.now)) }
         ensures unchanged { OnErr result (versions self.new ≡ versions self.old) }
     {
-        record(
-            alloc,
-            &mut self.document,
-            &mut self.undos,
-            &mut self.redos,
-            self.depth,
-            changes,
-        )
+        laws::runs();
+        self.undos.reserve(1)?;
+        let undo = apply_patches(alloc, &mut self.document, changes)?;
+        self.undos.push_front_reserved(undo);
+        self.undos.truncate(self.depth);
+        self.redos.clear();
+        Ok(())
     }
 
     /// Takes the last change back, if there is one.

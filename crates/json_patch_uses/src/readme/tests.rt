@@ -5,7 +5,7 @@ ghost use Rattle.json_patch.specs.Document.{IsDocument};
 ghost use Rattle.json_patch.specs.Operation.{AreWhole, operations, operations_of};
 
 use crate::readme::{
-    from_texts, has_two_levels, is_of_ann, is_of_size_four, left_part_way, made_late,
+    from_bytes, from_texts, has_two_levels, is_of_ann, is_of_size_four, left_part_way, made_late,
     merged_and_looked_up, taken_back, there_and_back, there_and_back_within, told_within,
     what_was_refused, written_and_read,
 };
@@ -40,6 +40,15 @@ fn an_item_is_added(rt: HostRuntime) -> Result<(), Fail> {
     let document = from_texts(rt.alloc()).expect(&rt, "an accepted patch");
     let text = document.to_string(rt.alloc())?;
     assert_eq!(rt; text.as_str(), r#"{"a":1,"l":[1,2,3]}"#);
+    Ok(())
+}
+
+#[test]
+fn bytes_are_patched(rt: HostRuntime) -> Result<(), Fail> {
+    let alloc = rt.alloc();
+    let added = changes(alloc, r#"[{"op":"add","path":"/l/-","value":3}]"#);
+    let document = from_bytes(alloc, b"{\"l\":[1,2]}", &added).expect(&rt, "an accepted patch");
+    assert_eq!(rt; document.to_string(alloc)?.as_str(), r#"{"l":[1,2,3]}"#);
     Ok(())
 }
 

@@ -4,7 +4,7 @@ use Rattle.json_patch.proofs.log.Log.log_edit.Goals as goal
 
 pub returns-clause-logged : goal.returns-clause-logged
 returns-clause-logged c = (
-  record { path = c.args.path; from = c.args.from; found = c.in_ok-found.found; value = c.take.result; kept = c.in_ok-kept.kept },
+  record { path = c.args.step.path; from = c.args.from; found = c.in_ok-found.found; value = c.take.result; kept = c.in_ok-kept.kept },
   record {
     ends = rw c.in_ok-reserve.ensures.items at c.push_reserved.ensures.items;
     at = refl;

@@ -1,7 +1,7 @@
 use Rattle.json_patch.proofs.Common.{◌≡◌, ◌≤◌, ◌+◌, ◌*◌, ◌++◌, length, operations}
 use Rattle.std.specs.Prelude.{vec_capacity, vec_len}
 use Rattle.json_patch.specs.Logged.{kept_blocks}
-use Rattle.json_patch.proofs.log.inverse_of.Given as goal
+use Rattle.json_patch.proofs.inverse.inverse_of.Given as goal
 
 abbrev pub invariant-loop-change : goal.invariant-loop-change
 invariant-loop-change l = record {

@@ -1,7 +1,7 @@
 use Rattle.json_patch.proofs.Common.{arith, rules}
 use Rattle.json_patch.proofs.Logged.{roomy_more, roomy_next}
 use Rattle.json_patch.proofs.LoggedRuns.{seen_through}
-use Rattle.json_patch.proofs.log.clear_places.Goals as goal
+use Rattle.json_patch.proofs.clearing.clear_places.Goals as goal
 
 pub clear_mark-requires-clause-fits : goal.clear_mark-requires-clause-fits
 clear_mark-requires-clause-fits c =

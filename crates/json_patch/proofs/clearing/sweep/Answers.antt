@@ -3,7 +3,7 @@ use Rattle.json_patch.proofs.MarkedCounts.{sweep_counts}
 use Rattle.json_patch.proofs.MarkedEdits.{exchange_unseen}
 use Rattle.json_patch_edit.specs.MarkedComputed.{marks}
 use Rattle.json_patch_edit.specs.declared.edits.Edit.TheVariants.{Sweep}
-use Rattle.json_patch.proofs.log.sweep.Goals as goal
+use Rattle.json_patch.proofs.clearing.sweep.Goals as goal
 
 pub returns-in-Ok-clause-cleared : goal.returns-in-Ok-clause-cleared
 returns-in-Ok-clause-cleared c = exchange_unseen (Ok c.in-Ok._found) Sweep null (view c.args.doc.now) (view c.make.new.doc) (view c.make.new.value) (tokens_of c.in-Some.shared) tt c.requires c.in-Ok.ensures.makes

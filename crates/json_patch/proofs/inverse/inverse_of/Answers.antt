@@ -1,7 +1,7 @@
 use Rattle.json_patch.proofs.Common.{◌++◌, ◌∙◌, arith, sym, ap, append_assoc, view, operations}
 use Rattle.json_patch.proofs.LoggedEdits.{blocks_pushed}
 use Rattle.json_patch.specs.Logged.{kept_block, kept_blocks}
-use Rattle.json_patch.proofs.log.inverse_of.Goals as goal
+use Rattle.json_patch.proofs.inverse.inverse_of.Goals as goal
 
 pub loop-change-preserved : goal.loop-change-preserved
 loop-change-preserved c =

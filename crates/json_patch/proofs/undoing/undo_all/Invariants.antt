@@ -2,7 +2,7 @@ use Rattle.json_patch.proofs.Common.{length, view}
 use Rattle.serde_json.specs.Data.{Data}
 use Rattle.json_patch_edit.specs.Exchange.{room}
 use Rattle.json_patch.specs.Logged.{AreRoomy, LeadsBack}
-use Rattle.json_patch.proofs.log.undo_all.Given as goal
+use Rattle.json_patch.proofs.undoing.undo_all.Given as goal
 
 abbrev pub invariant-loop-change : goal.invariant-loop-change
 invariant-loop-change l = record {

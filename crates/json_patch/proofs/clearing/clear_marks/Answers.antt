@@ -2,7 +2,7 @@ use Rattle.json_patch.proofs.Common.{◌≡◌, arith, view}
 use Rattle.json_patch.proofs.LoggedRuns.{all_gone, seen_through}
 use Rattle.json_patch_edit.specs.Marked.{seen}
 use Rattle.json_patch_edit.specs.MarkedComputed.{marks}
-use Rattle.json_patch.proofs.log.clear_marks.Goals as goal
+use Rattle.json_patch.proofs.clearing.clear_marks.Goals as goal
 
 pub returns-then-left-eq0 : goal.returns-then-left-eq0
 returns-then-left-eq0 c =

@@ -1,5 +1,5 @@
 use Rattle.json_patch.proofs.Logged.{leads_popped, roomy_more, roomy_popped}
-use Rattle.json_patch.proofs.log.undo_all.Goals as goal
+use Rattle.json_patch.proofs.undoing.undo_all.Goals as goal
 
 pub undo_one-requires-clause-roomy : goal.undo_one-requires-clause-roomy
 undo_one-requires-clause-roomy c = (roomy_popped _ c.pop.new.self.items c.in-Some.change (rw c.in-Some.ensures.items at c.loop-change.invariant.roomy)).1

@@ -1,7 +1,7 @@
 use Rattle.json_patch.proofs.Common.{◌≤◌, view}
 use Rattle.json_patch_edit.specs.Marked.{IsSeen, seen}
 use Rattle.json_patch_edit.specs.MarkedComputed.{marks}
-use Rattle.json_patch.proofs.log.clear_followed.Given as goal
+use Rattle.json_patch.proofs.clearing.clear_followed.Given as goal
 
 abbrev pub invariant-loop-number : goal.invariant-loop-number
 invariant-loop-number l = record {

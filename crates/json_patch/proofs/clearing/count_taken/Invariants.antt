@@ -1,6 +1,6 @@
 use Rattle.json_patch.proofs.Common.{◌≡◌, ◌≤◌, ◌+◌, drop}
 use Rattle.json_patch.specs.Logged.{takes}
-use Rattle.json_patch.proofs.log.count_taken.Given as goal
+use Rattle.json_patch.proofs.clearing.count_taken.Given as goal
 
 abbrev pub invariant-loop-change : goal.invariant-loop-change
 invariant-loop-change l = record {

@@ -3,7 +3,7 @@ use Rattle.json_patch_edit.specs.Exchange.{room}
 use Rattle.json_patch.specs.Logged.{AreRoomy, held}
 use Rattle.json_patch_edit.specs.Marked.{IsSeen, seen}
 use Rattle.json_patch_edit.specs.MarkedComputed.{marks}
-use Rattle.json_patch.proofs.log.clear_places.Given as goal
+use Rattle.json_patch.proofs.clearing.clear_places.Given as goal
 
 abbrev pub invariant-loop-change : goal.invariant-loop-change
 invariant-loop-change l = record {

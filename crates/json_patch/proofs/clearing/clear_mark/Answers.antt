@@ -2,7 +2,7 @@ use Rattle.json_patch.proofs.Common.{Ok, Err, Refused, null, arith, refl, view, 
 use Rattle.json_patch.proofs.MarkedCounts.{clear_counts}
 use Rattle.json_patch.proofs.MarkedEdits.{exchange_unseen}
 use Rattle.json_patch_edit.specs.declared.edits.Edit.TheVariants.{Clear}
-use Rattle.json_patch.proofs.log.clear_mark.Goals as goal
+use Rattle.json_patch.proofs.clearing.clear_mark.Goals as goal
 
 pub returns-in-Ok-clause-cleared : goal.returns-in-Ok-clause-cleared
 returns-in-Ok-clause-cleared c = exchange_unseen (Ok c.in-Ok._found) Clear null (view c.args.doc.now) (view c.make.new.doc) (view c.make.new.value) (tokens_of c.args.place) tt c.requires.marked c.in-Ok.ensures.makes
