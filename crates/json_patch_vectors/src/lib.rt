@@ -11,6 +11,8 @@ mod callers;
 #[cfg(test)]
 mod computed;
 #[cfg(test)]
+mod differences;
+#[cfg(test)]
 mod documentation;
 #[cfg(test)]
 mod equality;

@@ -1,0 +1,10 @@
+//! The JSON Patch (RFC 6902) that leads from one document to another.
+#![tactic(auto)]
+
+mod alignment;
+mod difference;
+mod edits;
+mod hash;
+mod sizes;
+
+pub use difference::diff;
