@@ -9,8 +9,8 @@ bench/driver.rt.txt json_patch_editor` proves and builds; TOOL is json_patch_too
 patch < stdin` leaves in its folder out/. R and S are the programs of bench/rust/main.rs and
 diff/rust/main.rs, both round the Rust crate json-patch 5.0.0. nlohmann/json (Debian's
 nlohmann-json3-dev, with g++) and Python's jsonpatch (Debian's python3-jsonpatch) are taken where they
-are installed; `--beside` names those that are wanted. The Rust crate keeps `apply_patches` to itself, so
-beside ours stands its `patch`. In each round each program is called once, one after another; what is
+are installed; `--beside` names those that are wanted. The Rust crate keeps `apply_patches` to itself, and
+has no limits, so beside ours stands its `patch`. In each round each program is called once, one after another; what is
 printed is the ratio of the medians, with the least and the greatest ratio of a round. An edit and its
 undo by the editor are timed beside the same edit through a copy of the document. With `--rows` only
 the calls and programs are timed whose line has one of these texts, and nothing else. The picture shows
@@ -50,10 +50,10 @@ class Side:
 def sides(asked, folder):
     wanted = lambda other: not asked.beside or other in asked.beside
     modes = {"patch": "patch", "merge": "merge"}
-    ours = {mode: mode for mode in ("patch", "merge", "patch_unsafe", "apply_patches")}
+    ours = {mode: mode for mode in ("patch", "merge", "patch_within", "patch_unsafe", "apply_patches")}
     found = [Side("here", [asked.calls], ours, [asked.tool, "patch"])]
     if wanted("rust") and asked.rust_calls and asked.rust_tool:
-        theirs = {**ours, "apply_patches": "patch"}
+        theirs = {**ours, "patch_within": "patch", "apply_patches": "patch"}
         found.append(Side("json-patch 5.0.0", [asked.rust_calls], theirs, [asked.rust_tool, "patch"]))
     if wanted("nlohmann") and shutil.which("g++") and os.path.isdir("/usr/include/nlohmann"):
         timer = compiled(folder, os.path.join(HERE, "nlohmann.cpp"))

@@ -123,7 +123,7 @@ CALLS = [
 
 REFUSED = "100 mixed operations on 100 kB, and a refused one"
 
-# name, calls a round, document and patch: each is made by `patch`, `patch_unsafe` and `apply_patches`
+# name, calls a round, document and patch: each is made by `patch`, `patch_within`, `patch_unsafe` and `apply_patches`
 LISTS = [
     ("one move among 1,000 members", 200,
      (object_of(1_000), [{"op": "move", "from": "/member 0500", "path": "/moved"}])),
@@ -139,7 +139,7 @@ LISTS = [
      ({"items": [deployment(i) for i in range(20)]}, list(deployed(20)))),
     (REFUSED, 20, (rows(1_450), [*MIXED, {"op": "test", "path": "/rows/0/id", "value": 1}])),
 ]
-CALLS += [(name, mode, count, case) for name, count, case in LISTS for mode in ("patch", "patch_unsafe", "apply_patches")]
+CALLS += [(name, mode, count, case) for name, count, case in LISTS for mode in ("patch", "patch_within", "patch_unsafe", "apply_patches")]
 
 
 # name, calls a round, two lists that are apart

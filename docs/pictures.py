@@ -25,6 +25,7 @@ CAPTIONS = {
     "json_patch_apart": ("lists that may change order", "library"),
     "json_patch": ("patch, inverse; what users name", "library"),
     "json_patch_editor": ("undo and redo", "library"),
+    "json_patch_diff": ("the patch between two documents", "library"),
     "json_patch_c": ("the calls for C and Python", "library"),
     "json_patch_tool": ("the program, bytes to bytes", "program"),
     "json_patch_uses": ("proved examples", "program"),

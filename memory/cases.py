@@ -528,6 +528,32 @@ def merge_calls():
         yield Call(f"merge: {name}", ["merge", *texts], left("done", compact(merged)), short)
 
 
+ROW = "a row that is long enough to stay"
+
+# two documents, and the patch between them
+DIFFERENCES = {
+    "nothing": ({"a": [1, {"b": None}]}, {"a": [1, {"b": None}]}, []),
+    "the whole": ({"a": 1, "b": 2}, {"a": 3, "b": 4}, [replace("", {"a": 3, "b": 4})]),
+    "members": (
+        {"a": 1, "b/": {"c": 2, "stays": ROW}, "z": ROW},
+        {"b/": {"c": 3, "stays": ROW}, "new": [ROW], "z": ROW},
+        [remove("/a"), replace("/b~1/c", 3), add("/new", [ROW])],
+    ),
+    "items": (
+        [[ROW, 1], [ROW, 2], [ROW, 3], [ROW, 4]],
+        [[ROW, 0], [ROW, 1], [ROW, 3], [ROW, 5]],
+        [add("/0", [ROW, 0]), remove("/2"), replace("/3/1", 5)],
+    ),
+}
+
+
+def diff_calls():
+    for name, (document, goal, changes) in DIFFERENCES.items():
+        texts = [compact(document), compact(goal)]
+        short = [left(MEMORY, texts[0])]
+        yield Call(f"diff: {name}", ["diff", *texts], left(printed_patch(changes), texts[0]), short)
+
+
 def editor_state(document, undos, redos):
     return f"{compact(document)}, undos {undos}, redos {redos}"
 

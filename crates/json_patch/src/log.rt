@@ -80,10 +80,10 @@ pub(crate) struct Change<'a> {
 
 /// An edit at a path, and what is kept of it.
 #[derive(Clone, Copy)]
-pub(crate) struct Step<'a> {
-    pub(crate) path: Pointer<'a>,
-    pub(crate) edit: Edit,
-    pub(crate) keep: Keep,
+struct Step<'a> {
+    path: Pointer<'a>,
+    edit: Edit,
+    keep: Keep,
 }
 
 /// What the inverse says of a change, beside what that found.

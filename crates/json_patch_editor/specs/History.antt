@@ -1,5 +1,5 @@
 -- Patches that lead from one document to the next.
-use Rattle.std.specs.Prelude.{◌≡◌, ℕ, List, [], ◌∷◌, take, Result, Ok, Err, Bool, true, false}
+use Rattle.std.specs.Prelude.{◌≡◌, List, [], ◌∷◌, Result, Ok, Err, Bool, true, false}
 use Rattle.serde_json.specs.Data.{Data}
 use Rattle.json_patch.specs.Operation.{AreWhole, operations_of}
 use Rattle.json_patch.specs.Run.{IsAccepted}

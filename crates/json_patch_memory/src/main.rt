@@ -55,6 +55,7 @@ fn on_two(rt: &HostRuntime, call: &str, first: &str, second: &str) -> io::Result
         "patch_unsafe" => runs::patch_unsafe(rt, first, second),
         "apply_patches" => runs::apply_patches(rt, first, second),
         "merge" => runs::merge(rt, first, second),
+        "diff" => runs::diff(rt, first, second),
         "from_value" => kinds::from_value(rt, first, second),
         "to_value" => kinds::to_value(rt, first, second),
         "clone" => kinds::clone(rt, first, second),

@@ -50,6 +50,13 @@ pub(crate) fn merge(rt: &HostRuntime, document: &str, changes: &str) -> io::Resu
     line(rt, &answer, &document)
 }
 
+pub(crate) fn diff(rt: &HostRuntime, from: &str, to: &str) -> io::Result<String> {
+    let from = document_of(rt, from)?;
+    let to = document_of(rt, to)?;
+    let answer = counted!(rt; json_patch_diff::diff(rt.alloc(), &from, &to));
+    line(rt, &answer.map_err(PatchFault::Memory), &from)
+}
+
 pub(crate) fn pretty(rt: &HostRuntime, document: &str) -> io::Result<String> {
     let document = document_of(rt, document)?;
     let answer = counted!(rt; json_patch::pretty(rt.alloc(), &document));

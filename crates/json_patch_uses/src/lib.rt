@@ -9,6 +9,7 @@ mod newest;
 mod pointers;
 #[cfg(test)]
 mod readme;
+mod replaced;
 mod section;
 mod session;
 mod settings;
@@ -24,6 +25,7 @@ pub use guarded::{GuardFault, Guarded};
 pub use layers::{merge_all, number_or};
 pub use newest::undo_newest;
 pub use pointers::{depth, item, member};
+pub use replaced::replace_with;
 pub use section::{SectionFault, patch_section};
 pub use session::tried;
 pub use settings::Settings;

@@ -18,6 +18,7 @@ use json_patch::{
     apply_patches_within, are_apart, document_from_slice, document_from_str, is_shallow, is_small,
     lookup, merge, patch, patch_unsafe, patch_within,
 };
+use json_patch_diff::diff;
 use json_patch_editor::Editor;
 use serde_json::{Value, json};
 use std::alloc::{AllocError, Global};
@@ -123,6 +124,17 @@ fn is_of_size_four(document: Value) -> bool
     ensures { IsTrue result ↔ (size (view document) ≤ 4) }
 {
     is_small(&document, 4)
+}
+
+fn led_there(alloc: Global, document: &mut Value, goal: &Value) -> Result<String, Fault>
+    requires document { IsDocument (view document.old) }
+    requires goal { IsDocument (view goal.now) }
+    ensures { OnOk result (view document.new ≡ view goal.now) }
+{
+    let changes = diff(alloc, document, goal)?;
+    let told = format!(in alloc; "{changes}")?;
+    patch(alloc, document, changes.as_slice())?;
+    Ok(told)
 }
 
 fn written_and_read(alloc: Global, value: Value) -> Result<bool, Fault> {

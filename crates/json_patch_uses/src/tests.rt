@@ -2,11 +2,12 @@
 
 use crate::{
     ChangeFault, GuardFault, Guarded, SectionFault, Settings, SharedDocument, Store, VersionFault,
-    depth, first_example, item, member, merge_all, number_or, patch_section, patched, tried,
-    undo_newest, update_version,
+    depth, first_example, item, member, merge_all, number_or, patch_section, patched, replace_with,
+    tried, undo_newest, update_version,
 };
 use json_patch::jsonptr::Pointer;
 use json_patch::{Fault, Patch, document_from_str, is_whole, patch};
+use json_patch_editor::Editor;
 use serde_json::Value;
 use std::test::Fail;
 
@@ -341,5 +342,22 @@ fn a_stranger_is_kept_within(rt: HostRuntime) -> Result<(), Fail> {
         guarded.document().to_string(alloc)?.as_str(),
         r#"{"a":{},"b":"123"}"#
     );
+    Ok(())
+}
+
+#[test]
+fn a_whole_version_is_taken_back(rt: HostRuntime) -> Result<(), Fail> {
+    let alloc = rt.alloc();
+    let old = r#"{"rows":[{"id":1},{"id":2}],"title":"as it was before"}"#;
+    let new = r#"{"rows":[{"id":0},{"id":1},{"id":2}],"title":"as it was before"}"#;
+    let document = Value::from_str(alloc, old)?;
+    let version = Value::from_str(alloc, new)?;
+    assert!(rt; is_whole(&document));
+    assert!(rt; is_whole(&version));
+    let mut editor = Editor::open(alloc, document, 1);
+    replace_with(alloc, &mut editor, &version).expect(&rt, "enough memory");
+    assert_eq!(rt; editor.document().to_string(alloc)?.as_str(), new);
+    assert!(rt; editor.undo(alloc)?);
+    assert_eq!(rt; editor.document().to_string(alloc)?.as_str(), old);
     Ok(())
 }

@@ -5,8 +5,8 @@ ghost use Rattle.json_patch.specs.Document.{IsDocument};
 ghost use Rattle.json_patch.specs.Operation.{AreWhole, operations, operations_of};
 
 use crate::readme::{
-    from_bytes, from_texts, has_two_levels, is_of_ann, is_of_size_four, left_part_way, made_late,
-    merged_and_looked_up, taken_back, there_and_back, there_and_back_within, told_within,
+    from_bytes, from_texts, has_two_levels, is_of_ann, is_of_size_four, led_there, left_part_way,
+    made_late, merged_and_looked_up, taken_back, there_and_back, there_and_back_within, told_within,
     what_was_refused, written_and_read,
 };
 use json_patch::{Patch, is_whole};
@@ -129,6 +129,20 @@ fn a_section_is_kept_to(rt: HostRuntime) -> Result<(), Fail> {
     assert!(rt; is_of_ann(&own).expect(&rt, "a pointer"));
     let read = changes(alloc, r#"[{"op":"copy","from":"/bob/0","path":"/ann/x"}]"#);
     assert!(rt; !is_of_ann(&read).expect(&rt, "a pointer"));
+    Ok(())
+}
+
+#[test]
+fn a_patch_is_made_of_what_differs(rt: HostRuntime) -> Result<(), Fail> {
+    let alloc = rt.alloc();
+    let mut document = whole(alloc, r#"{"a":1,"l":[1,2]}"#);
+    let goal = whole(alloc, r#"{"a":1,"l":[1,2,3]}"#);
+    let told = led_there(alloc, &mut document, &goal).expect(&rt, "an accepted patch");
+    assert_eq!(rt; told.as_str(), r#"[{"op":"add","path":"/l/2","value":3}]"#);
+    assert_eq!(rt;
+        document.to_string(alloc)?.as_str(),
+        r#"{"a":1,"l":[1,2,3]}"#
+    );
     Ok(())
 }
 
