@@ -11,6 +11,7 @@ os.environ.setdefault("JSON_PATCH_LIBRARY", str(TOP / "c/out/lib/libjson_patch.s
 import json_patch  # noqa: E402
 from json_patch._calls import called  # noqa: E402
 from json_patch._library import LIBRARY  # noqa: E402
+from json_patch.limits import DEFAULT  # noqa: E402
 
 mode, count = sys.argv[1], int(sys.argv[2])
 document, patch = (json.dumps(value, separators=(",", ":")).encode() for value in json.load(sys.stdin))
@@ -20,5 +21,5 @@ with json_patch.Document.from_string(document) as kept:
         if mode == "kept":
             kept.apply(patch)
         else:
-            called(LIBRARY.json_patch_apply, document, patch)
+            called(LIBRARY.json_patch_apply_within, document, patch, DEFAULT)
     print((time.perf_counter_ns() - start) // count)

@@ -3,7 +3,7 @@
  * a document in itself, values and texts nested up to the limit and past it, and patches that copy
  * too much. What has to come of each is counted here, from the levels and sizes alone.
  *
- *     test_limits [STACK]     the stack's bytes (65536)
+ *     test_limits [STACK]     the stack's bytes (196608)
  */
 #include "json_patch.h"
 
@@ -366,7 +366,7 @@ static void *made(void *unused) {
 }
 
 int main(int count, char **words) {
-    size_t stack = count > 1 ? strtoul(words[1], NULL, 10) : 65536;
+    size_t stack = count > 1 ? strtoul(words[1], NULL, 10) : 196608;
     pthread_attr_t attributes;
     pthread_t thread;
     out = malloc(ROOM);

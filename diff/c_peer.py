@@ -16,11 +16,12 @@ os.environ.setdefault("JSON_PATCH_LIBRARY", str(TOP / "c/out/lib/libjson_patch.s
 import json_patch  # noqa: E402
 from json_patch._calls import called  # noqa: E402
 from json_patch._library import LIBRARY  # noqa: E402
+from json_patch.limits import DEFAULT  # noqa: E402
 
 CALLS = {
-    "patch": LIBRARY.json_patch_apply,
-    "record": LIBRARY.json_patch_record,
-    "merge": LIBRARY.json_patch_merge,
+    "patch": LIBRARY.json_patch_apply_within,
+    "record": LIBRARY.json_patch_record_within,
+    "merge": LIBRARY.json_patch_merge_within,
 }
 
 
@@ -29,7 +30,7 @@ def text(value):
 
 
 def from_texts(mode, document, patch):
-    return json.loads(called(CALLS[mode], document.encode(), patch.encode()))
+    return json.loads(called(CALLS[mode], document.encode(), patch.encode(), DEFAULT))
 
 
 def changed(mode, kept, patch):

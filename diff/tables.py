@@ -121,6 +121,9 @@ def rows():
             document = {"a": here}
             yield from refused([document, [test("/a", asked)]], 0, "/a", "TestFailed", compact(document))
     for case in vectors():
+        # those within limits are of diff/limits_tables.py
+        if "told" in case:
+            continue
         if "are_apart" in case:
             yield "apart", json.loads(case["first"]), json.loads(case["second"]), ("ok", case["are_apart"])
             continue

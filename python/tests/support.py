@@ -9,6 +9,8 @@ C = Path(__file__).resolve().parents[2] / "c"
 ROWS = json.loads((C / "cases.json").read_text(encoding="utf-8"))
 CALLS = {"apply": apply_patch, "record": record_patch, "merge": merge_patch}
 OK, REFUSED = 0, 1
+# what the package asks a thread to have
+SMALL_STACK = 256 * 1024
 
 NOT_WHOLE = (1.5, 1.0, -0.0, 1e-400, 2**64, -(2**63) - 1, 10**308, float("nan"), float("inf"), -1e400)
 PAST_FLOATS = (10**309, 10**400, -(10**400), 10**5000)
@@ -26,6 +28,18 @@ def holding_itself():
     items = []
     items.append(items)
     return items
+
+
+def on_each_stack(call):
+    """Makes a call here, and on a thread with as little stack as one may have."""
+    call()
+    before = threading.stack_size(SMALL_STACK)
+    try:
+        error = on_another_thread(call)
+    finally:
+        threading.stack_size(before)
+    if isinstance(error, Exception):
+        raise error
 
 
 def on_another_thread(call):

@@ -113,11 +113,50 @@ class Command(unittest.TestCase):
         ):
             self.assertEnds(2, told, f"json-patch {arguments}")
 
+    def test_limits(self):
+        self.write("p.json", '[{"op": "test", "path": "/b/0", "value": 1}, {"op": "copy", "from": "/b", "path": "/b/-"}]')
+        made = '{"a":"\u00e9","b":[1,2,[1,2]]}\n'
+        # the copy reaches two tokens and a level, and counts its list and two numbers
+        self.assertDoes("json-patch apply --limit-depth 3 --limit-copies 3 d.json p.json", made)
+        self.assertDoes("json-patch record --limit-depth=3 --limit-copies=3 d.json p.json i", made)
+        for options in ("", "-i", "-ib"):
+            self.assertEnds(1, 'p.json: operation 1: path "/b/-": TooDeep', f"json-patch apply {options} --limit-depth 2 d.json p.json")
+            self.assertEnds(1, 'p.json: operation 1: path "/b/-": TooMuch', f"json-patch apply {options} --limit-copies 2 d.json p.json")
+        (self.folder / "i").unlink()
+        self.assertEnds(1, 'p.json: operation 1: path "/b/-": TooMuch', "json-patch record -i --limit-copies 2 d.json p.json i")
+        self.assertFalse((self.folder / "i").exists())
+        self.write("m.json", '{"b": {"c": [1]}}')
+        self.assertDoes("json-patch merge --limit-depth 3 d.json m.json", '{"a":"\u00e9","b":{"c":[1]}}\n')
+        self.assertEnds(2, "m.json: TooDeep", "json-patch merge --limit-depth 2 d.json m.json")
+        for command in ("apply", "merge"):
+            self.assertEnds(2, "d.json: TooDeep", f"json-patch {command} --limit-depth 1 d.json m.json")
+
+    def test_what_nests_too_deep(self):
+        for name, text in (("125", "[" * 125 + "]" * 125), ("brackets", "[" * 1_000_000)):
+            self.write(name, text)
+            for command in ("apply", "merge"):
+                self.assertEnds(2, f"{name}: TooDeep", f"json-patch {command} {name} p.json")
+            self.assertEnds(2, f"{name}: TooDeep", f"json-patch record -i {name} p.json i")
+            self.assertEnds(2, f"{name}: TooDeep", f"json-patch get {name} ''")
+            self.assertEnds(2, f"{name}: TooDeep", f"json-patch merge -i d.json {name}")
+        self.assertEnds(2, "brackets: TooDeep", "json-patch apply -i d.json brackets")
+        self.assertEnds(2, "brackets: TooDeep", "json-patch check brackets")
+        self.write("124", "[" * 124 + "]" * 124)
+        self.assertDoes("json-patch apply --indent 1 124 <<< '[]' | tr -d ' \\n'; echo", "[" * 124 + "]" * 124 + "\n")
+        # on a small stack: number n finds 2 * 2**n levels, and puts them as many deep
+        self.write("d.json", '{"b":[]}')
+        self.write("p.json", json.dumps([{"op": "copy", "from": "", "path": "/b/0" * 2**n} for n in range(16)]))
+        written, told, status = self.run_lines("ulimit -s 256; json-patch apply -i d.json p.json")
+        self.assertEqual((written, told.count("\n"), status), ("", 1, 1), told)
+        self.assertTrue(told.startswith("json-patch: p.json: operation 5: ") and told.endswith("TooDeep\n"), told)
+
     def test_usage(self):
         for arguments in (
             "", "spam", "apply", "get d.json", "apply - -", "apply -", "apply -i - p.json", "apply -b d.json p.json", "apply --indent x d.json p.json",
             "apply --indent -1 d.json p.json", "record d.json p.json", "record d.json p.json d.json", "record d.json p.json ./p.json",
-            "record d.json p.json -", "check a b", "apply --spam d.json p.json",
+            "record d.json p.json -", "check a b", "apply --spam d.json p.json", "apply --limit-depth 125 d.json p.json",
+            "apply --limit-depth -1 d.json p.json", "merge --limit-copies x d.json p.json", "record --limit-copies 1.5 d.json p.json i",
+            "get --limit-depth 3 d.json /b", f"apply --limit-depth {'9' * 5000} d.json p.json", "apply --limit-copies \u0664 d.json p.json",
         ):
             written, told, status = self.run_lines(f"json-patch {arguments} < p.json")
             self.assertEqual((written, told.count("\n"), status), ("", 1, 64), (arguments, told))
@@ -128,7 +167,7 @@ class Command(unittest.TestCase):
         self.assertDoes("json-patch --version", f"json-patch {json_patch.__version__}\n")
         written, told, status = self.run_lines("json-patch --help && json-patch apply --help && COLUMNS=40 json-patch -h")
         self.assertEqual((told, status), ("", 0))
-        for word in ("apply", "merge", "record", "get", "check", "--in-place", "--backup", "--indent", "exit status"):
+        for word in ("apply", "merge", "record", "get", "check", "--in-place", "--backup", "--indent", "--limit-depth", "--limit-copies", "exit status"):
             self.assertIn(word, written)
 
     def test_memory(self):

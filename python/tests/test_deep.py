@@ -1,83 +1,188 @@
-"""Objects that nest far deeper than a text may: they are refused by name, and nothing is changed."""
+"""What nests far deeper than a text may, on threads with little stack too: each call refuses it by name,
+and nothing is changed."""
+import collections
+import json
+import sys
 import unittest
 
 from json_patch import (
-    Document, InvalidJsonPatch, JsonPatch, JsonPatchException, JsonPointer, OverLimit, apply_patch, merge_patch,
-    record_patch, resolve_pointer, set_pointer,
+    Document, EndOfList, InvalidJsonPatch, JsonPatch, JsonPatchException, JsonPointer, JsonPointerException, TooDeep,
+    apply_patch, merge_patch, record_patch, resolve_pointer, set_pointer,
 )
-from json_patch._texts import is_deep
-from support import holding_itself, nested
+from json_patch._depth import is_deep
+from support import holding_itself, nested, on_each_stack
 
 LEVELS = 100_000
+BRACKETS = 1_000_000
+TEXTS = ["[" * BRACKETS, "[" * (BRACKETS // 2) + "]" * (BRACKETS // 2), '[{"a":' * (BRACKETS // 6), "[" * 128]
 
 
-def nested_dicts(levels):
-    made = {}
+def nested_dicts(levels, kind=dict):
+    made = kind()
     for _ in range(levels - 1):
-        made = {"a": made}
+        made = kind(a=made)
     return made
 
 
+def nested_tuples(levels):
+    made = ()
+    for _ in range(levels - 1):
+        made = (made,)
+    return made
+
+
+def released(deep):
+    """Takes a nest apart from without: Python's own way to free one of OrderedDicts is recursive."""
+    while deep:
+        deep = deep.pop("a", None)
+
+
+def deep_objects():
+    """They aren't made on a thread with little stack: Python 3.13 needs more to free them."""
+    return (
+        nested(LEVELS), nested_dicts(LEVELS), nested_tuples(LEVELS), nested(1_000), nested(128), {"a": [nested(LEVELS)]},
+        [{}, *[[nested_dicts(LEVELS)]] * 3], holding_itself(),
+    )
+
+
 class Deep(unittest.TestCase):
-    def assertNotJson(self, error, *calls):
+    def assertTooDeep(self, error, *calls):
         for call in calls:
             with self.assertRaises(error) as caught:
                 call()
-            self.assertEqual(caught.exception.kind, "NotJson")
+            self.assertIsInstance(caught.exception, TooDeep)
+            self.assertEqual((caught.exception.kind, caught.exception.operation), ("TooDeep", None))
 
     def test_documents(self):
-        for deep in (nested(LEVELS), nested_dicts(LEVELS), nested(1_000), {"a": [nested(LEVELS)]}):
-            patch = [{"op": "test", "path": "", "value": 1}]
-            self.assertNotJson(
-                JsonPatchException,
-                lambda: apply_patch(deep, patch), lambda: apply_patch(deep, patch, in_place=True),
-                lambda: record_patch(deep, patch), lambda: merge_patch(deep, {}), lambda: Document(deep),
-                lambda: merge_patch({}, deep),
-            )
+        patch, objects = [{"op": "replace", "path": "", "value": 1}], deep_objects()
+
+        def refused():
+            for deep in objects:
+                self.assertTooDeep(
+                    JsonPatchException,
+                    lambda: apply_patch(deep, patch), lambda: apply_patch(deep, patch, in_place=True),
+                    lambda: record_patch(deep, patch), lambda: merge_patch(deep, {}), lambda: Document(deep),
+                    lambda: JsonPatch(patch).apply(deep), lambda: JsonPatch(patch).apply(deep, in_place=True),
+                    lambda: JsonPatch(patch).record(deep),
+                )
+                self.assertTrue(is_deep(deep))
+
+        on_each_stack(refused)
 
     def test_patches(self):
-        for deep in (nested(LEVELS), nested_dicts(LEVELS), nested(1_000)):
-            patch, document = [{"op": "add", "path": "/a", "value": deep}], {}
-            with Document({}) as kept:
-                self.assertNotJson(
-                    InvalidJsonPatch,
-                    lambda: JsonPatch(patch), lambda: JsonPatch(deep), lambda: apply_patch(document, patch, in_place=True),
-                    lambda: kept.apply(patch), lambda: kept.record(patch), lambda: kept.merge(deep),
-                )
-                self.assertEqual((kept.get(), document), ({}, {}))
+        objects = deep_objects()
+
+        def refused():
+            for deep in objects:
+                document = {"b": 1}
+                for patch in ([{"op": "remove", "path": "/b"}, {"op": "add", "path": "/a", "value": deep}], deep):
+                    with Document({}) as kept:
+                        self.assertTooDeep(
+                            InvalidJsonPatch,
+                            lambda: JsonPatch(patch), lambda: apply_patch(document, patch),
+                            lambda: apply_patch(document, patch, in_place=True), lambda: record_patch(document, patch),
+                            lambda: merge_patch(document, patch), lambda: JsonPatch.json_dumper(patch),
+                            lambda: kept.apply(patch), lambda: kept.record(patch), lambda: kept.merge(patch),
+                        )
+                        self.assertEqual((kept.get(), document), ({}, {"b": 1}))
+
+        on_each_stack(refused)
 
     def test_texts(self):
-        text = "[" * LEVELS + "]" * LEVELS
-        self.assertNotJson(JsonPatchException, lambda: Document.from_string(text), lambda: JsonPatch.from_string(text))
+        def refused():
+            for text in TEXTS:
+                for form in (text, text.encode()):
+                    self.assertTooDeep(JsonPatchException, lambda: Document.from_string(form))
+                    document = {"b": 1}
+                    with Document({}) as kept:
+                        self.assertTooDeep(
+                            InvalidJsonPatch,
+                            lambda: JsonPatch.from_string(form), lambda: JsonPatch.json_loader(form),
+                            lambda: apply_patch(document, form), lambda: apply_patch(document, form, in_place=True),
+                            lambda: record_patch(document, form), lambda: kept.apply(form), lambda: kept.record(form),
+                        )
+                        self.assertEqual((kept.get(), document), ({}, {"b": 1}))
+                    # a string, where an object is asked for, is a string
+                    self.assertEqual(merge_patch(text, text), text)
+
+        on_each_stack(refused)
+
+    def test_readers_and_writers_of_the_caller(self):
+        class Own(JsonPatch):
+            json_loader = staticmethod(json.loads)
+
+        deep = JsonPatch([])
+        deep.patch.append(nested(LEVELS))
+        self.assertTooDeep(
+            InvalidJsonPatch,
+            lambda: JsonPatch.from_string(TEXTS[0], loads=json.loads), lambda: Own.from_string(TEXTS[0]),
+            lambda: deep.to_string(json.dumps), lambda: deep.to_string(),
+        )
 
     def test_patches_that_are_deep_by_now(self):
         patch = JsonPatch([{"op": "add", "path": "/a", "value": []}])
         patch.patch[0]["value"] = nested(LEVELS)
-        self.assertNotJson(InvalidJsonPatch, lambda: patch.apply({}), lambda: patch == patch, lambda: hash(patch))
-        with self.assertRaises(OverLimit):
-            patch.to_string()
 
-    def test_results(self):
-        """Each copy of the whole into its innermost list doubles the depth."""
-        copies = [{"op": "copy", "from": "", "path": "/0" * (2**n - 1) + "/-"} for n in range(11)]
-        def kept_and_read():
-            with Document([]) as kept:
-                kept.apply(copies)
-                kept.get()
+        def refused():
+            document = {}
+            self.assertTooDeep(
+                InvalidJsonPatch,
+                lambda: patch.apply({}), lambda: patch.apply(document, in_place=True), lambda: patch.record({}),
+                lambda: apply_patch({}, patch), lambda: patch == patch, lambda: hash(patch), patch.to_string,
+                lambda: str(patch), lambda: JsonPatch(patch),
+            )
+            self.assertEqual((document, repr(patch), bool(patch), len(patch)), ({}, "JsonPatch(...)", True, 1))
 
-        for call in (lambda: apply_patch([], copies), lambda: record_patch([], copies), kept_and_read):
-            try:
-                call()
-            except OverLimit as error:  # some Pythons read so deep a text
-                self.assertEqual(error.kind, "TooDeep")
+        on_each_stack(refused)
+
+    def test_other_containers(self):
+        deep = nested_dicts(LEVELS, collections.OrderedDict)
+        try:
+            patch = [{"op": "add", "path": "", "value": deep}]
+            on_each_stack(lambda: self.assertTooDeep(
+                JsonPatchException,
+                lambda: apply_patch(deep, []), lambda: merge_patch({}, deep), lambda: JsonPatch(patch), lambda: Document(deep),
+            ))
+        finally:
+            released(deep)
+
+    def test_a_large_recursion_limit(self):
+        """It isn't Python's limit that the calls live by."""
+        before = sys.getrecursionlimit()
+        sys.setrecursionlimit(1_000_000)
+        try:
+            self.test_documents()
+            self.test_patches()
+            self.test_texts()
+        finally:
+            sys.setrecursionlimit(before)
 
     def test_pointers(self):
-        deep = nested(LEVELS)
+        deep, copies, tuples = nested(LEVELS), [], [nested_tuples(LEVELS)]
+        on_each_stack(lambda: self.walk_by_pointers(deep, copies, tuples))
+
+    def walk_by_pointers(self, deep, copies, tuples):
         pointer = JsonPointer.from_parts([0] * (LEVELS - 1))
         self.assertEqual(pointer.resolve(deep), [])
         made = set_pointer(deep, pointer.path + "/-", 7, inplace=False)
+        copies.append(made)
         self.assertEqual((resolve_pointer(made, pointer.path), pointer.resolve(deep)), ([7], []))
         self.assertEqual(pointer, JsonPointer(pointer.path))
+        self.assertEqual(repr(EndOfList(deep)), "EndOfList(...)")
+        # as a name it is none, and nothing but lists and dicts is copied to any depth
+        for call in (
+            lambda: JsonPointer.from_parts([deep]), lambda: JsonPointer("") / [deep], lambda: pointer.walk([1], deep),
+            lambda: set_pointer(tuples, "/0", 1, inplace=False),
+        ):
+            with self.assertRaises(JsonPointerException) as caught:
+                call()
+            self.assertEqual(caught.exception.kind, "TooDeep")
+
+    def test_copies_that_hold_themselves(self):
+        items = holding_itself()
+        made = set_pointer(items, "/-", 7, inplace=False)
+        self.assertIs(made[0], made)
+        self.assertEqual((made[1], len(items)), (7, 1))
 
     def test_how_deep(self):
         self.assertFalse(is_deep(nested(127)))

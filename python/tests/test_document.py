@@ -64,17 +64,19 @@ class Kept(unittest.TestCase):
                     kept.apply(patch)
 
     def test_deep_inverses(self):
-        document = nested(127)
+        """Of a document that is as deep as one may be the inverse is read again."""
+        document = nested(124)
         with Document(document) as kept:
             inverse = kept.record([{"op": "replace", "path": "", "value": 1}])
             self.assertEqual(kept.get(), 1)
             self.assertEqual(list(inverse), [{"op": "replace", "path": "", "value": document}])
-            # The library wrote it, and doesn't read so deep a text.
-            with self.assertRaises(InvalidJsonPatch):
-                kept.apply(inverse)
+            self.assertEqual(list(kept.record(inverse)), [{"op": "replace", "path": "", "value": 1}])
+            self.assertEqual(kept.get(), document)
+            kept.apply(inverse.to_string())
+            self.assertEqual(kept.get(), document)
 
     def test_no_json(self):
-        texts = "[", "", '"\ud800"', '"\\ud800"', b"\xff", "[" * 128 + "]" * 128, "[" * 100_000
+        texts = "[", "", '"\ud800"', '"\\ud800"', b"\xff", "[" * 127
         with Document({}) as kept:
             for text in texts:
                 with self.assertRaises(JsonPatchException) as caught:

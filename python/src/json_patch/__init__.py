@@ -31,19 +31,28 @@ A large document that is changed again and again is kept by the library:
 ...     document.get("/rows")
 [3, 2]
 
+A stranger's patch can't nest a document without end, nor copy it so: every call keeps to Limits, those
+of `limits` or Limits(). OverLimit tells which operation is over, before it is made:
+
+>>> try:
+...     apply_patch([], [{"op": "copy", "from": "", "path": "/-"}] * 9, limits=Limits(copied=100))
+... except OverLimit as error:
+...     print(error)
+operation 6 is over the limits at path '/-': TooMuch
+
 Documents, and the values in a patch, hold whole numbers of 64 bits alone: 1.5, 1.0, 2**64 and nan
 are refused by NumberNotWhole. A document is what json.dumps writes of an object, and what comes back
 is what json.loads reads: new lists and dicts, the names in byte order, a key 1 as "1".
 
-What is no UTF-8, no JSON (RFC 8259), nested deeper than 127 levels, or has a number or an escape that
-the reader of JSON refuses (a number past a float's range, such as 1e400 in a text, or 10**400, or an
-unpaired surrogate), is refused with the `kind` NotJson; and so is an object that holds itself. A
-Document and a JsonPatch are read from a text by one reader: a text with -0 isn't whole, and one in
-UTF-16, or with a byte order mark, is no JSON.
+What is no UTF-8, no JSON (RFC 8259), or has a number or an escape that the reader of JSON refuses (a
+number past a float's range, such as 1e400 in a text, or 10**400, or an unpaired surrogate), is refused
+with the `kind` NotJson. A Document and a JsonPatch are read from a text by one reader: a text with -0
+isn't whole, and one in UTF-16, or with a byte order mark, is no JSON.
 
-A patch can nest a document deeper, by what it copies or moves: past some 1,000 levels OverLimit is
-raised, and past some 9,000 the stack may end, and the process with it. So bound the length of a
-stranger's pointers.
+A document or a merge patch with more levels than the limit, and a patch whose text nests more than 127,
+is refused by TooDeep, as a text or as an object, also one that holds itself. No call raises
+RecursionError for what it is handed, but where the caller's own calls leave it no room. A thread has
+to have 256 kB of stack.
 """
 from ._version import __version__
 from .document import Document
@@ -53,9 +62,12 @@ from .errors import (
     JsonPatchException,
     JsonPatchTestFailed,
     JsonPointerException,
+    NothingToUndo,
     NumberNotWhole,
     OverLimit,
+    TooDeep,
 )
+from .limits import Limits
 from .patch import JsonPatch, apply_patch, merge_patch, record_patch
 from .pointer import EndOfList, JsonPointer, resolve_pointer, set_pointer
 
@@ -69,8 +81,11 @@ __all__ = [
     "JsonPatchTestFailed",
     "JsonPointer",
     "JsonPointerException",
+    "Limits",
+    "NothingToUndo",
     "NumberNotWhole",
     "OverLimit",
+    "TooDeep",
     "__version__",
     "apply_patch",
     "merge_patch",

@@ -5,13 +5,20 @@ import ctypes
 import json
 from typing import Any, Callable, Optional
 
-from ._library import CLOSED, LIBRARY, NO_DOCUMENT, NO_MEMORY, NO_ROOM, OK, REFUSED, Report
-from .errors import KINDS, NOT_A_LIST, JsonPatchException, NumberNotWhole, _LeadsNowhere, _TestsNothing
+from ._library import CLOSED, LIBRARY, NO_DOCUMENT, NO_MEMORY, NO_ROOM, OK, OVER, REFUSED, Report, bounds
+from .errors import KINDS, NOT_A_LIST, JsonPatchException, NumberNotWhole, OverLimit, TooDeep, _LeadsNowhere, _TestsNothing
+from .limits import Limits
 
 
 def _of_document(kind: str, error: type) -> Exception:
-    made = NumberNotWhole if error is NumberNotWhole else JsonPatchException
+    made = next((named for named in (NumberNotWhole, TooDeep) if issubclass(error, named)), JsonPatchException)
     return made(f"document: {kind}", kind=kind)
+
+
+def _over(operation: int, kind: str, patch: bytes) -> Exception:
+    path = json.loads(patch)[operation]["path"]
+    told = f"operation {operation} is over the limits at path {path!r}: {kind}"
+    return OverLimit(told, operation=operation, kind=kind, path=path)
 
 
 def fault(status: int, report: Report, path: Optional[str] = None, patch: bytes = b"") -> Exception:
@@ -23,6 +30,8 @@ def fault(status: int, report: Report, path: Optional[str] = None, patch: bytes 
     kind, error = KINDS[report.kind]
     if status == NO_DOCUMENT:
         return _of_document(kind, error)
+    if status == OVER:
+        return _over(report.operation, kind, patch)
     if status == REFUSED:
         if error is _LeadsNowhere and json.loads(patch)[report.operation]["op"] == "test":
             error = _TestsNothing
@@ -33,10 +42,10 @@ def fault(status: int, report: Report, path: Optional[str] = None, patch: bytes 
     return error(f"patch: operation {report.operation}: {kind}", operation=report.operation, kind=kind)
 
 
-def called(call: Callable[..., int], document: bytes, patch: bytes) -> bytes:
-    """The text that a call makes of two others."""
-    texts = document, len(document), patch, len(patch)
-    return written(lambda *out: call(*texts, *out), len(document) + len(patch) + 64, patch)
+def called(call: Callable[..., int], document: bytes, patch: bytes, limits: Limits) -> bytes:
+    """The text that a call makes of two others, within limits."""
+    given = document, len(document), patch, len(patch), bounds(limits)
+    return written(lambda *out: call(*given, *out), len(document) + len(patch) + 64, patch)
 
 
 def written(call: Callable[..., int], room: int, patch: bytes = b"") -> bytes:

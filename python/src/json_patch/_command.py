@@ -15,6 +15,7 @@ from ._texts import indented, value_of
 from ._version import __version__
 from .document import Document
 from .errors import JsonPatchConflict, JsonPatchException, JsonPatchTestFailed, JsonPointerException, OverLimit
+from .limits import MOST_COPIED, MOST_LEVELS, Limits
 
 REFUSED, UNREADABLE, NO_MEMORY, UNWRITABLE, USAGE = 1, 2, 3, 4, 64
 
@@ -26,8 +27,8 @@ whenever the command is stopped.
 
 exit status:
   0   done
-  1   the patch is refused, or the pointer leads nowhere: nothing is changed
-  2   DOCUMENT, PATCH or POINTER can't be read, or isn't one
+  1   the patch is refused or over the limits, or the pointer leads nowhere: nothing is changed
+  2   DOCUMENT, PATCH or POINTER can't be read, isn't one, or nests too deep
   3   out of memory
   4   the output can't be written
   64  the command line is none of those above
@@ -76,6 +77,7 @@ def _parser() -> argparse.ArgumentParser:
         changing.add_argument("-i", "--in-place", action="store_true", help="change DOCUMENT itself")
         changing.add_argument("-b", "--backup", action="store_true", help="with -i, keep the old one as DOCUMENT.orig")
         _add_output(changing)
+        _add_limits(changing)
     getting = command("get", "write what stands where a pointer leads in a document")
     getting.add_argument("document", metavar="DOCUMENT", help="the document's file, or -")
     getting.add_argument("pointer", metavar="POINTER", help="a JSON pointer (RFC 6901), such as /rows/0")
@@ -88,6 +90,29 @@ def _parser() -> argparse.ArgumentParser:
 def _add_output(parser: argparse.ArgumentParser) -> None:
     parser.add_argument("--indent", type=_spaces, metavar="N", help="write each item on a line, indented by N spaces")
     parser.add_argument("-u", "--preserve-unicode", action="store_true", help="as it always is: no character is escaped")
+
+
+def _add_limits(parser: argparse.ArgumentParser) -> None:
+    levels = f"refuse what nests deeper than N levels (at most {MOST_LEVELS}, which it is without this)"
+    parser.add_argument("--limit-depth", type=_levels, metavar="N", default=MOST_LEVELS, help=levels)
+    copies = f"refuse a patch that copies more than N values and bytes of text ({MOST_COPIED})"
+    parser.add_argument("--limit-copies", type=_copies, metavar="N", default=MOST_COPIED, help=copies)
+
+
+def _is_number(text: str) -> bool:
+    return text.isascii() and text.isdecimal() and len(text) <= 99
+
+
+def _levels(text: str) -> int:
+    if not _is_number(text) or int(text) > MOST_LEVELS:
+        raise argparse.ArgumentTypeError(f"{text!r} is no number of levels, which are at most {MOST_LEVELS}")
+    return int(text)
+
+
+def _copies(text: str) -> int:
+    if not _is_number(text):
+        raise argparse.ArgumentTypeError(f"{text!r} is no number of values and bytes")
+    return int(text)
 
 
 def _spaces(text: str) -> int:
@@ -146,9 +171,11 @@ def _as_asked(text: bytes, asked: argparse.Namespace) -> bytes:
 
 
 def _opened(asked: argparse.Namespace) -> Document:
-    text = _read(asked.document)
+    """The document, within the limits where the command has them."""
+    text, given = _read(asked.document), vars(asked)
+    limits = Limits(given.get("limit_depth", MOST_LEVELS), given.get("limit_copies", MOST_COPIED))
     with _at_fault(asked.document):
-        return Document.from_string(text)
+        return Document.from_string(text, limits=limits)
 
 
 def _put(kept: Document, asked: argparse.Namespace) -> None:

@@ -4,22 +4,26 @@ from __future__ import annotations
 import json
 from typing import Any, Dict, List
 
+from ._depth import is_tree
 from ._texts import sorted_text, value_of
 from .pointer import JsonPointer, copied
 
 
 def changed(obj: Any, patch: bytes, made: bytes) -> Any:
     """Changes an object to what the library made of it by a patch. The operations are made anew, so
-    that a list or dict inside stays itself, and is moved where it moves; and where that leaves another
-    content than the library's, as where one list stands at two places, or keys are no str, the object
-    is filled with the library's."""
-    try:
-        left = _made_anew(obj, json.loads(patch))
-        if left is obj and sorted_text(left) == made:
-            return obj
-    except Exception:  # what can't be made on these objects is left to the library's answer
-        pass
-    return _filled(obj, value_of(made))
+    that a list or dict inside stays itself, and is moved where it moves. Where one list stands at two
+    places, or keys are no str, that might leave other content, and nest or copy more than the library
+    did, which kept to the limits: there, and where the content is another, the object is filled with
+    the library's."""
+    wanted = value_of(made)
+    if is_tree(obj):
+        try:
+            left = _made_anew(obj, json.loads(patch))
+            if left is obj and sorted_text(left) == made:
+                return obj
+        except Exception:  # what can't be made on these objects is left to the library's answer
+            pass
+    return _filled(obj, wanted)
 
 
 def _made_anew(obj: Any, operations: List[Dict[str, Any]]) -> Any:

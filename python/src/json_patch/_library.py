@@ -12,8 +12,9 @@ from typing import Any, Dict, List
 
 from ._processor import lacking
 from ._version import __version__
+from .limits import Limits
 
-OK, REFUSED, NO_DOCUMENT, NO_PATCH, NO_MEMORY, NO_ROOM, CLOSED, NO_POINTER, NOTHING = range(9)
+OK, REFUSED, NO_DOCUMENT, NO_PATCH, NO_MEMORY, NO_ROOM, CLOSED, NO_POINTER, NOTHING, OVER = range(10)
 
 
 class Report(ctypes.Structure):
@@ -26,23 +27,40 @@ class Report(ctypes.Structure):
 
 
 class Handle(ctypes.Structure):
-    """Where the library keeps a document."""
+    """Where the library keeps a document, and whether its last change was recorded."""
 
     _fields_ = [("at", ctypes.c_void_p)]
+    is_recorded = False
+
+
+class Bounds(ctypes.Structure):
+    """Limits, as the library takes them."""
+
+    _fields_ = [("depth", ctypes.c_size_t), ("copied", ctypes.c_size_t)]
+
+
+# no run copies so much
+_MOST_COUNTED: int = ctypes.c_size_t(-1).value
+
+
+def bounds(limits: Limits) -> Bounds:
+    return Bounds(limits.depth, min(limits.copied, _MOST_COUNTED))
 
 
 _TEXT: List[Any] = [ctypes.c_char_p, ctypes.c_size_t]
 _HANDLE: List[Any] = [ctypes.POINTER(Handle)]
+_BOUNDS: List[Any] = [ctypes.POINTER(Bounds)]
 # what each call is handed before its report
 _CALLS: Dict[str, List[Any]] = {
-    "apply": [*_TEXT, *_TEXT, *_TEXT],
-    "record": [*_TEXT, *_TEXT, *_TEXT],
-    "merge": [*_TEXT, *_TEXT, *_TEXT],
+    "apply_within": [*_TEXT, *_TEXT, *_BOUNDS, *_TEXT],
+    "record_within": [*_TEXT, *_TEXT, *_BOUNDS, *_TEXT],
+    "merge_within": [*_TEXT, *_TEXT, *_BOUNDS, *_TEXT],
     "check": _TEXT,
-    "open": [*_HANDLE, *_TEXT],
+    "open_within": [*_HANDLE, *_TEXT, *_BOUNDS],
     "update": [*_HANDLE, *_TEXT, *_TEXT],
     "update_recorded": [*_HANDLE, *_TEXT, *_TEXT],
     "update_merged": [*_HANDLE, *_TEXT],
+    "undo": _HANDLE,
     "inverse": [*_HANDLE, *_TEXT],
     "text": [*_HANDLE, *_TEXT],
     "text_at": [*_HANDLE, *_TEXT, *_TEXT],

@@ -3,28 +3,11 @@ from __future__ import annotations
 
 import json
 from contextlib import contextmanager
-from typing import Any, Iterator, List, Type, Union
+from typing import Any, Iterator, Type, Union
 
-from .errors import JsonPatchException, NumberNotWhole, OverLimit, _InvalidNumber, _NoPatchText
+from ._depth import is_deep
+from .errors import JsonPatchException, NumberNotWhole, TooDeep, _InvalidNumber, _NoPatchText, _PatchTooDeep
 from .pointer import JsonPointer
-
-# How many levels of a text the library reads.
-_DEEPEST = 127
-
-
-def is_deep(value: object) -> bool:
-    """Whether lists and dicts nest deeper than the library reads, as they do where one holds itself. It
-    goes level by level, and not by recursion."""
-    held = _containers([value])
-    for _ in range(_DEEPEST):
-        below = [item for items in held for item in (items.values() if isinstance(items, dict) else items)]
-        held = _containers(below)
-    return bool(held)
-
-
-def _containers(values: List[Any]) -> List[Any]:
-    """The lists and dicts among these, each once: one may stand at several places."""
-    return list({id(value): value for value in values if isinstance(value, (dict, list, tuple))}.values())
 
 
 def pointer_path(value: object) -> str:
@@ -36,15 +19,10 @@ def pointer_path(value: object) -> str:
 
 def _text(value: object, told: str, no_text: Type[JsonPatchException], not_whole: Type[JsonPatchException]) -> bytes:
     """The text of an object. Where json.dumps has none: what is told of it, and what is raised for
-    one that nests too deep or holds itself or a number of some thousand digits, and for nan and
-    infinity."""
+    one that holds a number of some thousand digits, and for nan and infinity. How deep it nests is
+    seen before: json.dumps goes by recursion, for which a thread's stack may be too small."""
     try:
         return json.dumps(value, separators=(",", ":"), allow_nan=False, default=pointer_path).encode()
-    except RecursionError as error:
-        # else the caller's own calls nest so deep that no room is left
-        if not is_deep(value):
-            raise
-        raise no_text(f"{told}: NotJson", kind="NotJson") from error
     except ValueError as error:
         if str(error).startswith("Out of range float"):
             raise not_whole(f"{told}: NotWhole", kind="NotWhole") from error
@@ -52,15 +30,33 @@ def _text(value: object, told: str, no_text: Type[JsonPatchException], not_whole
 
 
 def document_text(document: object) -> bytes:
+    if is_deep(document):
+        raise TooDeep("document: TooDeep", kind="TooDeep")
     return _text(document, "document", JsonPatchException, NumberNotWhole)
 
 
 def patch_text(patch: object) -> bytes:
+    expect_patch_depth(patch)
     return _text(patch, "patch", _NoPatchText, _InvalidNumber)
 
 
 def merge_patch_text(patch: object) -> bytes:
+    expect_patch_depth(patch)
     return _text(patch, "patch", _NoPatchText, NumberNotWhole)
+
+
+def expect_patch_depth(patch: object) -> None:
+    if is_deep(patch):
+        raise _PatchTooDeep("patch: TooDeep", kind="TooDeep")
+
+
+@contextmanager
+def by_callers_code() -> Iterator[None]:
+    """Where a function that is the caller's can't read or write a patch for its depth, that is told."""
+    try:
+        yield
+    except RecursionError as error:
+        raise _PatchTooDeep("patch: TooDeep", kind="TooDeep") from error
 
 
 def as_bytes(text: Union[str, bytes]) -> bytes:
@@ -70,23 +66,12 @@ def as_bytes(text: Union[str, bytes]) -> bytes:
 
 def value_of(text: bytes) -> Any:
     """The object of a text that the library wrote."""
-    with not_too_deep("the result"):
-        return json.loads(text)
+    return json.loads(text)
 
 
 def indented(value: object, spaces: int) -> bytes:
     """The text of an object, each item on a line."""
-    with not_too_deep("the result"):
-        return json.dumps(value, indent=spaces, ensure_ascii=False).encode()
-
-
-@contextmanager
-def not_too_deep(told: str) -> Iterator[None]:
-    """Where Python can't go so deep, what it is told of is refused by name."""
-    try:
-        yield
-    except RecursionError as error:
-        raise OverLimit(f"{told}: TooDeep", kind="TooDeep") from error
+    return json.dumps(value, indent=spaces, ensure_ascii=False).encode()
 
 
 def sorted_text(value: object) -> bytes:

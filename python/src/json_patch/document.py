@@ -4,13 +4,17 @@ from __future__ import annotations
 import threading
 import warnings
 from types import TracebackType
-from typing import Any, Callable, Optional, Type, Union
+from typing import Any, Callable, Optional, Type, TypeVar, Union
 
-from ._calls import succeed, written
-from ._library import LIBRARY, NO_POINTER, NOTHING, Handle
+from ._calls import fault, succeed, written
+from ._library import LIBRARY, NO_POINTER, NOTHING, OK, Handle, Report, bounds
 from ._texts import as_bytes, document_text, merge_patch_text, patch_text, value_of
-from .errors import JsonPointerException
+from .errors import JsonPointerException, NothingToUndo
+from .limits import DEFAULT, Limits
 from .patch import JsonPatch, Patch
+
+
+_Inverse = TypeVar("_Inverse")
 
 
 class _Here(threading.local):
@@ -37,21 +41,23 @@ class Document:
     ...     document.get()
     {"a":2,"b":[]} [{"op": "replace", "path": "/a", "value": 1}, {"op": "add", "path": "/b/0", "value": 2}]
     {'a': 2}
+
+    The limits hold of the document and of every change of it, the copies of each patch by themselves.
     """
 
-    def __init__(self, document: Any) -> None:
-        self._open(document_text(document))
+    def __init__(self, document: Any, *, limits: Limits = DEFAULT) -> None:
+        self._open(document_text(document), limits)
 
     @classmethod
-    def from_string(cls, document_str: Union[str, bytes]) -> Document:
+    def from_string(cls, document_str: Union[str, bytes], *, limits: Limits = DEFAULT) -> Document:
         """The document that a JSON text says."""
         made = cls.__new__(cls)
-        made._open(as_bytes(document_str))
+        made._open(as_bytes(document_str), limits)
         return made
 
-    def _open(self, text: bytes) -> None:
+    def _open(self, text: bytes, limits: Limits) -> None:
         handle = Handle()
-        succeed(LIBRARY.json_patch_open, handle, text, len(text))
+        succeed(LIBRARY.json_patch_open_within, handle, text, len(text), bounds(limits))
         self._opened, self._thread, self._is_open = handle, _HERE.thread, True
 
     @property
@@ -66,18 +72,47 @@ class Document:
         else:
             text = patch_text(patch.patch if isinstance(patch, JsonPatch) else patch)
         written(lambda *out: call(self._handle, text, len(text), *out), len(text) + 64, text)
+        self._handle.is_recorded = False
 
     def apply(self, patch: Patch) -> None:
         """Changes the document by a list of operations, a JSON text or a JsonPatch, or not at all."""
         self._updated(LIBRARY.json_patch_update, patch)
 
     def record(self, patch: Patch) -> JsonPatch:
-        """The same, and returns the JsonPatch that leads back."""
-        return JsonPatch._of_library(value_of(self._record_text(patch)))
+        """The same, and returns the JsonPatch that leads back. Where that can't be made for want of
+        memory, the change is taken back."""
+        return self._recorded(patch, lambda text: JsonPatch._of_library(value_of(text)))
 
     def _record_text(self, patch: Patch) -> bytes:
+        return self._recorded(patch, bytes)
+
+    def _recorded(self, patch: Patch, read: Callable[[bytes], _Inverse]) -> _Inverse:
         self._updated(LIBRARY.json_patch_update_recorded, patch)
-        return self._read(LIBRARY.json_patch_inverse)
+        self._handle.is_recorded = True
+        try:
+            return read(self._read(LIBRARY.json_patch_inverse))
+        except BaseException:
+            self.undo()
+            raise
+
+    def undo(self) -> None:
+        """Takes back the last change, which `record` made, in place: once. NothingToUndo, where the last
+        change wasn't recorded, or has been taken back.
+
+        >>> with Document([1]) as document:
+        ...     inverse = document.record([{"op": "remove", "path": "/0"}])
+        ...     document.undo()
+        ...     document.get()
+        [1]
+        """
+        report = Report()
+        status = LIBRARY.json_patch_undo(self._handle, report)
+        # what was recorded may have changed nothing, and is taken back
+        if status == NOTHING and not self._handle.is_recorded:
+            raise NothingToUndo("there is no recorded change to take back", kind="Nothing")
+        if status not in (OK, NOTHING):
+            raise fault(status, report)
+        self._handle.is_recorded = False
 
     def merge(self, patch: Any) -> None:
         """Merges a merge patch, which is any object and no text of one, into the document."""
@@ -85,6 +120,7 @@ class Document:
 
     def _merge_text(self, text: bytes) -> None:
         succeed(LIBRARY.json_patch_update_merged, self._handle, text, len(text))
+        self._handle.is_recorded = False
 
     def get(self, pointer: str = "") -> Any:
         """What stands where a JSON pointer leads; JsonPointerException, where nothing does."""

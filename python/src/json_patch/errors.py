@@ -44,8 +44,18 @@ class NumberNotWhole(JsonPatchException, ValueError):
     a float's range, which is no JSON), or is nan or infinite."""
 
 
+class TooDeep(JsonPatchException, ValueError):
+    """A document or a patch nests deeper than the limit, as a text or as an object: one that holds itself
+    does, too."""
+
+
 class OverLimit(JsonPatchException):
-    """What a call would make nests too deep."""
+    """An operation of a patch is over the limits, and nothing is changed: it would put a value too deep
+    (`kind` is TooDeep), or copy too much, with what was copied before (TooMuch)."""
+
+
+class NothingToUndo(JsonPatchException, IndexError):
+    """The last change of a Document wasn't recorded, or has been taken back."""
 
 
 # jsonpatch raises one or the other by where on the way a pointer leads nowhere: both catch these.
@@ -71,6 +81,10 @@ class _InvalidNumber(InvalidJsonPatch, NumberNotWhole):
     pass
 
 
+class _PatchTooDeep(InvalidJsonPatch, TooDeep):
+    pass
+
+
 # jsonpointer leaves what a list raises that is assigned to past its end, an IndexError.
 class _PastTheEnd(JsonPointerException, IndexError):
     pass
@@ -84,6 +98,8 @@ KINDS: Dict[int, Tuple[str, Type[_Told]]] = {
     4: ("InvalidFromPointer", _LeadsNowhere),
     5: ("InvalidPointer", _LeadsNowhere),
     6: ("CannotMoveInsideItself", _LeadsNowhere),
+    7: ("TooDeep", _PatchTooDeep),
+    8: ("TooMuch", OverLimit),
     11: ("NotAList", InvalidJsonPatch),
     12: ("NotAnObject", InvalidJsonPatch),
     13: ("MissingOp", InvalidJsonPatch),

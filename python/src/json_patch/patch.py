@@ -6,8 +6,12 @@ from typing import Any, Callable, Iterator, List, Mapping, Optional, Sequence, T
 
 from ._calls import called, expect_patch
 from ._in_place import changed
+from ._depth import shown
 from ._library import LIBRARY
-from ._texts import as_bytes, document_text, merge_patch_text, not_too_deep, patch_text, pointer_path, value_of
+from ._texts import (
+    as_bytes, by_callers_code, document_text, expect_patch_depth, merge_patch_text, patch_text, pointer_path, value_of,
+)
+from .limits import DEFAULT, Limits
 
 Operation = Mapping[str, Any]
 # what is read as a patch: operations, a JSON text, or a JsonPatch
@@ -34,7 +38,9 @@ class JsonPatch:
     @classmethod
     def from_string(cls, patch_str: Union[str, bytes], loads: Optional[Callable[[Any], Any]] = None) -> JsonPatch:
         """The patch that a JSON text says, read by the library, or by `loads`."""
-        return cls((loads or cls.json_loader)(patch_str))
+        with by_callers_code():
+            operations = (loads or cls.json_loader)(patch_str)
+        return cls(operations)
 
     @staticmethod
     def json_loader(patch_str: Union[str, bytes]) -> Any:
@@ -45,23 +51,25 @@ class JsonPatch:
 
     @staticmethod
     def json_dumper(value: Any) -> str:
-        with not_too_deep("patch"):
-            return json.dumps(value, default=pointer_path)
+        expect_patch_depth(value)
+        return json.dumps(value, default=pointer_path)
 
     @classmethod
     def _of_library(cls, operations: List[Any]) -> JsonPatch:
-        """Of operations that the library wrote: they may nest deeper than it reads."""
+        """Of operations that the library wrote, which it needn't look at again."""
         made = cls.__new__(cls)
         made.patch = operations
         return made
 
     def to_string(self, dumps: Optional[Callable[[Any], str]] = None) -> str:
         """The patch as a JSON text."""
-        return (dumps or self.json_dumper)(self.patch)
+        with by_callers_code():
+            return (dumps or self.json_dumper)(self.patch)
 
-    def apply(self, obj: Any, in_place: bool = False) -> Any:
+    def apply(self, obj: Any, in_place: bool = False, *, limits: Limits = DEFAULT) -> Any:
         """What the patch leaves of an object, which stays as it is. With `in_place` it is the object
-        itself that is changed, and returned; a document that is no list or dict can't be.
+        itself that is changed, and returned; a document that is no list or dict can't be. OverLimit,
+        where an operation is over the limits, and TooDeep, where the object is.
 
         >>> document = {"a": [1]}
         >>> rows = document["a"]
@@ -71,17 +79,17 @@ class JsonPatch:
         [1, 2]
         """
         document, patch = document_text(obj), patch_text(self.patch)
-        made = called(LIBRARY.json_patch_apply, document, patch)
+        made = called(LIBRARY.json_patch_apply_within, document, patch, limits)
         return changed(obj, patch, made) if in_place else value_of(made)
 
-    def record(self, obj: Any) -> Tuple[Any, JsonPatch]:
-        """What the patch leaves of an object, and the patch that leads back.
+    def record(self, obj: Any, *, limits: Limits = DEFAULT) -> Tuple[Any, JsonPatch]:
+        """What the patch leaves of an object, and the patch that leads back, within limits.
 
         >>> JsonPatch([{"op": "remove", "path": "/a"}]).record({"a": 1})
         ({}, JsonPatch([{'op': 'add', 'path': '/a', 'value': 1}]))
         """
         texts = document_text(obj), patch_text(self.patch)
-        made, inverse = value_of(called(LIBRARY.json_patch_record, *texts))
+        made, inverse = value_of(called(LIBRARY.json_patch_record_within, *texts, limits))
         return made, JsonPatch._of_library(inverse)
 
     def _key(self) -> str:
@@ -107,7 +115,7 @@ class JsonPatch:
         return self.to_string()
 
     def __repr__(self) -> str:
-        return f"JsonPatch({self.patch!r})"
+        return f"JsonPatch({shown(self.patch)})"
 
 
 def _as_patch(patch: Patch) -> JsonPatch:
@@ -116,20 +124,23 @@ def _as_patch(patch: Patch) -> JsonPatch:
     return JsonPatch.from_string(patch) if isinstance(patch, (str, bytes)) else JsonPatch(patch)
 
 
-def apply_patch(doc: Any, patch: Patch, in_place: bool = False) -> Any:
-    """What a patch, as a list of operations, a JSON text or a JsonPatch, leaves of a document."""
-    return _as_patch(patch).apply(doc, in_place)
+def apply_patch(doc: Any, patch: Patch, in_place: bool = False, *, limits: Limits = DEFAULT) -> Any:
+    """What a patch, as a list of operations, a JSON text or a JsonPatch, leaves of a document, within
+    limits."""
+    return _as_patch(patch).apply(doc, in_place, limits=limits)
 
 
-def record_patch(doc: Any, patch: Patch) -> Tuple[Any, JsonPatch]:
-    """What a patch leaves of a document, and the JsonPatch that leads back."""
-    return _as_patch(patch).record(doc)
+def record_patch(doc: Any, patch: Patch, *, limits: Limits = DEFAULT) -> Tuple[Any, JsonPatch]:
+    """What a patch leaves of a document, and the JsonPatch that leads back, within limits."""
+    return _as_patch(patch).record(doc, limits=limits)
 
 
-def merge_patch(doc: Any, patch: Any) -> Any:
-    """A document with a merge patch (RFC 7396) merged into it.
+def merge_patch(doc: Any, patch: Any, *, limits: Limits = DEFAULT) -> Any:
+    """A document with a merge patch (RFC 7396) merged into it. Both have at most the levels of the
+    limits, and so has what comes of them.
 
     >>> merge_patch({"a": 1, "b": 2}, {"a": None, "c": [3]})
     {'b': 2, 'c': [3]}
     """
-    return value_of(called(LIBRARY.json_patch_merge, document_text(doc), merge_patch_text(patch)))
+    texts = document_text(doc), merge_patch_text(patch)
+    return value_of(called(LIBRARY.json_patch_merge_within, *texts, limits))

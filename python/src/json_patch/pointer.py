@@ -4,8 +4,9 @@ from __future__ import annotations
 import copy
 import re
 from collections.abc import Mapping, Sequence
-from typing import Any, Iterable, List, Optional, Tuple, Union
+from typing import Any, Dict, Iterable, List, Optional, Tuple, Union
 
+from ._depth import is_deep, shown
 from .errors import JsonPointerException, _PastTheEnd
 
 _NO_ESCAPE = re.compile("~(?![01])")
@@ -22,7 +23,7 @@ class EndOfList:
         self.list_ = list_
 
     def __repr__(self) -> str:
-        return f"{type(self).__name__}({self.list_!r})"
+        return f"{type(self).__name__}({shown(self.list_)})"
 
 
 def _is_list(value: object) -> bool:
@@ -33,25 +34,38 @@ def _escaped(part: str) -> str:
     return part.replace("~", "~0").replace("/", "~1")
 
 
+def _expect_depth(value: object) -> None:
+    if type(value) is not str and is_deep(value):
+        raise JsonPointerException("what isn't a list or dict nests too deep", kind="TooDeep")
+
+
 def copied(value: Any) -> Any:
-    """A deep copy of lists and dicts, made without recursion; of other values their own copies."""
-    made: List[Any] = []
-    left: List[Tuple[Any, Any, Any]] = [(value, made, None)]
+    """A deep copy, as copy.deepcopy makes, but of lists and dicts without recursion. What else holds
+    lists, dicts and tuples that nest too deep is refused."""
+    made: List[Any] = [None]
+    known: Dict[int, Any] = {}
+    left: List[Tuple[Any, Any, Any]] = [(value, made, 0)]
     while left:
         value, into, name = left.pop()
-        if type(value) is dict:
-            new: Any = dict.fromkeys(value)
+        if id(value) in known:
+            into[name] = known[id(value)]
+        elif type(value) is dict:
+            into[name] = known[id(value)] = new = dict.fromkeys(value)
             left.extend((item, new, key) for key, item in value.items())
         elif type(value) is list:
-            new = [None] * len(value)
-            left.extend((item, new, index) for index, item in enumerate(value))
+            into[name] = known[id(value)] = items = [None] * len(value)
+            left.extend((item, items, index) for index, item in enumerate(value))
         else:
-            new = copy.deepcopy(value)
-        if into is made:
-            made.append(new)
-        else:
-            into[name] = new
+            into[name] = _copied_by_itself(value, known)
     return made[0]
+
+
+def _copied_by_itself(value: Any, known: Dict[int, Any]) -> Any:
+    _expect_depth(value)
+    try:
+        return copy.deepcopy(value, known)
+    except RecursionError as error:
+        raise JsonPointerException("a value nests too deep to be copied", kind="TooDeep") from error
 
 
 class JsonPointer:
@@ -76,7 +90,11 @@ class JsonPointer:
     @classmethod
     def from_parts(cls, parts: Iterable[object]) -> JsonPointer:
         """The pointer that goes by these names and indexes."""
-        return cls("".join("/" + _escaped(str(part)) for part in parts))
+        made = []
+        for part in parts:
+            _expect_depth(part)
+            made.append("/" + _escaped(str(part)))
+        return cls("".join(made))
 
     @property
     def path(self) -> str:
@@ -92,6 +110,7 @@ class JsonPointer:
     @classmethod
     def get_part(cls, doc: Any, part: object) -> Any:
         """A name or an index, as what stands in `doc` is looked up by it."""
+        _expect_depth(part)
         if isinstance(doc, Mapping) or (_is_list(doc) and part == "-"):
             return part
         if _is_list(doc):

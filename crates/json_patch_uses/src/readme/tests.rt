@@ -6,8 +6,8 @@ ghost use Rattle.json_patch.specs.Operation.{AreWhole, operations, operations_of
 
 use crate::readme::{
     from_bytes, from_texts, has_two_levels, is_of_ann, is_of_size_four, led_there, left_part_way,
-    made_late, merged_and_looked_up, taken_back, there_and_back, there_and_back_within, told_within,
-    what_was_refused, written_and_read,
+    made_late, merged_and_looked_up, taken_back, there_and_back, there_and_back_within,
+    told_within, what_was_refused, written_and_read,
 };
 use json_patch::{Patch, is_whole};
 use serde_json::Value;

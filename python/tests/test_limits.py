@@ -1,0 +1,216 @@
+"""Limits, what is over them, and changes that are taken back."""
+import copy
+import pickle
+import re
+import unittest
+from unittest import mock
+
+import json_patch
+from json_patch import (
+    Document, JsonPatch, JsonPatchConflict, JsonPatchException, Limits, NothingToUndo, OverLimit, TooDeep, apply_patch,
+    merge_patch, record_patch,
+)
+from json_patch._library import LIBRARY, NO_MEMORY
+from json_patch.limits import MOST_COPIED, MOST_LEVELS
+from support import C, nested
+
+COPY = {"op": "copy", "from": "/a", "path": "/b"}
+
+
+def each_call(document, patch, limits):
+    """The calls that make a patch within limits; what they are handed stays, where they refuse it."""
+    def kept(name):
+        with Document(document, limits=limits) as held:
+            try:
+                getattr(held, name)(patch)
+            except JsonPatchException:
+                assert held.get() == document
+                raise
+            return held.get()
+
+    return (
+        lambda: apply_patch(document, patch, limits=limits), lambda: record_patch(document, patch, limits=limits)[0],
+        lambda: apply_patch(copy.deepcopy(document), patch, in_place=True, limits=limits),
+        lambda: JsonPatch(patch).apply(document, limits=limits), lambda: JsonPatch(patch).record(document, limits=limits)[0],
+        lambda: kept("apply"), lambda: kept("record"),
+    )
+
+
+class Within(unittest.TestCase):
+    def assertOver(self, document, patch, limits, operation, kind):
+        for call in each_call(document, patch, limits):
+            with self.assertRaises(OverLimit) as caught:
+                call()
+            error = caught.exception
+            self.assertEqual((error.operation, error.kind, error.path), (operation, kind, patch[operation]["path"]))
+            self.assertIsInstance(error, JsonPatchException)
+            self.assertNotIsInstance(error, (TooDeep, JsonPatchConflict))
+            self.assertEqual(str(error), f"operation {operation} is over the limits at path {error.path!r}: {kind}")
+            self.assertEqual(vars(pickle.loads(pickle.dumps(error))), vars(error))
+
+    def assertMakes(self, document, patch, limits, wanted):
+        for call in each_call(document, patch, limits):
+            self.assertEqual(call(), wanted)
+
+    def test_depths(self):
+        patch = [{"op": "test", "path": "", "value": []}, {"op": "add", "path": "/0", "value": [[]]}]
+        self.assertMakes([], patch, Limits(depth=3), [[[]]])
+        self.assertOver([], patch, Limits(depth=2), 1, "TooDeep")
+        self.assertMakes({}, [{"op": "add", "path": "/a", "value": nested(123)}], Limits(), {"a": nested(123)})
+        self.assertOver({}, [{"op": "add", "path": "/a", "value": nested(124)}], Limits(), 0, "TooDeep")
+
+    def test_copies(self):
+        document = {"a": "cde"}
+        self.assertMakes(document, [COPY], Limits(copied=4), {"a": "cde", "b": "cde"})
+        self.assertOver(document, [COPY], Limits(copied=3), 0, "TooMuch")
+        self.assertOver(document, [COPY] * 3, Limits(copied=8), 2, "TooMuch")
+        self.assertMakes(document, [COPY] * 3, Limits(copied=2**100), {"a": "cde", "b": "cde"})
+        many = {"a": "x" * 65_535}
+        self.assertMakes(many, [COPY] * 1024, Limits(), {**many, "b": many["a"]})
+        self.assertOver(many, [COPY] * 1025, Limits(), 1024, "TooMuch")
+
+    def test_copies_of_a_kept_document_count_for_each_patch(self):
+        with Document({"a": "cde"}, limits=Limits(copied=4)) as kept:
+            for _ in range(9):
+                kept.apply([COPY])
+
+    def test_documents_and_merge_patches(self):
+        limits = Limits(depth=2)
+        self.assertEqual(merge_patch([[1]], {"a": {}}, limits=limits), {"a": {}})
+        for call in (
+            lambda: merge_patch([[[]]], {}, limits=limits), lambda: apply_patch([[[]]], [], limits=limits),
+            lambda: record_patch([[[]]], [], limits=limits), lambda: Document([[[]]], limits=limits),
+            lambda: Document.from_string("[[[]]]", limits=limits), lambda: merge_patch({}, {"a": {"b": []}}, limits=limits),
+            lambda: apply_patch(nested(125), []), lambda: Document(nested(125)), lambda: merge_patch({}, nested(125)),
+        ):
+            with self.assertRaises(TooDeep) as caught:
+                call()
+            self.assertEqual((caught.exception.kind, caught.exception.operation), ("TooDeep", None))
+            self.assertIsInstance(caught.exception, ValueError)
+        with Document({}, limits=limits) as kept, self.assertRaises(json_patch.InvalidJsonPatch):
+            kept.merge({"a": {"b": {}}})
+        with Document.from_string("[[]]", limits=limits) as kept, self.assertRaises(OverLimit):
+            kept.apply('[{"op":"copy","from":"","path":"/0"}]')
+
+    def test_the_headers(self):
+        header = (C / "json_patch.h").read_text(encoding="utf-8")
+        most = [int(number) for number in re.findall(r"#define JSON_PATCH_MOST_\w+ (\d+)", header)]
+        self.assertEqual(most, [MOST_LEVELS, MOST_COPIED])
+        self.assertEqual(Limits(), Limits(MOST_LEVELS, MOST_COPIED))
+
+    def test_what_are_no_limits(self):
+        for name, value, error in (
+            ("depth", -1, ValueError), ("copied", -1, ValueError), ("depth", 125, ValueError), ("depth", 2**70, ValueError),
+            ("depth", 1.0, TypeError), ("copied", "9", TypeError), ("copied", None, TypeError), ("depth", True, TypeError),
+        ):
+            with self.assertRaises(error) as caught:
+                Limits(**{name: value})
+            self.assertTrue(str(caught.exception).startswith(f"{name} is "), caught.exception)
+        with self.assertRaises(AttributeError):
+            Limits().depth = 7
+
+
+class Undone(unittest.TestCase):
+    def assertNothing(self, kept):
+        before = kept.get()
+        with self.assertRaises(NothingToUndo) as caught:
+            kept.undo()
+        self.assertIsInstance(caught.exception, (JsonPatchException, IndexError))
+        self.assertEqual((caught.exception.kind, kept.get()), ("Nothing", before))
+
+    def test_undo(self):
+        with Document({"a": [1, 2]}) as kept:
+            self.assertNothing(kept)
+            kept.record([{"op": "remove", "path": "/a/0"}, {"op": "move", "from": "/a", "path": "/b"}])
+            with self.assertRaises(JsonPatchConflict):
+                kept.record([{"op": "remove", "path": "/a"}])
+            self.assertEqual(kept.get(), {"b": [2]})
+            kept.undo()
+            self.assertEqual(kept.get(), {"a": [1, 2]})
+            self.assertNothing(kept)
+
+    def test_changes_that_are_not_recorded(self):
+        for change in (lambda kept: kept.apply([]), lambda kept: kept.merge({"b": 2})):
+            with Document({"a": 1}) as kept:
+                kept.record([{"op": "remove", "path": "/a"}])
+                change(kept)
+                self.assertNothing(kept)
+
+    def test_recorded_but_nothing_changed(self):
+        with Document({"a": 1}) as kept:
+            self.assertEqual(list(kept.record([{"op": "test", "path": "/a", "value": 1}])), [])
+            kept.undo()
+            self.assertEqual(kept.get(), {"a": 1})
+            self.assertNothing(kept)
+
+    def test_handles_that_are_shared(self):
+        with Document([1]) as kept:
+            shared = copy.copy(kept)
+            kept.record([{"op": "remove", "path": "/0"}])
+            shared.undo()
+            self.assertEqual(kept.get(), [1])
+            self.assertNothing(kept)
+            kept.record([{"op": "remove", "path": "/0"}])
+            shared.apply([{"op": "add", "path": "/0", "value": 2}])
+            self.assertNothing(kept)
+
+    def test_closed(self):
+        kept = Document([1])
+        kept.record([{"op": "remove", "path": "/0"}])
+        kept.close()
+        with self.assertRaises(ValueError):
+            kept.undo()
+
+    def test_as_deep_as_may_be(self):
+        deep = nested(124)
+        with Document(deep) as kept:
+            inverse = kept.record([{"op": "replace", "path": "", "value": 1}])
+            kept.undo()
+            self.assertEqual(kept.get(), deep)
+            self.assertEqual(inverse.apply(1), deep)
+
+    def test_recorded_or_not_at_all(self):
+        """Where the inverse can't be had, the change is taken back."""
+        patch = [{"op": "remove", "path": "/a"}]
+        with Document({"a": 1}) as kept:
+            for name, fault in (
+                ("json_patch.document.LIBRARY.json_patch_inverse", mock.Mock(return_value=NO_MEMORY)),
+                ("json_patch.document.value_of", mock.Mock(side_effect=MemoryError)),
+                ("json_patch.document.value_of", mock.Mock(side_effect=RecursionError)),
+                ("json_patch.document.value_of", mock.Mock(side_effect=KeyboardInterrupt)),
+            ):
+                with mock.patch(name, fault), self.assertRaises((MemoryError, RecursionError, KeyboardInterrupt)):
+                    kept.record(patch)
+                self.assertEqual(kept.get(), {"a": 1})
+                self.assertNothing(kept)
+            # nor can it be taken back for want of memory: it can be later
+            nothing = mock.Mock(return_value=NO_MEMORY)
+            with mock.patch.object(LIBRARY, "json_patch_inverse", nothing), mock.patch.object(LIBRARY, "json_patch_undo", nothing):
+                with self.assertRaises(MemoryError):
+                    kept.record(patch)
+            self.assertEqual(kept.get(), {})
+            kept.undo()
+            self.assertEqual(kept.get(), {"a": 1})
+
+
+class InPlace(unittest.TestCase):
+    def test_lists_at_two_places_are_not_copied_past_the_limits(self):
+        """Each copy would double the one list, where the library's document has two."""
+        rows = []
+        document = {"a": rows, "b": rows}
+        patch = [{"op": "copy", "from": "/a", "path": "/b/-"}] * 200
+        self.assertIs(apply_patch(document, patch, in_place=True, limits=Limits(copied=200)), document)
+        self.assertEqual(document, {"a": [], "b": [[]] * 200})
+
+    def test_keys_that_are_no_str(self):
+        document = {"1": [0], 1: {"0": 0}}
+        patch = [{"op": "copy", "from": "/1", "path": "/1/0"}] * 100
+        self.assertIs(apply_patch(document, patch, in_place=True), document)
+        wanted = {"0": 0}
+        for _ in range(100):
+            wanted = {"0": wanted}
+        self.assertEqual(document, {"1": wanted})
+
+
+if __name__ == "__main__":
+    unittest.main()
