@@ -65,8 +65,8 @@ def of_faults(kinds):
 def rows():
     kinds = numbers()
     for case in tables.vectors():
-        # A pair of patches is no case of a call here.
-        if "are_apart" not in case:
+        # A pair of patches is no case of a call here, and those within limits are in test_limits.c.
+        if "are_apart" not in case and "told" not in case:
             yield from of_case(case, kinds)
     yield from of_faults(kinds)
 

@@ -88,12 +88,19 @@ fn a_copy_reaches_too_deep(rt: HostRuntime) -> Result<(), Fail> {
         told.as_str(),
         "operation '/1' is over the limits: value would reach too deep"
     );
-    there_and_back_within(
-        alloc,
-        &mut document,
-        &changes(alloc, r#"[{"op":"remove","path":"/a"}]"#),
-    )
-    .expect(&rt, "an accepted patch");
+    assert_eq!(rt; document.to_string(alloc)?.as_str(), r#"{"a":1}"#);
+    Ok(())
+}
+
+#[test]
+fn a_patch_within_limits_leads_back(rt: HostRuntime) -> Result<(), Fail> {
+    let alloc = rt.alloc();
+    let mut document = whole(alloc, r#"{"a":1}"#);
+    let operations = r#"[{"op":"remove","path":"/a"}]"#;
+    there_and_back_within(alloc, &mut document, &changes(alloc, operations)).expect(
+        &rt,
+        "an accepted patch",
+    );
     assert_eq!(rt; document.to_string(alloc)?.as_str(), r#"{"a":1}"#);
     Ok(())
 }
