@@ -1,5 +1,5 @@
 -- How deep the values are that an inverse holds, and how deep a patch is as a value.
-use Rattle.json_patch_laws.proofs.Common.{◌≡◌, ◌≤◌, ◌+◌, List, [], ◌∷◌, ◌++◌, length, Option, Some, None, refl, sym, subst, arith, rules, ℕ, suc, option_map}
+use Rattle.json_patch_laws.proofs.Common.{◌≡◌, ◌≤◌, ◌+◌, List, [], ◌∷◌, ◌++◌, length, Option, Some, None, refl, sym, subst, arith, ℕ, suc, option_map}
 use Rattle.json_patch_laws.proofs.Common.{Data, array, Pointer, IsDocument, Operation, add, remove, replace, move, copy, test, AreWhole, Accepts, IsInverse}
 use Rattle.json_patch_laws.proofs.Common.{pointee, after_remove, front_of, last_of, undo_in, undo_add, undo_at, with_found, block, inverse}
 use Rattle.std.specs.Prelude.{map}

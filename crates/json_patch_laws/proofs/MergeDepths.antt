@@ -1,5 +1,5 @@
 -- How deep the document is that a merge patch leaves.
-use Rattle.json_patch_laws.proofs.Common.{◌≡◌, ◌≤◌, ◌-◌, ℕ, List, Option, Some, None, ⊎_elim, refl, ap, arith, rules, Data, object, null, Members, no_members, member}
+use Rattle.json_patch_laws.proofs.Common.{◌≡◌, ◌≤◌, ◌-◌, ℕ, List, Option, Some, None, ⊎_elim, refl, arith, Data, object, null, Members, no_members, member}
 use Rattle.json_patch_laws.proofs.Common.{get_member, put, without, unwrap_or, IsDocument, IsMerged, after_merge, members_after_merge, members_of, ◌≢◌}
 use Rattle.serde_json.specs.Data.{depth, members_depth}
 use Rattle.json_patch_limits.proofs.Depths.{member_depth, put_depth, without_depth}
