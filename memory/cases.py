@@ -57,6 +57,19 @@ RUNS = {
         [replace("", {"title": "Hello!"})],
         inverse=[replace("", None)],
     ),
+    "numbers put in before items": Run(
+        [
+            [1, 2, 3],
+            [1, 10, 2, 3],
+            [11, 1, 10, 2, 3],
+            [11, 1, 10, 2, 12, 3],
+            [11, 1, 13, 10, 2, 12, 3],
+            [11, 1, 13, 10, 2, 12, 14, 3],
+            [11, 1, 13, 15, 10, 2, 12, 14, 3],
+        ],
+        [add("/1", 10), add("/0", 11), add("/4", 12), add("/2", 13), add("/6", 14), add("/3", 15)],
+        inverse=[remove("/3"), remove("/6"), remove("/2"), remove("/4"), remove("/0"), remove("/1")],
+    ),
     "a member moved over its parent": Run(
         [{"a": {"b": 1, "c": 2}}, {"a": 1}],
         [move("/a/b", "/a")],
@@ -511,6 +524,15 @@ def named_calls():
         left("done", '{"a":[1,2]}'),
         [],
         requests=0,
+    )
+    # a number takes no memory, so these are requests for room in the list
+    grows = RUNS["numbers put in before items"]
+    yield Call(
+        "patch_unsafe: numbers put into a list that is full",
+        grows.arguments("patch_unsafe"),
+        left("done", grows.states[-1]),
+        [left(MEMORY, state) for state in grows.states],
+        at_least=2,
     )
     yield Call(
         "patch_unsafe: a refusal, whose path is copied",

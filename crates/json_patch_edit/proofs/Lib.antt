@@ -4,6 +4,7 @@ pub mod Changes
 pub mod Common
 pub mod Containers
 pub mod Exchanges
+pub mod Lent
 pub mod Locations
 pub mod Marked
 pub mod MarkedChanges
@@ -11,6 +12,7 @@ pub mod MarkedContainers
 pub mod MarkedRuns
 pub mod Places
 pub mod Shown
+pub mod Singles
 pub mod Slots
 pub mod StepOutcomes
 pub mod Unmarked

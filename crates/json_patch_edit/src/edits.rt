@@ -16,6 +16,7 @@ ghost use Rattle.json_patch_edit.specs.Marked.{AreMarkedItems, AreMarkedMembers,
 
 use crate::error::StepFault;
 use crate::marks::{clear, is_mark, live_count};
+use crate::shift::{insert_at, remove_at};
 use crate::walk::{item_index, slot_index};
 use json_patch_operation::PatchErrorKind;
 use jsonptr::{Pointer, Token, Tokens};
@@ -451,7 +452,7 @@ fn insert_item(
         (view value.old) (view value.new) }
 {
     let index = slot_index(token, live_count(items))?;
-    match items.insert(index, mem::take(value)) {
+    match insert_at(items, index, mem::take(value)) {
         Ok(()) => Ok(Found::Nothing),
         Err(failed) => {
             *value = failed.value;
@@ -473,7 +474,7 @@ fn take_item(
     ensures no_memory { NeverShort result }
 {
     let index = item_index(token, live_count(items))?;
-    let item = items.remove(index);
+    let item = remove_at(items, index);
     items.push_reserved(mem::replace(value, item));
     Ok(Found::Taken)
 }
@@ -490,7 +491,7 @@ fn remove_item(
     ensures no_memory { NeverShort result }
 {
     let index = item_index(token, live_count(items))?;
-    *value = items.remove(index);
+    *value = remove_at(items, index);
     Ok(Found::Taken)
 }
 
@@ -527,7 +528,7 @@ fn undo_insert(
         return Err(StepFault::Refused(PatchErrorKind::InvalidPointer));
     }
     let index = slot_index(token, count - 1)?;
-    *value = items.remove(index);
+    *value = remove_at(items, index);
     Ok(Found::Taken)
 }
 
@@ -561,7 +562,7 @@ fn undo_take(
 {
     let index = item_index(token, items.len())?;
     let mark = items.pop();
-    if items.insert(index, mem::take(value)).is_err() {
+    if insert_at(items, index, mem::take(value)).is_err() {
         unreachable!();
     }
     if let Some(mark) = mark {

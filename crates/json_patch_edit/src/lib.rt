@@ -6,4 +6,5 @@ pub mod equality;
 pub mod error;
 pub mod marks;
 pub mod seen;
+mod shift;
 pub mod walk;

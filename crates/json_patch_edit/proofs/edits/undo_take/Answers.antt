@@ -11,5 +11,5 @@ pub returns-in-Some-clause-makes : goal.returns-in-Some-clause-makes
 returns-in-Some-clause-makes c =
     let at : c.in_ok-index.index < c.len.result = c.in_ok-index.ensures.0 in
     let less : suc (vec_len c.args.items.now - 1) ≡ vec_len c.args.items.now = omega arith in
-    let wrote = rw c.if-is_err.ensures.negation at c.insert.ensures.items in
-    (rw (← c.take.ensures.value) (restores_item (token_of c.args.token) c.args.items.now c.pop-mark.new.self.items c.insert.new.self.items c.len.result c.in_ok-index.index (vec_len c.args.items.now - 1) c.take.result c.len.ensures c.in_ok-index.ensures less c.pop-mark.ensures.rest wrote), tt)
+    let wrote = rw c.if-is_err.ensures.negation at c.insert_at.ensures.items in
+    (rw (← c.take.ensures.value) (restores_item (token_of c.args.token) c.args.items.now c.pop-mark.new.self.items c.insert_at.new.items.items c.len.result c.in_ok-index.index (vec_len c.args.items.now - 1) c.take.result c.len.ensures c.in_ok-index.ensures less c.pop-mark.ensures.rest wrote), tt)
