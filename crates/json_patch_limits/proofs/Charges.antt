@@ -2,8 +2,10 @@
 use Rattle.json_patch_limits.proofs.Common.{◌≡◌, ◌<◌, ◌+◌, ◌-◌, ℕ, suc, List, ◌∷◌, length, Some, None, Result, Ok, Err}
 use Rattle.json_patch_limits.proofs.Common.{Bool, true, false, refl, sym, ap, ap₂, ◌∙◌, subst, arith, rules, nat_tests, Data, array, object, pointee}
 use Rattle.json_patch_limits.proofs.Common.{Items, no_items, item, Members, no_members, member, Operation, PatchErrorKind}
-use Rattle.json_patch_limits.proofs.Common.{Pointer, move, after_step, if◌then◌else◌}
-use Rattle.std.specs.Prelude.{nat_lt}
+use Rattle.json_patch_limits.proofs.Common.{◌≤◌, [], Pointer, move, after_step, if◌then◌else◌}
+use Rattle.std.specs.Prelude.{nat_lt, ◌++◌}
+use Rattle.std.proofs.lemmas.List.{length-append}
+use Rattle.jsonptr.specs.Text.{encoded, text_of}
 use Rattle.serde_json.specs.Data.{depth, items_depth, members_depth}
 use Rattle.json_patch_limits.proofs.Overs.{is_over, is_under}
 use Rattle.json_patch_limits.specs.OverLimits.{IsUnder, copied_by, left_of, reach_at, reach_of, size, size_at}
@@ -89,3 +91,9 @@ never_then r = search rules
 
 pub unlimited : (d : Data) (op : Operation) (ops : List Operation) → over_under None d (op ∷ ops) ≡ then_over (after_step d op) (λ m. over_under None m ops)
 unlimited d op ops = never_then (after_step d op)
+
+-- ---- a pointer has no more tokens than its text has bytes
+
+pub count_within : (P : Pointer) → length P ≤ length (text_of P)
+count_within [] = omega arith
+count_within (t ∷ P) = let more : length P ≤ length (text_of P) = count_within P in let all : length (encoded t ++ text_of P) ≡ length (encoded t) + length (text_of P) = length-append (encoded t) (text_of P) in omega arith

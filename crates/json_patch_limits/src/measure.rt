@@ -100,9 +100,15 @@ pub fn spare(value: &Value, much: usize) -> Option<usize>
 }
 
 /// Whether a value at the path has more levels than so many.
+#[tactic(auto, using(crate::proofs::Charges::count_within))]
 pub fn is_too_deep(path: Pointer<'_>, value: &Value, levels: usize) -> bool
     ensures { IsTrue result ↔ (levels < length (tokens_of path.entry) + depth (view value.now)) }
 {
+    // A pointer has no more tokens than its string has bytes, so mostly none need be counted.
+    let most = path.as_str().len();
+    if most <= levels && is_shallow(value, levels - most) {
+        return false;
+    }
     let count = count_tokens(path);
     count > levels || !is_shallow(value, levels - count)
 }
