@@ -5,3 +5,6 @@ pub mod Objects
 pub mod Lists
 pub mod Results
 pub mod Lengths
+pub mod Guards
+pub mod Least
+pub mod Fitting

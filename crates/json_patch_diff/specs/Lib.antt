@@ -1,2 +1,4 @@
+pub mod Guarded
+pub mod Partwise
 pub mod Size
 pub mod Steps

@@ -4,7 +4,9 @@
 mod alignment;
 mod difference;
 mod edits;
+mod guarded;
 mod hash;
 mod sizes;
 
 pub use difference::diff;
+pub use guarded::guarded_diff;

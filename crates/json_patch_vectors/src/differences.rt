@@ -6,8 +6,8 @@ ghost use Rattle.std.specs.Prelude.{IfOk};
 ghost use Rattle.serde_json.specs.View.{view};
 ghost use Rattle.json_patch.specs.Document.{IsDocument};
 
-use json_patch::{apply_patches, is_whole};
-use json_patch_diff::diff;
+use json_patch::{PatchFault, apply_patches, is_whole, patch};
+use json_patch_diff::{diff, guarded_diff};
 use serde_json::Value;
 use std::alloc::AllocGlobal;
 use std::process::Abort;
@@ -218,6 +218,92 @@ const ITEMS: &[Difference] = &[
     },
 ];
 
+/// Two documents, and the patch with tests that leads from the first to the second.
+struct Guarded {
+    name: &'static str,
+    from: &'static str,
+    to: &'static str,
+    patch: &'static str,
+    /// Another document that accepts it, and what it leads to there.
+    beside: &'static str,
+    end: &'static str,
+    /// One that refuses it, at the operation of this number.
+    other: &'static str,
+    number: usize,
+}
+
+const GUARDED: &[Guarded] = &[
+    Guarded {
+        name: "what is replaced is tested, what stays isn't",
+        from: r#"{"a":1,"b":"keep what is long"}"#,
+        to: r#"{"a":2,"b":"keep what is long"}"#,
+        patch: concat!(
+            r#"[{"op":"test","path":"/a","value":1},"#,
+            r#"{"op":"replace","path":"/a","value":2}]"#
+        ),
+        beside: r#"{"a":1,"c":0}"#,
+        end: r#"{"a":2,"c":0}"#,
+        other: r#"{"a":3,"b":"keep what is long"}"#,
+        number: 0,
+    },
+    Guarded {
+        name: "each item that goes is tested when it goes",
+        from: r#"["alpha alpha alpha","beta","gamma","delta delta delta"]"#,
+        to: r#"["alpha alpha alpha","delta delta delta"]"#,
+        patch: concat!(
+            r#"[{"op":"test","path":"/2","value":"gamma"},{"op":"remove","path":"/2"},"#,
+            r#"{"op":"test","path":"/1","value":"beta"},{"op":"remove","path":"/1"}]"#
+        ),
+        beside: r#"["x","beta","gamma"]"#,
+        end: r#"["x"]"#,
+        other: r#"["alpha alpha alpha","other","gamma"]"#,
+        number: 2,
+    },
+    Guarded {
+        name: "what is only added isn't tested",
+        from: r#"["alpha alpha alpha","beta beta beta beta","gamma gamma gamma"]"#,
+        to: r#"["alpha alpha alpha","new","beta beta beta beta","gamma gamma gamma"]"#,
+        patch: r#"[{"op":"add","path":"/1","value":"new"}]"#,
+        beside: "[0]",
+        end: r#"[0,"new"]"#,
+        other: "[]",
+        number: 0,
+    },
+    Guarded {
+        name: "a replacement of the whole is for that document alone",
+        from: r#"{"a":1,"b":2}"#,
+        to: r#"{"a":3,"b":4}"#,
+        patch: concat!(
+            r#"[{"op":"test","path":"","value":{"a":1,"b":2}},"#,
+            r#"{"op":"replace","path":"","value":{"a":3,"b":4}}]"#
+        ),
+        beside: r#"{"a":1,"b":2}"#,
+        end: r#"{"a":3,"b":4}"#,
+        other: r#"{"a":1,"b":2,"c":3}"#,
+        number: 0,
+    },
+    Guarded {
+        name: "a test names the place where the item stands by then",
+        from: concat!(
+            r#"["alpha alpha alpha",{"n":1,"t":"beta beta beta beta"},"#,
+            r#""gamma gamma gamma","delta delta delta"]"#
+        ),
+        to: concat!(
+            r#"["new","alpha alpha alpha",{"n":2,"t":"beta beta beta beta"},"#,
+            r#""delta delta delta"]"#
+        ),
+        patch: concat!(
+            r#"[{"op":"add","path":"/0","value":"new"},"#,
+            r#"{"op":"test","path":"/2/n","value":1},{"op":"replace","path":"/2/n","value":2},"#,
+            r#"{"op":"test","path":"/3","value":"gamma gamma gamma"},{"op":"remove","path":"/3"}]"#
+        ),
+        beside: r#"[0,{"n":1},"gamma gamma gamma"]"#,
+        end: r#"["new",0,{"n":2}]"#,
+        other: r#"[0,{"n":1},"other"]"#,
+        number: 3,
+    },
+];
+
 /// The document of this text.
 fn document(rt: &(impl Abort + AllocGlobal), name: &str, text: &str) -> Result<Value, Fail>
     ensures { IfOk result (λ document. IsDocument (view document)) }
@@ -267,4 +353,38 @@ fn members(rt: HostRuntime) -> Result<(), Fail> {
 #[test]
 fn items(rt: HostRuntime) -> Result<(), Fail> {
     run_all(&rt, ITEMS)
+}
+
+/// The patch has this text, leads to the second document, and to the end beside it; and the other
+/// document refuses it.
+fn run_guarded(rt: &(impl Abort + AllocGlobal), case: &Guarded) -> Result<(), Fail> {
+    let alloc = rt.alloc();
+    let name = case.name;
+    let mut from = document(rt, name, case.from)?;
+    let to = document(rt, name, case.to)?;
+    let changes = guarded_diff(alloc, &from, &to)?;
+    let text = format!(in alloc; "{changes}")?;
+    assert_eq!(rt; text.as_str(), case.patch, "{name}");
+    patch(alloc, &mut from, changes.as_slice()).expect(rt, name);
+    assert_eq!(rt; from.to_string(alloc)?.as_str(), case.to, "{name}");
+    let mut beside = document(rt, name, case.beside)?;
+    patch(alloc, &mut beside, changes.as_slice()).expect(rt, name);
+    assert_eq!(rt; beside.to_string(alloc)?.as_str(), case.end, "{name}");
+    let mut other = document(rt, name, case.other)?;
+    match patch(alloc, &mut other, changes.as_slice()) {
+        Err(PatchFault::Refused(error)) => {
+            assert_eq!(rt; error.operation, case.number, "{name}");
+            Ok(())
+        }
+        Err(PatchFault::Memory(_)) => Err(Fail::new("memory")),
+        Ok(()) => Err(Fail::new("accepted, not refused")),
+    }
+}
+
+#[test]
+fn guarded_patches(rt: HostRuntime) -> Result<(), Fail> {
+    for case in GUARDED {
+        run_guarded(&rt, case)?;
+    }
+    Ok(())
 }
