@@ -17,6 +17,7 @@ import tables  # noqa: E402
 
 ROWS = HERE / "cases.json"
 READING = HERE.parent / "crates/json_patch_vectors/src/reading.rt"
+DIFFERENCES = HERE.parent / "crates/json_patch_vectors/src/differences.rt"
 HEADER = HERE / "json_patch.h"
 OK, REFUSED, NO_DOCUMENT, NO_PATCH = 0, 1, 2, 3
 
@@ -62,6 +63,14 @@ def of_faults(kinds):
         yield ["record", "null", patch, *told]
 
 
+def of_differences():
+    """Two documents, and the patch that leads from the one to the other."""
+    text = DIFFERENCES.read_text(encoding="utf-8")
+    for start in re.finditer(r"^const \w+: &\[Difference\] = ", text, re.MULTILINE):
+        for case in tables.Source(text[start.end() :], {}).value():
+            yield ["diff", case["from"], case["to"], OK, 0, 0, case["patch"]]
+
+
 def rows():
     kinds = numbers()
     for case in tables.vectors():
@@ -69,6 +78,7 @@ def rows():
         if "are_apart" not in case and "told" not in case:
             yield from of_case(case, kinds)
     yield from of_faults(kinds)
+    yield from of_differences()
 
 
 def text():

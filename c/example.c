@@ -27,7 +27,7 @@ static void from_texts(void) {
     const char *document = "{\"a\":[1,2]}";
     const char *patch = "[{\"op\":\"move\",\"from\":\"/a/0\",\"path\":\"/b\"}]";
     const char *refused = "[{\"op\":\"remove\",\"path\":\"/c\"}]";
-    const char *merge_patch = "{\"a\":null,\"d\":\"e\"}";
+    const char *merge_patch = "{\"a\":null,\"d\":\"e\"}", *goal = "{\"a\":[1,2,3]}";
     size_t length = strlen(document);
     char out[128];
     json_patch_report report;
@@ -40,6 +40,8 @@ static void from_texts(void) {
     status = json_patch_merge(document, length, merge_patch, strlen(merge_patch), out, sizeof out,
                               &report);
     print("merge", status, out, &report);
+    status = json_patch_diff(document, length, goal, strlen(goal), out, sizeof out, &report);
+    print("diff", status, out, &report);
     status = json_patch_apply(document, length, refused, strlen(refused), out, sizeof out, &report);
     print("apply", status, out, &report);
     status = json_patch_apply(document, length, patch, strlen(patch), out, 8, &report);
@@ -49,6 +51,7 @@ static void from_texts(void) {
 static void on_a_kept_document(void) {
     const char *text = "{\"rows\":[1,2]}", *merge_patch = "{\"name\":\"x\"}", *pointer = "/rows/0";
     const char *patch = "[{\"op\":\"replace\",\"path\":\"/rows/0\",\"value\":3}]";
+    const char *goal = "{\"name\":\"x\",\"rows\":[3,2,1]}";
     json_patch_document document = JSON_PATCH_DOCUMENT;
     char out[128];
     json_patch_report report;
@@ -64,6 +67,8 @@ static void on_a_kept_document(void) {
     print("update_recorded", status, out, &report);
     status = json_patch_inverse(&document, out, sizeof out, &report);
     print("inverse", status, out, &report);
+    status = json_patch_diff_to(&document, goal, strlen(goal), out, sizeof out, &report);
+    print("diff_to", status, out, &report);
     status = json_patch_text_at(&document, pointer, strlen(pointer), out, sizeof out, &report);
     print("text_at", status, out, &report);
     status = json_patch_text(&document, out, sizeof out, &report);

@@ -36,7 +36,8 @@ enum {
                                    report->size bytes, is in out if that is long enough */
     JSON_PATCH_NO_DOCUMENT = 2, /* the document's text says none: report->kind tells why */
     JSON_PATCH_NO_PATCH = 3,    /* the patch's text says none: report->kind tells why, and
-                                   report->operation where */
+                                   report->operation where; or the text to which a patch is to lead
+                                   says no document */
     JSON_PATCH_NO_MEMORY = 4,   /* malloc or realloc failed */
     JSON_PATCH_NO_ROOM = 5,     /* out is too short: the text has report->size bytes */
     /* of a document that is kept */
@@ -119,7 +120,7 @@ typedef struct {
  *
  * The calls that take no limits have JSON_PATCH_MOST_LEVELS and JSON_PATCH_MOST_COPIED; those of
  * json_patch_..._within have the caller's, where a depth past JSON_PATCH_MOST_LEVELS counts as that.
- * So each text that a call writes, of a document, an inverse or the array of both, nests at most 127
+ * So each text that a call writes, of a document, a patch or the array of both, nests at most 127
  * levels, and is read again.
  */
 typedef struct {
@@ -158,6 +159,19 @@ json_patch_status json_patch_merge_within(const char *document, size_t document_
                                           const char *patch, size_t patch_length,
                                           const json_patch_limits *limits, char *out,
                                           size_t out_length, json_patch_report *report);
+
+/* Writes the patch that leads from one document to another: applied to `from`, within the same limits,
+   it leaves `to`. It adds, removes and replaces alone, is [] exactly where the documents are equal, and
+   is no longer than the patch that replaces the whole. JSON_PATCH_NO_DOCUMENT, where the text `from`
+   says no document, and JSON_PATCH_NO_PATCH, where `to` says none. Never JSON_PATCH_REFUSED or
+   JSON_PATCH_OVER. */
+json_patch_status json_patch_diff(const char *from, size_t from_length, const char *to,
+                                  size_t to_length, char *out, size_t out_length,
+                                  json_patch_report *report);
+
+json_patch_status json_patch_diff_within(const char *from, size_t from_length, const char *to,
+                                         size_t to_length, const json_patch_limits *limits, char *out,
+                                         size_t out_length, json_patch_report *report);
 
 /* Reads the patch, and does nothing else: JSON_PATCH_OK, JSON_PATCH_NO_PATCH or
    JSON_PATCH_NO_MEMORY. */
@@ -224,6 +238,12 @@ json_patch_status json_patch_undo(json_patch_document *document, json_patch_repo
    JSON_PATCH_NO_MEMORY or JSON_PATCH_NO_ROOM. */
 json_patch_status json_patch_inverse(json_patch_document *document, char *out, size_t out_length,
                                      json_patch_report *report);
+
+/* Writes the patch that leads from the document to that of the text, as json_patch_diff does, within
+   the document's limits, and leaves the document. JSON_PATCH_OK, JSON_PATCH_NO_PATCH, where the text
+   says no document, JSON_PATCH_NO_MEMORY or JSON_PATCH_NO_ROOM. */
+json_patch_status json_patch_diff_to(json_patch_document *document, const char *text, size_t length,
+                                     char *out, size_t out_length, json_patch_report *report);
 
 /* Writes the document. JSON_PATCH_OK, JSON_PATCH_NO_MEMORY or JSON_PATCH_NO_ROOM. */
 json_patch_status json_patch_text(json_patch_document *document, char *out, size_t out_length,

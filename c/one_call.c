@@ -4,9 +4,9 @@
  *
  *     one_call CALL DOCUMENT TEXT
  *
- * CALL is apply, record, merge or check, or of a document that is kept open, open, update,
- * update_recorded, update_merged, undo, text, text_at or inverse; and apply, record, merge and open
- * with _within behind, whose limits are those of the calls that are given none. It prints what the call answers with ample memory: the
+ * CALL is apply, record, merge, diff or check, or of a document that is kept open, open, update,
+ * update_recorded, update_merged, undo, text, text_at, diff_to or inverse; and apply, record, merge,
+ * diff and open with _within behind, whose limits are those of the calls that are given none. It prints what the call answers with ample memory: the
  * status and the report, what was written, and then the text of the document that is kept; and, in a
  * last line, how many requests there were. Whether a request was refused is told by the functions
  * below that stand in for malloc and realloc: so it is linked with
@@ -98,6 +98,12 @@ static json_patch_status called(const input *it, json_patch_document *kept, char
         return json_patch_record_within(document, size, text, length, &usual, out, ROOM, report);
     if (strcmp(name, "merge_within") == 0)
         return json_patch_merge_within(document, size, text, length, &usual, out, ROOM, report);
+    if (strcmp(name, "diff") == 0)
+        return json_patch_diff(document, size, text, length, out, ROOM, report);
+    if (strcmp(name, "diff_within") == 0)
+        return json_patch_diff_within(document, size, text, length, &usual, out, ROOM, report);
+    if (strcmp(name, "diff_to") == 0)
+        return json_patch_diff_to(kept, text, length, out, ROOM, report);
     if (strcmp(name, "open_within") == 0)
         return json_patch_open_within(kept, text, length, &usual, report);
     if (strcmp(name, "undo") == 0)

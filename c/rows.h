@@ -98,6 +98,8 @@ static call *named(const char *name) {
         return json_patch_apply;
     if (strcmp(name, "record") == 0)
         return json_patch_record;
+    if (strcmp(name, "diff") == 0)
+        return json_patch_diff;
     if (strcmp(name, "merge") != 0)
         fail("cases.json: there is no call %s", name);
     return json_patch_merge;

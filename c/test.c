@@ -53,7 +53,8 @@ static void expect(const row *row, size_t room) {
 static void expect_check(const row *row) {
     json_patch_report report = {77, 77, 77};
     int is_patch = row->status != JSON_PATCH_NO_PATCH;
-    if (row->make == json_patch_merge || row->status == JSON_PATCH_NO_DOCUMENT)
+    if (row->make == json_patch_merge || row->make == json_patch_diff ||
+        row->status == JSON_PATCH_NO_DOCUMENT)
         return;
     json_patch_status status = json_patch_check(row->patch.bytes, row->patch.length, &report);
     calls++;
@@ -94,6 +95,12 @@ static void expect_others(void) {
         {json_patch_merge, TEXT("{}"), TEXT("{"), 3, 0, JSON_PATCH_NOT_JSON, TEXT("")},
         {json_patch_merge, TEXT("{}"), TEXT("{\"a\":1e2}"), 3, 0, JSON_PATCH_NOT_WHOLE, TEXT("")},
         {json_patch_merge, TEXT("-0"), TEXT("1"), 2, 0, JSON_PATCH_NOT_WHOLE, TEXT("")},
+        {json_patch_diff, TEXT("{"), TEXT("{"), 2, 0, JSON_PATCH_NOT_JSON, TEXT("")},
+        {json_patch_diff, TEXT("-0"), TEXT("-0"), 2, 0, JSON_PATCH_NOT_WHOLE, TEXT("")},
+        {json_patch_diff, TEXT("{}"), TEXT(""), 3, 0, JSON_PATCH_NOT_JSON, TEXT("")},
+        {json_patch_diff, TEXT("{}"), TEXT("[1,1e2]"), 3, 0, JSON_PATCH_NOT_WHOLE, TEXT("")},
+        {json_patch_diff, TEXT(" {\"b\":[1 ,2],\"a\":0,\"a\":-7} "), TEXT("{\"a\":-7,\"b\":[1,2]}"), 0, 0, 0,
+         TEXT("[]")},
         {json_patch_apply, TEXT(" {\"b\":[1 ,2],\"a\":0,\"a\":-7} "), TEXT(" [ ] "), 0, 0, 0,
          TEXT("{\"a\":-7,\"b\":[1,2]}")},
     };
@@ -111,6 +118,8 @@ static void expect_values(void) {
             {json_patch_merge, value, TEXT("{}"), 2, 0, values[i].kind, TEXT("")},
             {json_patch_apply, TEXT("{}"), patch, 3, 0, kind_in_patch(i), TEXT("")},
             {json_patch_merge, TEXT("{}"), value, 3, 0, values[i].kind, TEXT("")},
+            {json_patch_diff, value, TEXT("["), 2, 0, values[i].kind, TEXT("")},
+            {json_patch_diff, TEXT("{}"), value, 3, 0, values[i].kind, TEXT("")},
         };
         for (size_t j = 0; j < sizeof told / sizeof *told; j++) {
             expect(&told[j], 8);

@@ -63,7 +63,35 @@ static void expect_changed(const row *row, json_patch_document *document, const 
         fail("the inverse %s doesn't lead back to %s", inverse, before);
 }
 
+/* The patch that leads from what is kept to the second text is what the row tells, and leads there. */
+static void expect_difference(const row *row) {
+    json_patch_document document = JSON_PATCH_DOCUMENT;
+    json_patch_report report = {77, 77, 77};
+    char out[ROOM], path[ROOM];
+    const char *to = row->patch.bytes;
+    if (json_patch_open(&document, row->document.bytes, row->document.length, &report))
+        fail("%s isn't opened", row->document.bytes);
+    report = (json_patch_report){77, 77, 77};
+    if (json_patch_diff_to(&document, to, row->patch.length, out, ROOM, &report))
+        fail("no patch leads to %s", to);
+    expect_told(&report, row->written.length, 0, 0);
+    if (memcmp(out, row->written.bytes, report.size) != 0)
+        fail("%.*s and not %s leads to %s", (int)report.size, out, row->written.bytes, to);
+    if (strcmp(written(json_patch_text, &document), row->document.bytes) != 0)
+        fail("%s is changed", row->document.bytes);
+    if (json_patch_update(&document, out, report.size, path, ROOM, &report) ||
+        strcmp(written(json_patch_text, &document), to) != 0)
+        fail("%s doesn't lead to %s", row->written.bytes, to);
+    if (json_patch_diff_to(&document, to, row->patch.length, out, ROOM, &report) || report.size != 2)
+        fail("%.*s leads from %s to itself", (int)report.size, out, to);
+    json_patch_close(&document);
+}
+
 static void expect_on_kept(const row *row) {
+    if (row->make == json_patch_diff) {
+        expect_difference(row);
+        return;
+    }
     json_patch_document document = JSON_PATCH_DOCUMENT;
     json_patch_report report = {77, 77, 77};
     char out[ROOM];
@@ -108,6 +136,7 @@ static void expect_closed(void) {
     EXPECT_TOLD(json_patch_update_recorded(&closed, TEXT("["), out, 8, &r), JSON_PATCH_CLOSED, 0);
     EXPECT_TOLD(json_patch_update_merged(&closed, TEXT("{}"), &r), JSON_PATCH_CLOSED, 0);
     EXPECT_TOLD(json_patch_inverse(&closed, out, 8, &r), JSON_PATCH_CLOSED, 0);
+    EXPECT_TOLD(json_patch_diff_to(&closed, TEXT("{"), out, 8, &r), JSON_PATCH_CLOSED, 0);
     EXPECT_TOLD(json_patch_text(&closed, out, 8, &r), JSON_PATCH_CLOSED, 0);
     EXPECT_TOLD(json_patch_text_at(&closed, TEXT("x"), out, 8, &r), JSON_PATCH_CLOSED, 0);
     EXPECT_TOLD(json_patch_open(&closed, TEXT("{"), &r), JSON_PATCH_NO_DOCUMENT,
@@ -143,6 +172,8 @@ static void expect_unreadable(void) {
                 JSON_PATCH_NOT_JSON);
     EXPECT_TOLD(json_patch_update_merged(&document, TEXT("[1.5]"), &r), JSON_PATCH_NO_PATCH,
                 JSON_PATCH_NOT_WHOLE);
+    EXPECT_TOLD(json_patch_diff_to(&document, TEXT("["), out, 8, &r), JSON_PATCH_NO_PATCH,
+                JSON_PATCH_NOT_JSON);
     if (strcmp(written(json_patch_text, &document), "{\"a\":1}") != 0)
         fail("a text that is no patch changes the document");
     json_patch_close(&document);
@@ -161,6 +192,8 @@ static void expect_values(void) {
         EXPECT_TOLD(json_patch_update(&document, patch.bytes, patch.length, out, 8, &r),
                     JSON_PATCH_NO_PATCH, kind_in_patch(i));
         EXPECT_TOLD(json_patch_update_merged(&document, values[i].bytes, values[i].length, &r),
+                    JSON_PATCH_NO_PATCH, values[i].kind);
+        EXPECT_TOLD(json_patch_diff_to(&document, values[i].bytes, values[i].length, out, 8, &r),
                     JSON_PATCH_NO_PATCH, values[i].kind);
         free(patch.bytes);
     }
@@ -201,6 +234,11 @@ static void expect_rooms(void) {
                room < strlen(inverse) ? JSON_PATCH_NO_ROOM : JSON_PATCH_OK);
         if (r.size != strlen(inverse) || !is_alone(out, room, r.size))
             fail("an inverse in %zu bytes", room);
+        memset(out, '-', sizeof out);
+        EXPECT(json_patch_diff_to(&document, TEXT("{}"), out, room, &r),
+               room < strlen(inverse) ? JSON_PATCH_NO_ROOM : JSON_PATCH_OK);
+        if (r.size != strlen(inverse) || !is_alone(out, room, r.size))
+            fail("a difference in %zu bytes", room);
     }
     json_patch_close(&document);
 }

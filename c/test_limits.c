@@ -237,6 +237,57 @@ static void expect_text(const nest *by, size_t turns, const json_patch_limits *l
     free(deep.bytes);
 }
 
+/* Documents that differ in what stands innermost, and nowhere else: within limits the patch leads from the
+   one to the other, and is read again, though the documents are as deep as one may be. Each level has a
+   member beside it, so long that no level is replaced whole. */
+static void expect_difference(size_t turns, const json_patch_limits *limits) {
+    static char patch[ROOM];
+    text from = {NULL, 0, 0}, to = {NULL, 0, 0};
+    size_t levels = turns, length;
+    int fits = levels <= limits->depth && levels <= MOST;
+    json_patch_report report;
+    json_patch_document kept = JSON_PATCH_DOCUMENT;
+    for (int goal = 0; goal <= 1; goal++) {
+        text *made = goal ? &to : &from;
+        put_times(made, "{\"a\":", turns);
+        put(made, "%d", goal);
+        for (size_t i = 0; i < turns; i++)
+            put(made, ",\"b\":\"%0100d\"}", 0);
+    }
+    expect(json_patch_diff_within(from.bytes, from.length, to.bytes, to.length, limits, out, ROOM,
+                                  &report),
+           &report, fits ? JSON_PATCH_OK : JSON_PATCH_NO_DOCUMENT, 0,
+           fits ? JSON_PATCH_KIND_NONE : JSON_PATCH_TOO_DEEP, "a deep difference");
+    json_patch_open_within(&kept, "{}", 2, limits, &report);
+    expect(json_patch_diff_to(&kept, to.bytes, to.length, patch, ROOM, &report), &report,
+           fits ? JSON_PATCH_OK : JSON_PATCH_NO_PATCH, 0,
+           fits ? JSON_PATCH_KIND_NONE : JSON_PATCH_TOO_DEEP, "a deep goal");
+    if (fits) {
+        json_patch_open_within(&kept, from.bytes, from.length, limits, &report);
+        expect(json_patch_diff_to(&kept, to.bytes, to.length, patch, ROOM, &report), &report,
+               JSON_PATCH_OK, 0, 0, "a deep difference of what is kept");
+        length = report.size;
+        if (memcmp(out, patch, length) != 0 || (turns && length > 300 + 2 * turns))
+            fail("%.*s leads on %zu levels", (int)length, patch, turns);
+        expect(json_patch_apply_within(from.bytes, from.length, patch, length, limits, out, ROOM,
+                                       &report),
+               &report, JSON_PATCH_OK, 0, 0, "a deep difference as a patch");
+        if (report.size != to.length || memcmp(out, to.bytes, to.length) != 0)
+            fail("a deep difference leads to %.*s", (int)report.size, out);
+        /* and the whole, in one operation */
+        expect(json_patch_diff_within("7", 1, to.bytes, to.length, limits, patch, ROOM, &report),
+               &report, JSON_PATCH_OK, 0, 0, "a deep whole");
+        length = report.size;
+        expect(json_patch_apply_within("7", 1, patch, length, limits, out, ROOM, &report), &report,
+               JSON_PATCH_OK, 0, 0, "a deep whole as a patch");
+        if (report.size != to.length || memcmp(out, to.bytes, to.length) != 0)
+            fail("a deep whole leads to %.*s", (int)report.size, out);
+    }
+    json_patch_close(&kept);
+    free(from.bytes);
+    free(to.bytes);
+}
+
 /* Brackets that never close, that are in a string, and that no document has. */
 static void expect_brackets(void) {
     json_patch_report report;
@@ -352,6 +403,8 @@ static void *made(void *unused) {
         }
         for (size_t levels = 1; levels <= 130; levels++)
             expect_values(levels, &limits);
+        for (size_t levels = 0; levels <= 130; levels++)
+            expect_difference(levels, given.depth > MOST ? &given : &limits);
     }
     const json_patch_limits usual = {MOST, JSON_PATCH_MOST_COPIED}, small = {MOST, 1000};
     expect_copies(50000, 1400, &usual);

@@ -76,6 +76,7 @@ json_patch_status json_patch_update(json_patch_document *document, const char *p
 UNUSED_TEXTS(json_patch_apply)
 UNUSED_TEXTS(json_patch_record)
 UNUSED_TEXTS(json_patch_merge)
+UNUSED_TEXTS(json_patch_diff)
 
 json_patch_status json_patch_check(const char *patch, size_t patch_length,
                                    json_patch_report *report) {
@@ -100,6 +101,11 @@ json_patch_status json_patch_inverse(json_patch_document *document, char *out, s
     return json_patch_text(document, out, out_length, report);
 }
 
+json_patch_status json_patch_diff_to(json_patch_document *document, const char *text, size_t length,
+                                     char *out, size_t out_length, json_patch_report *report) {
+    return json_patch_update(document, text, length, out, out_length, report);
+}
+
 json_patch_status json_patch_text_at(json_patch_document *document, const char *pointer,
                                      size_t pointer_length, char *out, size_t out_length,
                                      json_patch_report *report) {
@@ -121,6 +127,7 @@ json_patch_status json_patch_text_at(json_patch_document *document, const char *
 WITHIN(json_patch_apply)
 WITHIN(json_patch_record)
 WITHIN(json_patch_merge)
+WITHIN(json_patch_diff)
 
 json_patch_status json_patch_open_within(json_patch_document *document, const char *text,
                                          size_t length, const json_patch_limits *limits,

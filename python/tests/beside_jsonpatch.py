@@ -83,10 +83,10 @@ class Exceptions(unittest.TestCase):
 
 # The names of theirs that are missing here, with what they are for.
 LEFT_OUT = {
-    "make_patch", "multidict", "AddOperation", "CopyOperation", "MoveOperation", "RemoveOperation", "ReplaceOperation",
+    "multidict", "AddOperation", "CopyOperation", "MoveOperation", "RemoveOperation", "ReplaceOperation",
     "TestOperation", "PatchOperation", "DiffBuilder", "basestring", "pairwise", "escape", "unescape", "encode_str",
 }
-LEFT_OUT_OF_CLASSES = {"from_diff", "operations"}
+LEFT_OUT_OF_CLASSES = {"operations"}
 
 
 class Names(unittest.TestCase):
@@ -108,6 +108,7 @@ class Names(unittest.TestCase):
     def test_parameters(self):
         pairs = [
             (jsonpatch.apply_patch, json_patch.apply_patch), (jsonpatch.JsonPatch, json_patch.JsonPatch),
+            (jsonpatch.make_patch, json_patch.make_patch),
             (jsonpointer.resolve_pointer, json_patch.resolve_pointer), (jsonpointer.set_pointer, json_patch.set_pointer),
         ]
         for kind, own in ((jsonpatch.JsonPatch, json_patch.JsonPatch), (jsonpointer.JsonPointer, json_patch.JsonPointer)):
@@ -170,6 +171,44 @@ class Patches(unittest.TestCase):
                         self.assertTrue(same(one, two), (one, two))
                     self.assertEqual(ours is mine, theirs is other)
         self.assertGreater(compared, COUNT / 10)
+
+
+class Differences(unittest.TestCase):
+    """Between random documents, and from each to what a random patch leaves of it."""
+
+    def pairs(self):
+        made = Cases(1)
+        for _ in range(COUNT):
+            document, patch = made.patch_case()
+            left, error = outcome(lambda: json_patch.apply_patch(document, patch))
+            yield document, made.value() if error else left
+
+    def has_dash(self, patch):
+        """They hold the replacement of a member `-` to be no patch."""
+        return any(operation["op"] == "replace" and operation["path"].endswith("/-") for operation in patch)
+
+    def test_each_leads_by_both_packages(self):
+        lengths = set()
+        for src, dst in self.pairs():
+            with self.subTest(src=src, dst=dst):
+                held = copy.deepcopy((src, dst))
+                patch = json_patch.make_patch(src, dst)
+                self.assertTrue(same([src, dst], list(held)))
+                self.assertTrue(same(patch.apply(src), dst), patch)
+                if self.has_dash(patch):
+                    continue
+                lengths.add(len(patch))
+                left = jsonpatch.apply_patch(copy.deepcopy(src), patch.patch)
+                self.assertTrue(same(left, dst), patch)
+                self.assertTrue(same(jsonpatch.JsonPatch.from_string(str(patch)).apply(src), dst), patch)
+        self.assertTrue({0, 1, 2, 3} <= lengths, lengths)
+
+    def test_empty_alike(self):
+        """Both patches are empty, or neither is."""
+        for src, dst in self.pairs():
+            for one, other in ((src, dst), (src, copy.deepcopy(src))):
+                with self.subTest(src=one, dst=other):
+                    self.assertEqual(bool(json_patch.make_patch(one, other)), bool(jsonpatch.make_patch(one, other)))
 
 
 # Patches that are none, whatever the document.

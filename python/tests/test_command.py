@@ -67,6 +67,34 @@ class Command(unittest.TestCase):
         self.assertEqual(json.loads(self.text("inverse.json")), INVERSE)
         self.assertDoes("json-patch record -i d.json p.json inverse.json && json-patch apply d.json inverse.json", '{"a":"\u00e9","b":[1,2]}\n')
 
+    def test_diff(self):
+        self.write("to.json", '{"a": "\u00e9", "b": [1, 2, 3]}')
+        made = '[{"op":"add","path":"/b/2","value":3}]\n'
+        self.assertDoes("json-patch diff d.json to.json", made)
+        self.assertDoes("json-patch diff d.json - < to.json", made)
+        self.assertDoes("json-patch diff d.json < to.json", made)
+        self.assertDoes("json-patch diff - to.json < d.json", made)
+        self.assertDoes("json-patch diff -u --limit-depth 2 d.json to.json", made)
+        self.assertDoes("json-patch diff --indent 1 d.json to.json", json.dumps(json.loads(made), indent=1) + "\n")
+        self.assertDoes("json-patch diff d.json to.json | json-patch apply d.json", '{"a":"\u00e9","b":[1,2,3]}\n')
+        self.assertDoes("json-patch diff to.json d.json | json-patch apply to.json", '{"a":"\u00e9","b":[1,2]}\n')
+        self.assertDoes("json-patch diff d.json d.json", "[]\n")
+        self.assertEqual(self.text("d.json"), DOCUMENT)
+
+    def test_diff_refused(self):
+        self.write("bad", "[1")
+        self.write("half", "[1.5]")
+        for told, arguments in (
+            ("none: No such file or directory", "none d.json"), ("none: No such file or directory", "d.json none"),
+            ("bad: NotJson", "bad d.json"), ("bad: NotJson", "d.json bad"), ("half: NotWhole", "d.json half"),
+            ("standard input: NotWhole", "d.json < half"), ("d.json: TooDeep", "--limit-depth 1 d.json d.json"),
+            ("d.json: TooDeep", "--limit-depth 1 - d.json <<< 1"),
+        ):
+            self.assertEnds(2, told, f"json-patch diff {arguments}")
+        for arguments in ("", "- -", "-", "d.json --limit-copies 1", "d.json p.json -i"):
+            written, _, status = self.run_lines(f"json-patch diff {arguments} < d.json")
+            self.assertEqual((written, status), ("", 64), arguments)
+
     def test_get(self):
         self.assertDoes("json-patch get d.json /b", "[1,2]\n")
         self.assertDoes("json-patch get - '' < d.json", '{"a":"\u00e9","b":[1,2]}\n')

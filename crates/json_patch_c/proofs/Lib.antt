@@ -1,3 +1,4 @@
 mod Owned
 mod Answered
 mod Nested
+mod Differences

@@ -7,6 +7,7 @@ pub mod Reports
 pub mod Failures
 pub mod Documents
 pub mod Updates
+pub mod Differences
 pub mod Undo
 pub mod Found
 pub mod States

@@ -53,6 +53,19 @@ of_update l d patch = record {
 abbrev pub of_update_merged : Limits → List ℕ → Reasons
 of_update_merged l patch = record { no_document = λ kind. ⊥; no_patch = IsNoMergePatchText l.depth patch; refused = λ e. ⊥; over = λ e. ⊥ }
 
+-- of a document's text, and of the one to which a patch is to lead from it: what is wrong with that is told as of a patch
+abbrev pub of_diff : Limits → List ℕ → List ℕ → Reasons
+of_diff l from to = record {
+  no_document = IsNoDocumentText l.depth from;
+  no_patch = λ operation kind. ((d : Data) × IsShallowText l.depth from d) × (operation ≡ 0) × IsNoDocumentText l.depth to kind;
+  refused = λ e. ⊥;
+  over = λ e. ⊥;
+}
+
+-- of a kept document, and of the text of the one to which a patch is to lead from it
+abbrev pub of_diff_to : Limits → List ℕ → Reasons
+of_diff_to l to = record { no_document = λ kind. ⊥; no_patch = λ operation kind. (operation ≡ 0) × IsNoDocumentText l.depth to kind; refused = λ e. ⊥; over = λ e. ⊥ }
+
 -- of a call that makes nothing where memory runs out, and then alone
 abbrev pub of_memory : Reasons
 of_memory = record { no_document = λ kind. ⊥; no_patch = λ operation kind. ⊥; refused = λ e. ⊥; over = λ e. ⊥ }

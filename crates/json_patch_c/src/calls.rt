@@ -6,8 +6,9 @@ ghost use Rattle.serde_json.specs.Read.{read};
 ghost use Rattle.serde_json.specs.View.{view};
 ghost use Rattle.json_patch.specs.Document.{IsDocument};
 ghost use Rattle.json_patch.specs.Operation.{AreWhole, operations_of};
+ghost use Rattle.json_patch_c.specs.Differences.{IsPatchValue, LeadsBetween};
 ghost use Rattle.json_patch_c.specs.Failures.{IsFailure, IsTextOf, IsUnread};
-ghost use Rattle.json_patch_c.specs.Reasons.{of_apply, of_check, of_merge, of_open, of_update_merged};
+ghost use Rattle.json_patch_c.specs.Reasons.{of_apply, of_check, of_diff, of_merge, of_open, of_update_merged};
 ghost use Rattle.json_patch_c.specs.Texts.{IsPatchText, IsShallowText, Makes, MakesBoth, Merges};
 ghost use Rattle.json_patch_c.specs.declared.failure.Failure.TheVariants.{Memory};
 
@@ -16,6 +17,7 @@ use crate::nesting::nests_too_deep;
 use json_patch::{
     Limits, Patch, ReadFault, apply_patches_within, is_shallow, is_whole, laws, merge, patch_within,
 };
+use json_patch_diff::diff;
 use serde_json::Value;
 use std::alloc::Global;
 
@@ -65,8 +67,13 @@ pub(crate) fn document_of(alloc: Global, text: &[u8], limits: Limits) -> Result<
     Ok(value)
 }
 
-/// The merge patch that a text says, within the limit on levels.
-pub(crate) fn merge_patch_of(alloc: Global, text: &[u8], limits: Limits) -> Result<Value, Failure>
+/// The document that a call's second text says, within the limit on levels: a merge patch, or one to
+/// which a patch is to lead. What is wrong with it is told as of a patch.
+pub(crate) fn second_document_of(
+    alloc: Global,
+    text: &[u8],
+    limits: Limits,
+) -> Result<Value, Failure>
     ensures read { IfOk result (λ v. IsShallowText limits.depth text.now (view v)) }
     ensures failure { IfErr result (IsFailure (of_update_merged limits text.now)) }
 {
@@ -165,7 +172,40 @@ pub(crate) fn merged(
 {
     laws::limits();
     let mut document = document_of(alloc, text, limits)?;
-    let changes = merge_patch_of(alloc, changes, limits)?;
+    let changes = second_document_of(alloc, changes, limits)?;
     merge(alloc, &mut document, &changes)?;
     text_of(alloc, &document)
+}
+
+/// The text of the patch that leads from one document to another.
+pub(crate) fn difference(alloc: Global, from: &Value, to: &Value) -> Result<String, Failure>
+    requires from { IsDocument (view from.now) }
+    requires to { IsDocument (view to.now) }
+    requires shallow { depth (view to.now) ≤ 124 }
+    ensures text { IfOk result (λ s. (w : Data) × IsPatchValue (view from.now) (view to.now) w
+        × IsTextOf 126 w (string_bytes s)) }
+    ensures failure { IfErr result (λ failure. failure ≡ Memory) }
+{
+    laws::values();
+    laws::limits();
+    let patch = diff(alloc, from, to)?;
+    text_of(alloc, &patch.to_value(alloc)?)
+}
+
+/// The text of the patch that leads from the document of one text to that of another.
+#[tactic(auto, using(crate::proofs::Differences::failure_between))]
+pub(crate) fn differing(
+    alloc: Global,
+    from: &[u8],
+    to: &[u8],
+    limits: Limits,
+) -> Result<String, Failure>
+    requires { limits.depth ≤ 124 }
+    ensures text { IfOk result (λ s. (w : Data) × LeadsBetween limits.depth from.now to.now w
+        × IsTextOf 126 w (string_bytes s)) }
+    ensures failure { IfErr result (IsFailure (of_diff limits from.now to.now)) }
+{
+    let from = document_of(alloc, from, limits)?;
+    let to = second_document_of(alloc, to, limits)?;
+    difference(alloc, &from, &to)
 }

@@ -8,7 +8,8 @@ ghost use Rattle.json_patch.specs.Operation.{Operation, operations_of};
 ghost use Rattle.json_patch.specs.PatchValue.{written_patch};
 ghost use Rattle.json_patch.specs.Run.{IsAccepted};
 ghost use Rattle.json_patch_c.specs.Bounds.{the_limits, within_most};
-ghost use Rattle.json_patch_c.specs.Reasons.{of_memory, of_open, of_update, of_update_merged};
+ghost use Rattle.json_patch_c.specs.Differences.{LeadsToText};
+ghost use Rattle.json_patch_c.specs.Reasons.{of_diff_to, of_memory, of_open, of_update, of_update_merged};
 ghost use Rattle.json_patch_c.specs.Reports.{IsTold, IsWritten, Tells};
 ghost use Rattle.json_patch_c.specs.States.{document_in, limits_in, undo_in};
 ghost use Rattle.json_patch_c.specs.Texts.{IsShallowText};
@@ -290,6 +291,35 @@ pub extern "C" fn json_patch_inverse(
         return tell(6, 0, 0, report);
     };
     let made = kept.inverse_text(alloc);
+    document.put(kept);
+    answer(made, out, report)
+}
+
+/// Writes the patch that leads from the document to that of a text, and leaves the document.
+#[tactic(auto, using(crate::proofs::Answered::written, crate::proofs::Answered::told))]
+#[unsafe(no_mangle)]
+pub extern "C" fn json_patch_diff_to(
+    alloc: Global,
+    document: &mut Document,
+    text: &[u8],
+    out: &mut [u8],
+    report: &mut Report,
+) -> u8
+    // 0, 5: the text is in `out`, or that is shorter.
+    ensures written { IfSome document.old.held (λ k. IsWritten 126
+        (LeadsToText k.limits.depth (view k.document) text.now) result out.old out.new report.new) }
+    // 3, 4: the text says no document, or memory ran out. 6: no document is open.
+    ensures told { IfSome document.old.held
+        (λ k. IsTold (of_diff_to k.limits text.now) result out.old out.new report.new) }
+    ensures closed { (result ≡ 6) ↔ (document.old.held ≡ None) }
+    ensures closed_told { result ≡ 6 → Tells 0 0 0 report.new × (out.new ≡ out.old) }
+    ensures status { (result ≤ 6) ⊎ (result ≡ 9) }
+    ensures document { document.new.held ≡ document.old.held }
+{
+    let Some(kept) = document.take(alloc) else {
+        return tell(6, 0, 0, report);
+    };
+    let made = kept.diff_to(alloc, text);
     document.put(kept);
     answer(made, out, report)
 }

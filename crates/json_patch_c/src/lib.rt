@@ -9,7 +9,8 @@
 ghost use Rattle.std.specs.Prelude.{◌≡◌, ◌≤◌, ◌⊎◌, [], List};
 ghost use Rattle.json_patch.specs.Operation.{Operation};
 ghost use Rattle.json_patch_c.specs.Bounds.{the_limits, within_most};
-ghost use Rattle.json_patch_c.specs.Reasons.{of_apply, of_check, of_merge};
+ghost use Rattle.json_patch_c.specs.Differences.{LeadsBetween};
+ghost use Rattle.json_patch_c.specs.Reasons.{of_apply, of_check, of_diff, of_merge};
 ghost use Rattle.json_patch_c.specs.Reports.{IsTold, IsWritten, Tells};
 ghost use Rattle.json_patch_c.specs.Texts.{IsPatchText, Makes, MakesBoth, Merges};
 
@@ -165,6 +166,54 @@ pub extern "C" fn json_patch_merge_within(
 {
     answer(
         calls::merged(alloc, document, patch, within_most(limits)),
+        out,
+        report,
+    )
+}
+
+/// Writes the patch that leads from one document to another (RFC 6902): applied to the one, within
+/// the same limits, it leaves the other.
+#[tactic(auto, using(crate::proofs::Answered::written, crate::proofs::Answered::told))]
+#[unsafe(no_mangle)]
+pub extern "C" fn json_patch_diff(
+    alloc: Global,
+    from: &[u8],
+    to: &[u8],
+    out: &mut [u8],
+    report: &mut Report,
+) -> u8
+    ensures written { IsWritten 126 (LeadsBetween the_limits.depth from.now to.now) result out.old
+        out.new report.new }
+    // 2, 4: `from` says no document, or memory ran out. 3: `to` says none.
+    ensures told { IsTold (of_diff the_limits from.now to.now) result out.old out.new report.new }
+    ensures status { (result ≤ 5) ⊎ (result ≡ 9) }
+{
+    answer(
+        calls::differing(alloc, from, to, default_limits()),
+        out,
+        report,
+    )
+}
+
+/// The same within the limit on levels that the caller names, of at most 124.
+#[tactic(auto, using(crate::proofs::Answered::written, crate::proofs::Answered::told))]
+#[unsafe(no_mangle)]
+pub extern "C" fn json_patch_diff_within(
+    alloc: Global,
+    from: &[u8],
+    to: &[u8],
+    limits: &Limits,
+    out: &mut [u8],
+    report: &mut Report,
+) -> u8
+    ensures written { IsWritten 126 (LeadsBetween (within_most limits.now).depth from.now to.now) result
+        out.old out.new report.new }
+    ensures told { IsTold (of_diff (within_most limits.now) from.now to.now) result out.old out.new
+        report.new }
+    ensures status { (result ≤ 5) ⊎ (result ≡ 9) }
+{
+    answer(
+        calls::differing(alloc, from, to, within_most(limits)),
         out,
         report,
     )

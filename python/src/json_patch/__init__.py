@@ -24,6 +24,11 @@ A patch that is recorded returns the patch that leads back:
 >>> record_patch({"a": [1, 2]}, [{"op": "remove", "path": "/a/0"}])
 ({'a': [2]}, JsonPatch([{'op': 'add', 'path': '/a/0', 'value': 1}]))
 
+Of two documents the patch is made that leads from the one to the other:
+
+>>> make_patch({"name": "a", "rows": [1, 2, 3]}, {"name": "a", "rows": [1, 3]})
+JsonPatch([{'op': 'remove', 'path': '/rows/1'}])
+
 A large document that is changed again and again is kept by the library:
 
 >>> with Document({"rows": [1, 2]}) as document:
@@ -68,7 +73,7 @@ from .errors import (
     TooDeep,
 )
 from .limits import Limits
-from .patch import JsonPatch, apply_patch, merge_patch, record_patch
+from .patch import JsonPatch, apply_patch, make_patch, merge_patch, record_patch
 from .pointer import EndOfList, JsonPointer, resolve_pointer, set_pointer
 
 __all__ = [
@@ -88,6 +93,7 @@ __all__ = [
     "TooDeep",
     "__version__",
     "apply_patch",
+    "make_patch",
     "merge_patch",
     "record_patch",
     "resolve_pointer",

@@ -5,7 +5,7 @@ import ctypes
 import json
 from typing import Any, Callable, Optional
 
-from ._library import CLOSED, LIBRARY, NO_DOCUMENT, NO_MEMORY, NO_ROOM, OK, OVER, REFUSED, Report, bounds
+from ._library import CLOSED, LIBRARY, NO_DOCUMENT, NO_MEMORY, NO_PATCH, NO_ROOM, OK, OVER, REFUSED, Report, bounds
 from .errors import KINDS, NOT_A_LIST, JsonPatchException, NumberNotWhole, OverLimit, TooDeep, _LeadsNowhere, _TestsNothing
 from .limits import Limits
 
@@ -62,6 +62,17 @@ def written(call: Callable[..., int], room: int, patch: bytes = b"") -> bytes:
             room = report.size
             continue
         raise fault(status, report, ctypes.string_at(out, report.size).decode(), patch)
+
+
+def difference(call: Callable[..., int], to: bytes) -> bytes:
+    """The text of the patch that a call makes to lead to this document's text, which is told as a document:
+    it is no longer than the replacement of the whole."""
+
+    def told(*out: Any) -> int:
+        status = call(*out)
+        return NO_DOCUMENT if status == NO_PATCH else status
+
+    return written(told, len(to) + 64)
 
 
 def succeed(call: Callable[..., int], *arguments: Any) -> None:

@@ -20,7 +20,7 @@ from .limits import MOST_COPIED, MOST_LEVELS, Limits
 REFUSED, UNREADABLE, NO_MEMORY, UNWRITABLE, USAGE = 1, 2, 3, 4, 64
 
 _EPILOG = """\
-DOCUMENT and PATCH are names of files, or - for standard input. The result goes to standard output, as
+DOCUMENT, PATCH, FROM and TO are names of files, or - for standard input. The result goes to standard output, as
 one line of compact JSON in UTF-8, or indented; with --in-place it takes the place of DOCUMENT, by a new
 file that is written beside it and renamed over it, so that DOCUMENT has the old content or the new one
 whenever the command is stopped.
@@ -28,7 +28,7 @@ whenever the command is stopped.
 exit status:
   0   done
   1   the patch is refused or over the limits, or the pointer leads nowhere: nothing is changed
-  2   DOCUMENT, PATCH or POINTER can't be read, isn't one, or nests too deep
+  2   DOCUMENT, PATCH, FROM, TO or POINTER can't be read, isn't one, or nests too deep
   3   out of memory
   4   the output can't be written
   64  the command line is none of those above
@@ -78,6 +78,11 @@ def _parser() -> argparse.ArgumentParser:
         changing.add_argument("-b", "--backup", action="store_true", help="with -i, keep the old one as DOCUMENT.orig")
         _add_output(changing)
         _add_limits(changing)
+    differing = command("diff", "write the patch that leads from a document to another, [] where they are equal")
+    differing.add_argument("document", metavar="FROM", help="the file of the document that the patch is for, or -")
+    differing.add_argument("goal", metavar="TO", nargs="?", default="-", help="the file of the one to which it leads, or -")
+    _add_output(differing)
+    _add_levels(differing)
     getting = command("get", "write what stands where a pointer leads in a document")
     getting.add_argument("document", metavar="DOCUMENT", help="the document's file, or -")
     getting.add_argument("pointer", metavar="POINTER", help="a JSON pointer (RFC 6901), such as /rows/0")
@@ -92,9 +97,13 @@ def _add_output(parser: argparse.ArgumentParser) -> None:
     parser.add_argument("-u", "--preserve-unicode", action="store_true", help="as it always is: no character is escaped")
 
 
-def _add_limits(parser: argparse.ArgumentParser) -> None:
+def _add_levels(parser: argparse.ArgumentParser) -> None:
     levels = f"refuse what nests deeper than N levels (at most {MOST_LEVELS}, which it is without this)"
     parser.add_argument("--limit-depth", type=_levels, metavar="N", default=MOST_LEVELS, help=levels)
+
+
+def _add_limits(parser: argparse.ArgumentParser) -> None:
+    _add_levels(parser)
     copies = f"refuse a patch that copies more than N values and bytes of text ({MOST_COPIED})"
     parser.add_argument("--limit-copies", type=_copies, metavar="N", default=MOST_COPIED, help=copies)
 
@@ -216,6 +225,14 @@ def _record(asked: argparse.Namespace) -> None:
         _put(kept, asked)
 
 
+def _diff(asked: argparse.Namespace) -> None:
+    with _opened(asked) as kept:
+        text = _read(asked.goal)
+        with _at_fault(asked.goal):
+            made = kept._diff_text(text)
+        _show(_as_asked(made, asked))
+
+
 def _get(asked: argparse.Namespace) -> None:
     with _opened(asked) as kept:
         with _at_fault(asked.document):
@@ -233,6 +250,7 @@ _COMMANDS: Dict[str, Callable[[argparse.Namespace], None]] = {
     "apply": _apply,
     "merge": _merge,
     "record": _record,
+    "diff": _diff,
     "get": _get,
     "check": _check,
 }
@@ -248,6 +266,8 @@ def _why_none(asked: argparse.Namespace) -> Optional[str]:
     has = vars(asked)
     if has.get("document") == _files.STANDARD and has.get("patch") == _files.STANDARD:
         return "DOCUMENT and PATCH can't both be standard input"
+    if has.get("document") == _files.STANDARD and has.get("goal") == _files.STANDARD:
+        return "FROM and TO can't both be standard input"
     if has.get("in_place") and asked.document == _files.STANDARD:
         return "--in-place needs a file for DOCUMENT"
     if has.get("backup") and not asked.in_place:

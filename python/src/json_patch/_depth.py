@@ -1,35 +1,38 @@
 """How objects nest. What is handed in may nest without end, so that nothing here goes by recursion."""
 from __future__ import annotations
 
-from itertools import chain
 from typing import Any, Iterable, List, Set
 
 # how many levels of a text the library reads
 _MOST_READ = 127
 _LEAVES = frozenset((str, int, float, bool, type(None)))
 _CONTAINERS = (dict, list, tuple)
+# so many lists and dicts of one level are looked through sooner than told apart
+_FEW = 100
 
 
 def is_deep(value: object) -> bool:
     """Whether lists and dicts nest deeper than the library reads, as they do where one holds itself.
     Shallower ones the library counts."""
-    held = _containers((value,))
-    for _ in range(_MOST_READ):
+    held: List[Any] = [[value]]
+    for _ in range(_MOST_READ + 1):
+        held = [
+            item
+            for container in held
+            for item in (container.values() if isinstance(container, dict) else container)
+            if type(item) not in _LEAVES and isinstance(item, _CONTAINERS)
+        ]
         if not held:
             return False
-        held = _containers(chain.from_iterable(map(_items, held)))
-    return bool(held)
+        # one may stand at several places, and then would be looked through more often with each level
+        if len(held) > _FEW:
+            held = list({id(item): item for item in held}.values())
+    return True
 
 
 def _items(container: Any) -> Iterable[Any]:
     items: Iterable[Any] = container.values() if isinstance(container, dict) else container
     return items
-
-
-def _containers(values: Iterable[Any]) -> List[Any]:
-    """The lists and dicts among these, each once: one may stand at several places."""
-    found = [value for value in values if type(value) not in _LEAVES and isinstance(value, _CONTAINERS)]
-    return list({id(value): value for value in found}.values())
 
 
 def is_tree(value: object) -> bool:

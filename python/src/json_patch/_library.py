@@ -55,6 +55,7 @@ _CALLS: Dict[str, List[Any]] = {
     "apply_within": [*_TEXT, *_TEXT, *_BOUNDS, *_TEXT],
     "record_within": [*_TEXT, *_TEXT, *_BOUNDS, *_TEXT],
     "merge_within": [*_TEXT, *_TEXT, *_BOUNDS, *_TEXT],
+    "diff_within": [*_TEXT, *_TEXT, *_BOUNDS, *_TEXT],
     "check": _TEXT,
     "open_within": [*_HANDLE, *_TEXT, *_BOUNDS],
     "update": [*_HANDLE, *_TEXT, *_TEXT],
@@ -62,6 +63,7 @@ _CALLS: Dict[str, List[Any]] = {
     "update_merged": [*_HANDLE, *_TEXT],
     "undo": _HANDLE,
     "inverse": [*_HANDLE, *_TEXT],
+    "diff_to": [*_HANDLE, *_TEXT, *_TEXT],
     "text": [*_HANDLE, *_TEXT],
     "text_at": [*_HANDLE, *_TEXT, *_TEXT],
 }

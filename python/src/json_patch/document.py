@@ -6,7 +6,7 @@ import warnings
 from types import TracebackType
 from typing import Any, Callable, Optional, Type, TypeVar, Union
 
-from ._calls import fault, succeed, written
+from ._calls import difference, fault, succeed, written
 from ._library import LIBRARY, NO_POINTER, NOTHING, OK, Handle, Report, bounds
 from ._texts import as_bytes, document_text, merge_patch_text, patch_text, value_of
 from .errors import JsonPointerException, NothingToUndo
@@ -121,6 +121,20 @@ class Document:
     def _merge_text(self, text: bytes) -> None:
         succeed(LIBRARY.json_patch_update_merged, self._handle, text, len(text))
         self._handle.is_recorded = False
+
+    def diff(self, other: Any) -> JsonPatch:
+        """The JsonPatch that leads from the document to another, which is any object, or a Document. Neither is
+        changed, and the other has at most the levels of this one's limits.
+
+        >>> with Document({"rows": ["x", "y"]}) as document:
+        ...     document.diff({"rows": ["x"]})
+        JsonPatch([{'op': 'remove', 'path': '/rows/1'}])
+        """
+        text = other.to_string().encode() if isinstance(other, Document) else document_text(other)
+        return JsonPatch._of_library(value_of(self._diff_text(text)))
+
+    def _diff_text(self, text: bytes) -> bytes:
+        return difference(lambda *out: LIBRARY.json_patch_diff_to(self._handle, text, len(text), *out), text)
 
     def get(self, pointer: str = "") -> Any:
         """What stands where a JSON pointer leads; JsonPointerException, where nothing does."""

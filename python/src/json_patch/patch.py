@@ -2,20 +2,23 @@
 from __future__ import annotations
 
 import json
-from typing import Any, Callable, Iterator, List, Mapping, Optional, Sequence, Tuple, Union
+from typing import Any, Callable, Iterator, List, Mapping, Optional, Sequence, Tuple, Type, TypeVar, Union
 
-from ._calls import called, expect_patch
+from ._calls import called, difference, expect_patch
 from ._in_place import changed
 from ._depth import shown
-from ._library import LIBRARY
+from ._library import LIBRARY, bounds
 from ._texts import (
     as_bytes, by_callers_code, document_text, expect_patch_depth, merge_patch_text, patch_text, pointer_path, value_of,
 )
 from .limits import DEFAULT, Limits
+from .pointer import JsonPointer
 
 Operation = Mapping[str, Any]
 # what is read as a patch: operations, a JSON text, or a JsonPatch
 Patch = Union["JsonPatch", str, bytes, Sequence[Operation]]
+
+_Made = TypeVar("_Made", bound="JsonPatch")
 
 
 class JsonPatch:
@@ -41,6 +44,24 @@ class JsonPatch:
         with by_callers_code():
             operations = (loads or cls.json_loader)(patch_str)
         return cls(operations)
+
+    @classmethod
+    def from_diff(
+        cls: Type[_Made], src: Any, dst: Any, optimization: bool = True, dumps: Optional[Callable[[Any], str]] = None,
+        pointer_cls: Type[JsonPointer] = JsonPointer, *, limits: Limits = DEFAULT,
+    ) -> _Made:
+        """The patch that leads from one document to another: applied to the one, within the same limits, it
+        leaves the other. It adds, removes and replaces alone, its text is no longer than that of the one
+        operation that replaces the whole, and it has no operation exactly where the documents are equal.
+        Both have at most the levels of the limits. The library compares and writes the paths:
+        `optimization`, `dumps` and `pointer_cls` change nothing.
+
+        >>> JsonPatch.from_diff({"a": [1, 2], "b": "long enough"}, {"a": [2], "b": "long enough"})
+        JsonPatch([{'op': 'remove', 'path': '/a/0'}])
+        """
+        texts = document_text(src), document_text(dst)
+        given = texts[0], len(texts[0]), texts[1], len(texts[1]), bounds(limits)
+        return cls(value_of(difference(lambda *out: LIBRARY.json_patch_diff_within(*given, *out), texts[1])))
 
     @staticmethod
     def json_loader(patch_str: Union[str, bytes]) -> Any:
@@ -133,6 +154,18 @@ def apply_patch(doc: Any, patch: Patch, in_place: bool = False, *, limits: Limit
 def record_patch(doc: Any, patch: Patch, *, limits: Limits = DEFAULT) -> Tuple[Any, JsonPatch]:
     """What a patch leaves of a document, and the JsonPatch that leads back, within limits."""
     return _as_patch(patch).record(doc, limits=limits)
+
+
+def make_patch(src: Any, dst: Any, pointer_cls: Type[JsonPointer] = JsonPointer, *, limits: Limits = DEFAULT) -> JsonPatch:
+    """The JsonPatch that leads from one document to another, as JsonPatch.from_diff makes it.
+
+    >>> src, dst = {"a": 1, "rows": ["x", "y"]}, {"a": 1, "rows": ["x", "z", "y"]}
+    >>> make_patch(src, dst)
+    JsonPatch([{'op': 'add', 'path': '/rows/1', 'value': 'z'}])
+    >>> make_patch(src, dst).apply(src) == dst
+    True
+    """
+    return JsonPatch.from_diff(src, dst, pointer_cls=pointer_cls, limits=limits)
 
 
 def merge_patch(doc: Any, patch: Any, *, limits: Limits = DEFAULT) -> Any:

@@ -1,17 +1,19 @@
 //! A document that is kept, changed and looked at by texts.
 
 ghost use Rattle.std.specs.Prelude.{◌≡◌, ◌≤◌, ◌↔◌, [], IfErr, IfOk, Ok, OnErr, OnOk, string_bytes, true, false};
+ghost use Rattle.serde_json.specs.Data.{Data};
 ghost use Rattle.serde_json.specs.View.{view};
 ghost use Rattle.json_patch.specs.Operation.{operations_of};
 ghost use Rattle.json_patch.specs.PatchValue.{written_patch};
 ghost use Rattle.json_patch.specs.Run.{IsAccepted};
+ghost use Rattle.json_patch_c.specs.Differences.{LeadsToText};
 ghost use Rattle.json_patch_c.specs.Failures.{IsFailure, IsTextOf};
 ghost use Rattle.json_patch_c.specs.Found.{IsLookup};
-ghost use Rattle.json_patch_c.specs.Reasons.{of_memory, of_open, of_update, of_update_merged};
+ghost use Rattle.json_patch_c.specs.Reasons.{of_diff_to, of_memory, of_open, of_update, of_update_merged};
 ghost use Rattle.json_patch_c.specs.Texts.{IsShallowText};
 ghost use Rattle.json_patch_c.specs.Updates.{MergesTo, RecordsTo, UpdatesTo};
 
-use crate::calls::{document_of, merge_patch_of, patch_of, text_of};
+use crate::calls::{difference, document_of, patch_of, second_document_of, text_of};
 use crate::failure::Failure;
 use crate::kept::Kept;
 use json_patch::jsonptr::Pointer;
@@ -127,7 +129,7 @@ impl Kept {
         ensures inverse_kept { OnErr result (self.new.inverse ≡ self.old.inverse) }
     {
         laws::limits();
-        let changes = merge_patch_of(alloc, changes, self.limits)?;
+        let changes = second_document_of(alloc, changes, self.limits)?;
         merge(alloc, &mut self.document, &changes)?;
         self.inverse = Patch::new(alloc);
         Ok(())
@@ -150,6 +152,18 @@ impl Kept {
         laws::values();
         laws::limits();
         text_of(alloc, &self.inverse.to_value(alloc)?)
+    }
+
+    /// The text of the patch that leads from the document to that of a text.
+    #[tactic(auto, using(crate::proofs::Differences::leads_to_text))]
+    pub(crate) fn diff_to(&self, alloc: Global, text: &[u8]) -> Result<String, Failure>
+        ensures text { IfOk result (λ s. (w : Data)
+            × LeadsToText self.now.limits.depth (view self.now.document) text.now w
+            × IsTextOf 126 w (string_bytes s)) }
+        ensures failure { IfErr result (IsFailure (of_diff_to self.now.limits text.now)) }
+    {
+        let to = second_document_of(alloc, text, self.limits)?;
+        difference(alloc, &self.document, &to)
     }
 
     /// The text of what stands where a pointer leads.

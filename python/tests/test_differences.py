@@ -1,0 +1,190 @@
+"""The patch that leads from one document to another: what it says of documents that were worked by hand,
+and that it answers what a stranger may hand in, here and on a thread with little stack."""
+import json
+import random
+import unittest
+
+from json_patch import (
+    Document, InvalidJsonPatch, JsonPatch, JsonPatchException, JsonPointer, Limits, NumberNotWhole, TooDeep, apply_patch, make_patch,
+)
+from support import NOT_WHOLE, ROWS, holding_itself, nested, on_another_thread, on_each_stack
+
+STAYS = "a text that is long enough to stay"
+
+
+def beside(levels, innermost):
+    """So many dicts in one another, each with a text beside the next."""
+    made = innermost
+    for _ in range(levels):
+        made = {"a": made, "b": STAYS * 3}
+    return made
+
+
+def text_of(document):
+    """By which documents are told apart: for Python True is 1."""
+    return json.dumps(document, sort_keys=True)
+
+
+class Differences(unittest.TestCase):
+    def assertLeads(self, src, dst):
+        """Each call makes the same patch, and it leads there. What it is made of stays."""
+        held = json.dumps([src, dst])
+        patch = make_patch(src, dst)
+        self.assertEqual(JsonPatch.from_diff(src, dst), patch)
+        self.assertEqual(text_of(patch.apply(src)), text_of(dst))
+        self.assertEqual(bool(patch), text_of(src) != text_of(dst))
+        with Document(src) as kept, Document(dst) as goal:
+            self.assertEqual(kept.diff(dst), patch)
+            self.assertEqual(kept.diff(goal), patch)
+            kept.apply(patch)
+            self.assertEqual((text_of(kept.get()), text_of(goal.get())), (text_of(dst), text_of(dst)))
+            self.assertEqual(list(kept.diff(goal)), [])
+        self.assertEqual(json.dumps([src, dst]), held)
+        return patch
+
+    def test_tables(self):
+        rows = [(src, dst, patch) for call, src, dst, *_, patch in ROWS if call == "diff"]
+        self.assertGreater(len(rows), 20)
+        for src, dst, patch in rows:
+            with self.subTest(src=src, dst=dst):
+                self.assertEqual(list(self.assertLeads(json.loads(src), json.loads(dst))), json.loads(patch))
+
+    def test_make_patch(self):
+        self.assertEqual(list(self.assertLeads([1, 2, 3], [1, 3])), [{"op": "remove", "path": "/1"}])
+        self.assertEqual(list(self.assertLeads({"a/~": 1, "b": STAYS}, {"a/~": True, "b": STAYS})), [{"op": "replace", "path": "/a~1~0", "value": True}])
+        self.assertEqual(list(self.assertLeads({}, {"b": 1, "a": {"c": None}})), [{"op": "replace", "path": "", "value": {"b": 1, "a": {"c": None}}}])
+        self.assertEqual(list(self.assertLeads({"é": [0]}, {"é": [0]})), [])
+
+    def test_parameters(self):
+        """The library compares, and writes the paths, whatever the functions of the caller."""
+        def unasked(*_):
+            raise AssertionError
+
+        wanted = make_patch([0, STAYS], [1, STAYS])
+        self.assertEqual(JsonPatch.from_diff([0, STAYS], [1, STAYS], False, unasked, unasked), wanted)
+        self.assertEqual(JsonPatch.from_diff([0, STAYS], [1, STAYS], optimization=True, dumps=unasked, pointer_cls=JsonPointer), wanted)
+        self.assertEqual(make_patch([0, STAYS], [1, STAYS], pointer_cls=unasked), wanted)
+
+    def test_subclasses(self):
+        class Own(JsonPatch):
+            def __init__(self, patch):
+                super().__init__(patch)
+                self.seen = len(self.patch)
+
+        made = Own.from_diff([1, STAYS], [2, STAYS])
+        self.assertEqual((type(made), made.seen), (Own, 1))
+
+    def test_random_documents(self):
+        chance = random.Random(6902)
+
+        def value(levels):
+            kind = chance.randrange(9 if levels else 6)
+            if kind < 6:
+                return (None, True, False, chance.randrange(-3, 4), chance.choice(["", "a", "é~/", STAYS]), 2**64 - 1)[kind]
+            if kind == 6:
+                return {chance.choice(["", "a", "b", "c/", "~", "é", "-", "0"]): value(levels - 1) for _ in range(chance.randrange(5))}
+            return [value(levels - 1) for _ in range(chance.randrange(6))]
+
+        def changed(old, levels):
+            if chance.random() < 0.3:
+                return value(levels)
+            if isinstance(old, list):
+                items = [changed(item, levels - 1) for item in old if chance.random() < 0.8]
+                return [*items, value(0)] if chance.random() < 0.3 else items
+            if isinstance(old, dict):
+                return {name: changed(member, levels - 1) for name, member in old.items() if chance.random() < 0.8}
+            return old
+
+        several = 0
+        for _ in range(2_000):
+            src = [{"k": value(4), "stays": STAYS * 9}, value(4), STAYS * 9]
+            several += len(self.assertLeads(src, changed(src, 5))) > 1
+        self.assertGreater(several, 100)
+
+    def test_hostile_pairs(self):
+        many = 600
+        lists = (
+            [], list(range(many)), list(range(1, many)), list(range(many, 0, -1)), [7] * many, [7] * (many + 1), [0, 1] * (many // 2),
+            [1, 0] * (many // 2), [[number] for number in range(many)], [{"a": number} for number in range(many)],
+        )
+        for src in lists:
+            for dst in lists:
+                self.assertLeads(src, dst)
+        # more pairs of items than are each looked at
+        longest = list(range(50_000))
+        for src, dst in ((longest, longest[1:]), (longest[:-1], longest), (longest, longest[::-1]), (lists[4], longest), (longest, longest)):
+            self.assertLeads(src, dst)
+        objects = ({}, {f"m{number}": number for number in range(many)}, {f"m{number}": number + 1 for number in range(7, many + 7)}, {"m7": lists[1]})
+        for src in objects:
+            for dst in objects:
+                self.assertLeads(src, dst)
+
+    def test_deep_pairs(self):
+        pairs = [(beside(levels, 0), beside(levels, 1), nested(levels), levels) for levels in (1, 60, 123, 124)]
+
+        def each():
+            for src, dst, deep, levels in pairs:
+                patch = self.assertLeads(src, dst)
+                self.assertEqual(list(patch), [{"op": "replace", "path": "/a" * levels, "value": 1}])
+                self.assertEqual(make_patch(src, dst, limits=Limits(depth=levels)), patch)
+                self.assertEqual(patch.apply(src, limits=Limits(depth=levels)), dst)
+                self.assertLeads(deep, src)
+                self.assertLeads(0, deep)
+                for one, other in ((src, dst), (src, 0), (0, dst)):
+                    with self.assertRaises(TooDeep):
+                        make_patch(one, other, limits=Limits(depth=levels - 1))
+
+        on_each_stack(each)
+
+    def test_too_deep(self):
+        objects = (nested(125), nested(127), nested(128), nested(1_000), nested(100_000), holding_itself(), {"a": [nested(125)]})
+
+        def refused():
+            for deep in objects:
+                with Document({}) as kept:
+                    for call in (lambda: make_patch(deep, {}), lambda: make_patch({}, deep), lambda: JsonPatch.from_diff(deep, deep), lambda: kept.diff(deep)):
+                        with self.assertRaises(TooDeep) as caught:
+                            call()
+                        self.assertNotIsInstance(caught.exception, InvalidJsonPatch)
+                    self.assertEqual(kept.get(), {})
+
+        on_each_stack(refused)
+
+    def test_limits_of_a_document(self):
+        with Document([1], limits=Limits(depth=2)) as kept:
+            self.assertEqual(list(kept.diff([[2], STAYS])), [{"op": "replace", "path": "", "value": [[2], STAYS]}])
+            with self.assertRaises(TooDeep):
+                kept.diff([[[]]])
+            self.assertEqual(kept.get(), [1])
+
+    def test_refused(self):
+        """A document is refused as one, whichever of the two it is."""
+        for number in NOT_WHOLE:
+            for call in (lambda: make_patch(number, 1), lambda: make_patch({}, [number]), lambda: Document({}).diff(number)):
+                with self.assertRaises(NumberNotWhole) as caught:
+                    call()
+                self.assertNotIsInstance(caught.exception, InvalidJsonPatch)
+                self.assertEqual(str(caught.exception), "document: NotWhole")
+        for text in ("\ud800", 10**400):
+            for call in (lambda: make_patch(text, 1), lambda: make_patch({}, [text]), lambda: Document({}).diff(text)):
+                with self.assertRaises(JsonPatchException) as caught:
+                    call()
+                self.assertNotIsInstance(caught.exception, InvalidJsonPatch)
+                self.assertEqual(caught.exception.kind, "NotJson")
+
+    def test_closed_and_threads(self):
+        with Document([1]) as kept, Document([2]) as goal:
+            self.assertIsInstance(on_another_thread(lambda: kept.diff([])), RuntimeError)
+            self.assertIsInstance(on_another_thread(lambda: Document([]).diff(goal)), RuntimeError)
+        for call in (lambda: kept.diff([]), lambda: Document([]).diff(goal)):
+            with self.assertRaises(ValueError):
+                call()
+
+    def test_texts(self):
+        """A text is a document as any object is, and not the text of one."""
+        self.assertEqual(list(self.assertLeads("[]", "[1]")), [{"op": "replace", "path": "", "value": "[1]"}])
+        self.assertEqual(apply_patch("[]", make_patch("[]", "[1]")), "[1]")
+
+
+if __name__ == "__main__":
+    unittest.main()
