@@ -16,6 +16,8 @@ KINDS = {"library": "#dbe9f6", "program": "#e3f1dc", "test": "#f6ead4", "fault":
 # what stands under a crate's name, and what it is
 CAPTIONS = {
     "jsonptr": ("pointers: strings, tokens, indexes", "library"),
+    "json_number": ("numbers compared exactly", "library"),
+    "json_text": ("one place of a text, read or replaced", "library"),
     "json_patch_document": ("what a document is, equality", "library"),
     "json_patch_operation": ("operations: read, written, printed", "library"),
     "json_patch_edit": ("one edit, and what undoes it", "library"),

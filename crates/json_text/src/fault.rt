@@ -1,0 +1,57 @@
+//! Why a text isn't read.
+
+ghost use Rattle.std.specs.Prelude.{◌≡◌};
+
+use std::alloc::AllocError;
+use thiserror::Error;
+
+/// Why a text isn't read.
+#[derive(Debug, Drop, Error)]
+pub enum TextFault {
+    /// The text is not JSON (RFC 8259).
+    #[error("the text is not JSON")]
+    NotJson,
+    /// More than 128 objects and arrays are open at once. Whether the text is JSON isn't told.
+    #[error("the text nests deeper than 128 levels")]
+    TooDeep,
+    /// No memory was found.
+    #[error("out of memory")]
+    Memory(AllocError),
+}
+
+impl From<AllocError> for TextFault {
+    ghost use Rattle.json_text.specs.declared.fault.TextFault.TheVariants.{Memory};
+
+    ghost from_gives = { λ error fault. fault ≡ Memory error };
+
+    fn from(error: AllocError) -> TextFault {
+        TextFault::Memory(error)
+    }
+}
+
+/// Why no value of a text is replaced.
+#[derive(Debug, Drop, Error)]
+pub enum ReplaceFault {
+    /// The text isn't read.
+    #[error("{0}")]
+    Text(TextFault),
+    /// The value's text isn't read.
+    #[error("the value: {0}")]
+    Value(TextFault),
+    /// Nothing stands where the pointer leads.
+    #[error("nothing stands there")]
+    NoTarget,
+    /// No memory was found.
+    #[error("out of memory")]
+    Memory(AllocError),
+}
+
+impl From<AllocError> for ReplaceFault {
+    ghost use Rattle.json_text.specs.declared.fault.ReplaceFault.TheVariants.{Memory};
+
+    ghost from_gives = { λ error fault. fault ≡ Memory error };
+
+    fn from(error: AllocError) -> ReplaceFault {
+        ReplaceFault::Memory(error)
+    }
+}

@@ -1,0 +1,83 @@
+//! The text of a value within a JSON text.
+
+ghost use Rattle.std.specs.Prelude.{◌≡◌, ◌-◌, None, IfOk, IfErr, IfSome, OnOk, MatchOption, drop, take};
+ghost use Rattle.json.specs.Json.{Json};
+ghost use Rattle.jsonptr.specs.Pointers.{tokens_of};
+ghost use Rattle.json_text.specs.Faults.{IsTextFault};
+ghost use Rattle.json_text.specs.Found.{IsWithin};
+ghost use Rattle.json_text.specs.Pointed.{tree_at, IsWrittenAt, StandsBetween};
+ghost use Rattle.json_text.specs.Spelled.{IsShallowText, Says};
+
+use crate::TextFault;
+use crate::children::{child, whole};
+use crate::lexemes::is_deeper;
+use crate::span::Span;
+use json::{MAX_DEPTH, Scratch, is_valid};
+use jsonptr::Pointer;
+use std::alloc::{AllocError, Global};
+
+/// That the text is JSON.
+pub(crate) fn check(alloc: Global, text: &str) -> Result<(), TextFault>
+    ensures shallow { OnOk result ((j : Json) × IsShallowText text.now j) }
+    ensures fault { IfErr result (IsTextFault text.now) }
+{
+    let mut scratch = Scratch::new(alloc);
+    if is_valid(text, &mut scratch)? {
+        return Ok(());
+    }
+    if is_deeper(text.as_bytes(), MAX_DEPTH) {
+        Err(TextFault::TooDeep)
+    } else {
+        Err(TextFault::NotJson)
+    }
+}
+
+/// Where the stretch stands to which the pointer leads, in a text that is JSON.
+pub(crate) fn find(alloc: Global, text: &str, pointer: Pointer) -> Result<Option<Span>, AllocError>
+    ensures found { IfOk result (λ found. (j : Json) → Says text.now j
+        → MatchOption found (tree_at (tokens_of pointer.entry) j ≡ None)
+        (λ s. StandsBetween (take s.start text.now)
+        (take (s.end - s.start) (drop s.start text.now)) (drop s.end text.now) j
+        (tokens_of pointer.entry))) }
+    ensures within { IfOk result (λ found. IfSome found (IsWithin text.now)) }
+{
+    let mut place = whole(text.as_bytes());
+    let mut name = String::new(alloc);
+    for token in pointer.tokens() {
+        token.decode_into(&mut name)?;
+        let here = &text[place.start..place.end];
+        let Some(inner) = child(here.as_bytes(), name.as_str()) else {
+            return Ok(None);
+        };
+        place = inner.within(place.start);
+    }
+    Ok(Some(place))
+}
+
+/// The text of the value where the pointer leads (RFC 6901, section 4), as it stands in `text`, with
+/// none of the blanks around it; `None` where nothing stands there.
+///
+/// Names are compared with their escapes read. Of several members of one name the last is meant. The
+/// token `-` names nothing that stands.
+///
+/// ```rust
+/// let text = r#"{"name": "x", "list": [1.50, "\u0041"] }"#;
+/// let list = value_text(alloc, text, place)?;
+/// // [1.50, "\u0041"]
+/// ```
+pub fn value_text<'a>(
+    alloc: Global,
+    text: &'a str,
+    pointer: Pointer,
+) -> Result<Option<&'a str>, TextFault>
+    ensures value { IfOk result (λ found. (j : Json) × IsShallowText text.now j
+        × MatchOption found (tree_at (tokens_of pointer.entry) j ≡ None)
+        (λ s. IsWrittenAt text.now j (tokens_of pointer.entry) s.now)) }
+    ensures fault { IfErr result (IsTextFault text.now) }
+{
+    check(alloc, text)?;
+    let Some(place) = find(alloc, text, pointer)? else {
+        return Ok(None);
+    };
+    Ok(Some(&text[place.start..place.end]))
+}

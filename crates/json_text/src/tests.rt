@@ -1,0 +1,164 @@
+//! What stands at places of a text.
+
+ghost use Rattle.std.specs.Prelude.{IfOk, IsTrue};
+ghost use Rattle.json.specs.Json.{Json};
+ghost use Rattle.jsonptr.specs.Pointers.{tokens_of};
+ghost use Rattle.json_text.specs.Pointed.{IsWrittenAt};
+ghost use Rattle.json_text.specs.Spelled.{Says};
+
+use crate::{ReplaceFault, TextFault, replace, value_text};
+use jsonptr::Pointer;
+use std::alloc::Global;
+use std::test::Fail;
+
+fn found<'a>(alloc: Global, text: &'a str, place: &str) -> Option<&'a str> {
+    let pointer = Pointer::parse(place).ok()?;
+    value_text(alloc, text, pointer).ok()?
+}
+
+fn stands_nothing(alloc: Global, text: &str, place: &str) -> bool {
+    let Ok(pointer) = Pointer::parse(place) else {
+        return false;
+    };
+    matches!(value_text(alloc, text, pointer), Ok(None))
+}
+
+/// As many lists, each in the one before.
+fn lists(alloc: Global, levels: usize) -> Result<String, Fail> {
+    let mut text = String::new(alloc);
+    for _ in 0..levels {
+        text.push('[')?;
+    }
+    for _ in 0..levels {
+        text.push(']')?;
+    }
+    Ok(text)
+}
+
+/// Whether the value at a place is written exactly so.
+fn is_written(alloc: Global, text: &str, place: Pointer, written: &str) -> Result<bool, TextFault>
+    ensures { IfOk result (λ same. IsTrue same → (j : Json) × Says text.now j
+        × IsWrittenAt text.now j (tokens_of place.entry) written.now) }
+{
+    match value_text(alloc, text, place)? {
+        Some(there) => Ok(there == written),
+        None => Ok(false),
+    }
+}
+
+#[test]
+fn places(rt: HostRuntime) -> Result<(), Fail> {
+    let a = rt.alloc();
+    let text =
+        "\n{\"a\" : 1, \"\\u0061\": {\"\\ud83d\\ude00/\\n\": [1, -2.50e+1 ,\"]\\\"\" ]}, \"~\":\ttrue }\n";
+    assert_eq!(rt;
+        found(a, text, "/a/\u{1f600}~1\n"),
+        Some("[1, -2.50e+1 ,\"]\\\"\" ]")
+    );
+    assert_eq!(rt; found(a, text, "/a/\u{1f600}~1\n/1"), Some("-2.50e+1"));
+    assert_eq!(rt; found(a, text, "/a/\u{1f600}~1\n/2"), Some("\"]\\\"\""));
+    assert_eq!(rt; found(a, text, "/~0"), Some("true"));
+    assert_eq!(rt; found(a, " 7 ", ""), Some("7"));
+    Ok(())
+}
+
+#[test]
+fn nothing_there(rt: HostRuntime) -> Result<(), Fail> {
+    let a = rt.alloc();
+    for place in ["/-", "/2", "/01", "/18446744073709551616", "/0/0", "/a"] {
+        assert!(rt; stands_nothing(a, "[5,{\"b\":6}]", place), "{place}");
+    }
+    for place in ["/0", "/b", "/c/e", "/c/d/0"] {
+        assert!(rt;
+            stands_nothing(a, "{\"a\":5,\"c\":{\"d\":\"e\"}}", place),
+            "{place}"
+        );
+    }
+    Ok(())
+}
+
+#[test]
+fn faults(rt: HostRuntime) -> Result<(), Fail> {
+    let a = rt.alloc();
+    for text in [
+        "",
+        "{\"a\":01}",
+        "[1,]",
+        "{\"a\" 1}",
+        "\"\\ud83d\"",
+        "[1] 2",
+        "[}",
+    ] {
+        let read = value_text(a, text, Pointer::root());
+        assert!(rt; matches!(read, Err(TextFault::NotJson)), "{text}");
+    }
+    let shallow = lists(a, 128)?;
+    let inner = found(a, shallow.as_str(), "/0/0").ok_or("none")?;
+    assert_eq!(rt; inner.len(), 252);
+    for levels in [129, 1_000_000] {
+        let deep = lists(a, levels)?;
+        let read = value_text(a, deep.as_str(), Pointer::root());
+        assert!(rt; matches!(read, Err(TextFault::TooDeep)));
+    }
+    Ok(())
+}
+
+fn list_in(alloc: Global, place: Pointer) -> Result<Option<&'static str>, TextFault> {
+    let text = r#"{"name": "x", "list": [1.50, "\u0041"] }"#;
+    let list = value_text(alloc, text, place)?;
+    Ok(list)
+}
+
+#[test]
+fn example(rt: HostRuntime) -> Result<(), Fail> {
+    let a = rt.alloc();
+    let place = Pointer::parse("/list").map_err(|_| "no pointer")?;
+    let list = list_in(a, place).map_err(|_| "no JSON")?;
+    assert_eq!(rt; list, Some(r#"[1.50, "\u0041"]"#));
+    for (written, same) in [("[2 ]", true), ("[2]", false), ("", false)] {
+        let text = r#"{"list":[2 ] }"#;
+        assert_eq!(rt; is_written(a, text, place, written).ok(), Some(same));
+    }
+    Ok(())
+}
+
+fn second_replaced(alloc: Global, place: Pointer) -> Result<String, ReplaceFault> {
+    let text = r#"{"name": "x", "list": [1.50, 2] }"#;
+    let new = replace(alloc, text, place, "7")?;
+    Ok(new)
+}
+
+fn replaced(alloc: Global, text: &str, place: &str, value: &str) -> Result<String, Fail> {
+    let pointer = Pointer::parse(place).map_err(|_| "no pointer")?;
+    Ok(replace(alloc, text, pointer, value).map_err(|_| "refused")?)
+}
+
+#[test]
+fn replaces(rt: HostRuntime) -> Result<(), Fail> {
+    let a = rt.alloc();
+    let place = Pointer::parse("/list/1").map_err(|_| "no pointer")?;
+    let new = second_replaced(a, place).map_err(|_| "refused")?;
+    assert_eq!(rt; new.as_str(), r#"{"name": "x", "list": [1.50, 7] }"#);
+    let text = "{\n  \"a\": 1.50,\n  \"b\" : [1e400, 2],\n  \"\\u0061\": -0\n}\n";
+    let new = replaced(a, text, "/b/1", " {\"c\": []}\n")?;
+    let wanted = "{\n  \"a\": 1.50,\n  \"b\" : [1e400, {\"c\": []}],\n  \"\\u0061\": -0\n}\n";
+    assert_eq!(rt; new.as_str(), wanted);
+    let new = replaced(a, text, "/a", "3")?;
+    let wanted = "{\n  \"a\": 1.50,\n  \"b\" : [1e400, 2],\n  \"\\u0061\": 3\n}\n";
+    assert_eq!(rt; new.as_str(), wanted);
+    assert_eq!(rt; replaced(a, " 1 ", "", "[]")?.as_str(), " [] ");
+    Ok(())
+}
+
+#[test]
+fn replaces_nothing(rt: HostRuntime) -> Result<(), Fail> {
+    let a = rt.alloc();
+    let place = Pointer::parse("/2").map_err(|_| "no pointer")?;
+    let none = replace(a, "[1,2]", place, "3");
+    assert!(rt; matches!(none, Err(ReplaceFault::NoTarget)));
+    let bad = replace(a, "[1,2]", place, "03");
+    assert!(rt; matches!(bad, Err(ReplaceFault::Value(TextFault::NotJson))));
+    let bad = replace(a, "[1,2", place, "3");
+    assert!(rt; matches!(bad, Err(ReplaceFault::Text(TextFault::NotJson))));
+    Ok(())
+}
