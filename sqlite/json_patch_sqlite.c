@@ -1,0 +1,313 @@
+/*
+ * JSON Patch (RFC 6902) and JSON Merge Patch (RFC 7396) in SQL: a loadable extension of SQLite over
+ * json_patch.h.
+ *
+ *     json_patch_apply(document, patch)      the document that the patch leaves
+ *     json_patch_inverse(document, patch)    the patch that takes this one back
+ *     json_patch_merge(document, patch)      the document with the merge patch merged into it
+ *     json_patch_diff(document, goal)        the patch that leads from the one to the other
+ *     json_patch_check(patch)                NULL, or what is wrong with the patch
+ *
+ * The first four also take two limits, depth and copied, as json_patch.h has them. A NULL among the
+ * arguments gives NULL. What isn't a text, or says no document or patch, and a patch that is refused
+ * or over the limits are errors of the statement. A result depends on the arguments alone, and no call
+ * reads or writes anything else; so the functions may stand in indexes, generated columns, CHECKs and
+ * triggers.
+ *
+ * In the folder of the archive, with sqlite3ext.h (Debian: libsqlite3-dev):
+ *
+ *     cc -shared -fPIC -O2 -Iinclude -o json_patch.so sqlite/json_patch_sqlite.c lib/libjson_patch.a
+ *     sqlite3 < sqlite/example.sql
+ */
+#include <sqlite3ext.h>
+SQLITE_EXTENSION_INIT1
+
+#include <json_patch.h>
+#include <string.h>
+
+#ifndef SQLITE_RESULT_SUBTYPE
+#define SQLITE_RESULT_SUBTYPE 0
+#endif
+
+/* What SQLite's own functions give a text that is JSON, so that they take it for a value. */
+enum { JSON_SUBTYPE = 'J' };
+
+/* More than any text is longer than those that it was made of, but for what is copied or displaced. */
+enum { SPARE_ROOM = 64 };
+
+typedef struct {
+    const char *bytes;
+    size_t length;
+} text;
+
+typedef struct {
+    text first, second;
+    json_patch_limits limits;
+} arguments;
+
+/* A text that can be written, as each call of json_patch.h writes it. */
+typedef json_patch_status writer(const arguments *given, char *out, size_t room,
+                                 json_patch_report *report);
+
+typedef struct {
+    const char *name;
+    int texts; /* how many, before the limits */
+    const char *first, *second;
+    writer *write;
+} function;
+
+/* ---- what is written */
+
+static json_patch_status write_applied(const arguments *given, char *out, size_t room,
+                                       json_patch_report *report)
+{
+    return json_patch_apply_within(given->first.bytes, given->first.length, given->second.bytes,
+                                   given->second.length, &given->limits, out, room, report);
+}
+
+static json_patch_status write_merged(const arguments *given, char *out, size_t room,
+                                      json_patch_report *report)
+{
+    return json_patch_merge_within(given->first.bytes, given->first.length, given->second.bytes,
+                                   given->second.length, &given->limits, out, room, report);
+}
+
+static json_patch_status write_difference(const arguments *given, char *out, size_t room,
+                                          json_patch_report *report)
+{
+    return json_patch_diff_within(given->first.bytes, given->first.length, given->second.bytes,
+                                  given->second.length, &given->limits, out, room, report);
+}
+
+static json_patch_status write_inverse(const arguments *given, char *out, size_t room,
+                                       json_patch_report *report)
+{
+    json_patch_document document = JSON_PATCH_DOCUMENT;
+    json_patch_status status = json_patch_open_within(&document, given->first.bytes,
+                                                      given->first.length, &given->limits, report);
+    if (status == JSON_PATCH_OK)
+        status = json_patch_update_recorded(&document, given->second.bytes, given->second.length,
+                                            out, room, report);
+    if (status == JSON_PATCH_OK)
+        status = json_patch_inverse(&document, out, room, report);
+    json_patch_close(&document);
+    return status;
+}
+
+static json_patch_status write_nothing(const arguments *given, char *out, size_t room,
+                                       json_patch_report *report)
+{
+    (void)out;
+    (void)room;
+    return json_patch_check(given->first.bytes, given->first.length, report);
+}
+
+/* ---- what is wrong, in words */
+
+static const char *kind_text(json_patch_kind kind)
+{
+    switch (kind) {
+    case JSON_PATCH_NOT_JSON: return "is not JSON";
+    case JSON_PATCH_NOT_WHOLE: return "holds a number that is not whole";
+    case JSON_PATCH_TEST_FAILED: return "value did not match";
+    case JSON_PATCH_INVALID_FROM_POINTER: return "\"from\" path is invalid";
+    case JSON_PATCH_INVALID_POINTER: return "path is invalid";
+    case JSON_PATCH_CANNOT_MOVE_INSIDE_ITSELF: return "cannot move the value inside itself";
+    case JSON_PATCH_TOO_DEEP: return "nests too deep";
+    case JSON_PATCH_TOO_MUCH: return "copies too much";
+    case JSON_PATCH_NOT_A_LIST: return "is not a list";
+    case JSON_PATCH_NOT_AN_OBJECT: return "is not an object";
+    case JSON_PATCH_MISSING_OP: return "member \"op\" is missing";
+    case JSON_PATCH_OP_NOT_TEXT: return "member \"op\" is not a text";
+    case JSON_PATCH_UNKNOWN_OP: return "member \"op\" is unknown";
+    case JSON_PATCH_MISSING_FROM: return "member \"from\" is missing";
+    case JSON_PATCH_FROM_NOT_TEXT: return "member \"from\" is not a text";
+    case JSON_PATCH_BAD_FROM: return "member \"from\" is not a pointer";
+    case JSON_PATCH_MISSING_PATH: return "member \"path\" is missing";
+    case JSON_PATCH_PATH_NOT_TEXT: return "member \"path\" is not a text";
+    case JSON_PATCH_BAD_PATH: return "member \"path\" is not a pointer";
+    case JSON_PATCH_MISSING_VALUE: return "member \"value\" is missing";
+    case JSON_PATCH_VALUE_NOT_WHOLE: return "member \"value\" holds a number that is not whole";
+    default: return "is wrong";
+    }
+}
+
+/* Whether the fault is of one operation of the patch, and not of the whole. */
+static int is_of_an_operation(json_patch_kind kind)
+{
+    return kind >= JSON_PATCH_NOT_AN_OBJECT;
+}
+
+static char *fault_of_text(const char *which, const json_patch_report *report)
+{
+    if (is_of_an_operation(report->kind))
+        return sqlite3_mprintf("%s: operation %llu: %s", which,
+                               (sqlite3_uint64)report->operation, kind_text(report->kind));
+    return sqlite3_mprintf("%s %s", which, kind_text(report->kind));
+}
+
+/* Why nothing was written, in memory of SQLite; NULL where there is none, or where it is for want of
+   memory. A refused operation's path is in out. */
+static char *fault(const function *of, json_patch_status status, const char *out,
+                   const json_patch_report *report)
+{
+    sqlite3_uint64 operation = report->operation;
+    switch (status) {
+    case JSON_PATCH_REFUSED:
+        return sqlite3_mprintf("operation %llu failed at path '%.*s': %s", operation,
+                               (int)report->size, out, kind_text(report->kind));
+    case JSON_PATCH_OVER:
+        return sqlite3_mprintf("operation %llu is over the limits: it %s", operation,
+                               kind_text(report->kind));
+    case JSON_PATCH_NO_DOCUMENT:
+        return fault_of_text(of->first, report);
+    case JSON_PATCH_NO_PATCH:
+        return fault_of_text(of->texts == 1 ? of->first : of->second, report);
+    default:
+        return NULL;
+    }
+}
+
+/* ---- the functions */
+
+static void refuse(sqlite3_context *context, const function *of, char *why)
+{
+    char *message = why ? sqlite3_mprintf("%s: %s", of->name, why) : NULL;
+    sqlite3_free(why);
+    if (message)
+        sqlite3_result_error(context, message, -1);
+    else
+        sqlite3_result_error_nomem(context);
+    sqlite3_free(message);
+}
+
+/* Gives the text that is written, or the reason why there is none. How much room it takes is known once
+   it is made; mostly what is asked for at first suffices. */
+static void give_written(sqlite3_context *context, const function *of, const arguments *given)
+{
+    size_t room = given->first.length + given->second.length + SPARE_ROOM;
+    json_patch_report report;
+    json_patch_status status;
+    char *out;
+    for (;;) {
+        out = sqlite3_malloc64(room);
+        if (!out) {
+            sqlite3_result_error_nomem(context);
+            return;
+        }
+        status = of->write(given, out, room, &report);
+        if (status != JSON_PATCH_NO_ROOM)
+            break;
+        sqlite3_free(out);
+        room = report.size;
+    }
+    if (status == JSON_PATCH_OK) {
+        sqlite3_result_text64(context, out, report.size, sqlite3_free, SQLITE_UTF8);
+        sqlite3_result_subtype(context, JSON_SUBTYPE);
+        return;
+    }
+    refuse(context, of, fault(of, status, out, &report));
+    sqlite3_free(out);
+}
+
+/* Gives NULL for a patch, and else what is wrong with it. */
+static void give_fault(sqlite3_context *context, const function *of, const arguments *given)
+{
+    json_patch_report report;
+    json_patch_status status = of->write(given, NULL, 0, &report);
+    if (status == JSON_PATCH_OK)
+        return;
+    char *why = fault(of, status, NULL, &report);
+    if (why)
+        sqlite3_result_text(context, why, -1, sqlite3_free);
+    else
+        sqlite3_result_error_nomem(context);
+}
+
+/* Takes a text from an argument, or refuses it. */
+static int takes_text(sqlite3_context *context, const function *of, const char *which,
+                      sqlite3_value *value, text *taken)
+{
+    if (sqlite3_value_type(value) != SQLITE_TEXT) {
+        refuse(context, of, sqlite3_mprintf("%s is not a text", which));
+        return 0;
+    }
+    taken->bytes = (const char *)sqlite3_value_text(value);
+    taken->length = (size_t)sqlite3_value_bytes(value);
+    if (!taken->bytes)
+        sqlite3_result_error_nomem(context);
+    return taken->bytes != NULL;
+}
+
+/* Takes a limit from an argument, or refuses it. */
+static int takes_limit(sqlite3_context *context, const function *of, const char *which,
+                       sqlite3_value *value, size_t *taken)
+{
+    if (sqlite3_value_type(value) != SQLITE_INTEGER || sqlite3_value_int64(value) < 0) {
+        refuse(context, of, sqlite3_mprintf("%s is not a whole number from 0 on", which));
+        return 0;
+    }
+    *taken = (size_t)sqlite3_value_int64(value);
+    return 1;
+}
+
+static int is_any_null(int count, sqlite3_value **values)
+{
+    for (int i = 0; i < count; i++)
+        if (sqlite3_value_type(values[i]) == SQLITE_NULL)
+            return 1;
+    return 0;
+}
+
+static void run(sqlite3_context *context, int count, sqlite3_value **values)
+{
+    const function *of = sqlite3_user_data(context);
+    arguments given = {{"", 0}, {"", 0}, {JSON_PATCH_MOST_LEVELS, JSON_PATCH_MOST_COPIED}};
+    if (is_any_null(count, values))
+        return;
+    if (!takes_text(context, of, of->first, values[0], &given.first))
+        return;
+    if (of->texts == 2 && !takes_text(context, of, of->second, values[1], &given.second))
+        return;
+    if (count > of->texts
+        && (!takes_limit(context, of, "depth", values[of->texts], &given.limits.depth)
+            || !takes_limit(context, of, "copied", values[of->texts + 1], &given.limits.copied)))
+        return;
+    if (of->texts == 1)
+        give_fault(context, of, &given);
+    else
+        give_written(context, of, &given);
+}
+
+static const function FUNCTIONS[] = {
+    {"json_patch_apply", 2, "document", "patch", write_applied},
+    {"json_patch_inverse", 2, "document", "patch", write_inverse},
+    {"json_patch_merge", 2, "document", "merge patch", write_merged},
+    {"json_patch_diff", 2, "document", "goal", write_difference},
+    {"json_patch_check", 1, "patch", NULL, write_nothing},
+};
+
+static int add(sqlite3 *database, const function *of, int count)
+{
+    int flags = SQLITE_UTF8 | SQLITE_DETERMINISTIC | SQLITE_INNOCUOUS | SQLITE_RESULT_SUBTYPE;
+    return sqlite3_create_function_v2(database, of->name, count, flags, (void *)of, run, NULL, NULL,
+                                      NULL);
+}
+
+/* The entry point, by the name that SQLite looks for in a file json_patch.so. */
+int sqlite3_jsonpatch_init(sqlite3 *database, char **message, const sqlite3_api_routines *routines);
+
+int sqlite3_jsonpatch_init(sqlite3 *database, char **message, const sqlite3_api_routines *routines)
+{
+    (void)message;
+    SQLITE_EXTENSION_INIT2(routines);
+    for (size_t i = 0; i < sizeof FUNCTIONS / sizeof *FUNCTIONS; i++) {
+        const function *of = &FUNCTIONS[i];
+        int status = add(database, of, of->texts);
+        if (status == SQLITE_OK && of->texts == 2)
+            status = add(database, of, of->texts + 2);
+        if (status != SQLITE_OK)
+            return status;
+    }
+    return SQLITE_OK;
+}

@@ -1,0 +1,324 @@
+#!/usr/bin/env python3
+"""The functions of the extension, as a program meets them through SQL.
+
+    sqlite/test.py JSON_PATCH_SO [TEST..]
+
+The rows are the tables of cases of the library for C (c/cases.json); the random changes are those of
+diff/cases.py, whose model says what a document is after them."""
+import ctypes
+import json
+import random
+import re
+import sqlite3
+import subprocess
+import sys
+import tempfile
+import threading
+import unittest
+from pathlib import Path
+
+TOP = Path(__file__).resolve().parent.parent
+sys.path.append(str(TOP / "diff"))
+import cases  # noqa: E402
+from model import copied  # noqa: E402
+
+LIBRARY = None
+APPLY, MERGE, INVERSE, CHECK = ("json_patch_apply", "json_patch_merge", "json_patch_inverse", "json_patch_check")
+DIFF = "json_patch_diff"
+CHANGES = 10_000
+ROWS, WRONG_ROW = 100_000, 50_000
+THREADS, EACH = 4, 200
+
+
+def opened(path=":memory:"):
+    database = sqlite3.connect(path, timeout=60, isolation_level=None)
+    database.enable_load_extension(True)
+    database.load_extension(LIBRARY)
+    return database
+
+
+class Sql(unittest.TestCase):
+    def setUp(self):
+        self.database = opened()
+        self.addCleanup(self.database.close)
+
+    def of(self, name, *given):
+        marks = ", ".join("?" for _ in given)
+        return self.database.execute(f"SELECT {name}({marks})", given).fetchone()[0]
+
+    def assertFails(self, told, name, *given):
+        with self.assertRaises(sqlite3.OperationalError) as caught:
+            self.of(name, *given)
+        self.assertEqual(str(caught.exception), f"{name}: {told}", given)
+
+    def assertSays(self, value, text):
+        self.assertEqual(json.loads(text), value)
+
+
+class Calls(Sql):
+    def test_cases_of_the_tables(self):
+        """Each accepted case, each refusal with its operation and path, and each text that is no patch."""
+        counts = {}
+        for call, document, patch, status, operation, _kind, written in json.loads((TOP / "c/cases.json").read_text()):
+            counts[call, status] = counts.get((call, status), 0) + 1
+            name = {"apply": APPLY, "merge": MERGE, "record": INVERSE}.get(call)
+            if name is None:
+                continue
+            if status == 0:
+                if written is not None:
+                    found = self.of(name, document, patch)
+                    self.assertEqual(json.loads(written)[1] if call == "record" else json.loads(written), json.loads(found))
+                continue
+            with self.assertRaises(sqlite3.OperationalError) as caught:
+                self.of(name, document, patch)
+            told = str(caught.exception)
+            if status == 1:
+                self.assertIn(f"operation {operation} failed at path '{written}': ", told.replace("\0", ""))
+        self.assertGreater(min(counts["apply", 0], counts["apply", 1], counts["apply", 3], counts["merge", 0]), 10, counts)
+
+    def test_kinds_of_refusal(self):
+        for told, document, operation in [
+            ("operation 0 failed at path '/a': value did not match", {"a": 1}, {"op": "test", "path": "/a", "value": 2}),
+            ("operation 0 failed at path '/a': \"from\" path is invalid", {}, {"op": "copy", "from": "/b", "path": "/a"}),
+            ("operation 0 failed at path '/b': path is invalid", {}, {"op": "remove", "path": "/b"}),
+            ("operation 0 failed at path '/a/b': cannot move the value inside itself", {"a": {}}, {"op": "move", "from": "/a", "path": "/a/b"}),
+        ]:
+            self.assertFails(told, APPLY, json.dumps(document), json.dumps([operation]))
+        self.assertFails("operation 1 failed at path '/\u00e9': path is invalid", INVERSE, "{}", '[{"op":"add","path":"/a","value":1},{"op":"remove","path":"/\\u00e9"}]')
+
+    def test_what_is_no_document_or_patch(self):
+        self.assertFails("document is not JSON", APPLY, "{", "[]")
+        self.assertFails("document holds a number that is not whole", APPLY, "[1.5]", "[]")
+        self.assertFails("document nests too deep", APPLY, "[" * 125 + "]" * 125, "[]")
+        self.assertFails("patch is not JSON", APPLY, "{}", "[")
+        self.assertFails("patch is not a list", APPLY, "{}", "{}")
+        self.assertFails("patch: operation 1: member \"op\" is missing", APPLY, "1", '[{"op":"test","path":"","value":1},{}]')
+        self.assertFails("merge patch is not JSON", MERGE, "{}", "")
+        self.assertFails("goal holds a number that is not whole", DIFF, "1", "1e2")
+
+    def test_what_is_no_text(self):
+        for name, which in [(APPLY, "patch"), (MERGE, "merge patch"), (INVERSE, "patch"), (DIFF, "goal")]:
+            for value in (1, 1.5, b"[]"):
+                self.assertFails("document is not a text", name, value, "[]")
+                self.assertFails(f"{which} is not a text", name, "{}", value)
+        self.assertFails("patch is not a text", CHECK, b"[]")
+
+    def test_null_gives_null(self):
+        for name in (APPLY, MERGE, INVERSE, DIFF):
+            for given in [(None, "[]"), ("[]", None), (None, None), ("[", None), (None, "[]", 1, 1), ("[]", "[]", None, 1), ("[]", "[]", 1, None)]:
+                self.assertIsNone(self.of(name, *given), (name, given))
+        self.assertIsNone(self.of(CHECK, None))
+
+    def test_check(self):
+        self.assertIsNone(self.of(CHECK, '[{"op":"remove","path":"/a"}]'))
+        self.assertEqual(self.of(CHECK, "[{}]"), 'patch: operation 0: member "op" is missing')
+        self.assertEqual(self.of(CHECK, '[{"op":"remove","path":"/a"},{"op":"remove","path":"a"}]'), 'patch: operation 1: member "path" is not a pointer')
+        self.assertEqual(self.of(CHECK, "{}"), "patch is not a list")
+        self.assertEqual(self.of(CHECK, "]"), "patch is not JSON")
+
+    def test_merge_is_by_the_rfc(self):
+        """RFC 7396 wants the nulls of what is put in taken out; SQLite's own json_patch too."""
+        self.assertSays({"a": {"c": 1}}, self.of(MERGE, '{"a":"b"}', '{"a":{"b":null,"c":1}}'))
+        self.assertSays([1], self.of(MERGE, '{"a":1}', "[1]"))
+
+    def test_what_leads_there_and_back(self):
+        d, e = '{"a":[1,2,3],"b":{"x":1}}', '{"a":[1,3],"b":{"x":1,"y":2}}'
+        patch = self.of(DIFF, d, e)
+        self.assertSays(json.loads(e), self.of(APPLY, d, patch))
+        self.assertSays(json.loads(d), self.of(APPLY, e, self.of(INVERSE, d, patch)))
+        self.assertEqual(self.of(DIFF, d, d), "[]")
+
+    def test_a_result_is_json_to_sqlite(self):
+        found = self.database.execute("SELECT json_array(json_patch_apply('[]', '[]'), '[]')").fetchone()[0]
+        self.assertEqual(found, '[[],"[]"]')
+
+    def test_other_encodings(self):
+        self.database.execute("PRAGMA encoding = 'UTF-16'")
+        self.database.execute("CREATE TABLE t (d)")
+        self.database.execute("INSERT INTO t VALUES ('[\"\u00e9\U0001F600\"]')")
+        found = self.database.execute("SELECT json_patch_apply(d, '[]') FROM t").fetchone()[0]
+        self.assertEqual(found, '["\u00e9\U0001F600"]')
+
+    def test_limits(self):
+        nest = '[{"op":"copy","from":"","path":"/0"}]'
+        self.assertEqual(self.of(APPLY, "[]", nest, 2, 1), "[[]]")
+        self.assertFails("operation 0 is over the limits: it nests too deep", APPLY, "[]", nest, 1, 1)
+        self.assertFails("operation 0 is over the limits: it copies too much", APPLY, "[]", nest, 2, 0)
+        self.assertFails("document nests too deep", APPLY, "[[]]", "[]", 1, 1)
+        self.assertFails("depth is not a whole number from 0 on", APPLY, "[]", "[]", -1, 1)
+        self.assertFails("copied is not a whole number from 0 on", APPLY, "[]", "[]", 1, "1")
+        self.assertFails("merge patch nests too deep", MERGE, "[]", "[[]]", 1, 1)
+        self.assertFails("goal nests too deep", DIFF, "[]", "[[]]", 1, 1)
+
+    def test_a_stranger_ends_no_process(self):
+        """Copies into themselves, doubled again and again, and texts that are only brackets."""
+        nest = json.dumps([{"op": "copy", "from": "", "path": "/a" * 2**number} for number in range(12)])
+        self.assertFails("operation 6 is over the limits: it nests too deep", APPLY, '{"a":0}', nest)
+        double = json.dumps([{"op": "copy", "from": "", "path": f"/{number}"} for number in range(60)])
+        # before the 24th, counted from 0, 33,570,775 are copied, its names among them; it copies 33,570,814
+        self.assertFails("operation 24 is over the limits: it copies too much", APPLY, "{}", double)
+        self.assertFails("document nests too deep", APPLY, "[" * 1_000_000, "[]")
+
+    def test_a_text_larger_than_first_room(self):
+        """The patch makes more than the room that is asked for at first."""
+        patch = json.dumps([{"op": "copy", "from": "/a", "path": f"/{number}"} for number in range(100)])
+        found = self.of(APPLY, json.dumps({"a": "x" * 10_000}), patch)
+        self.assertSays({"a": "x" * 10_000, **{str(number): "x" * 10_000 for number in range(100)}}, found)
+
+
+class Tables(Sql):
+    """The functions where SQLite asks that they be deterministic and harmless."""
+
+    def test_index_column_check_and_trigger(self):
+        run = self.database.execute
+        run("PRAGMA trusted_schema = OFF")
+        run("CREATE TABLE patches (p TEXT CHECK (json_patch_check(p) IS NULL))")
+        run("INSERT INTO patches VALUES ('[]')")
+        with self.assertRaises(sqlite3.IntegrityError):
+            run("INSERT INTO patches VALUES ('{}')")
+        run("CREATE TABLE t (d TEXT, p TEXT, "
+            "e TEXT GENERATED ALWAYS AS (json_patch_apply(d, p)) STORED)")
+        run("CREATE INDEX i ON t (json_patch_apply(d, p))")
+        run("CREATE TABLE log (p TEXT)")
+        run("CREATE TRIGGER g AFTER UPDATE ON t BEGIN INSERT INTO log VALUES (json_patch_diff(new.d, old.d)); END")
+        run("INSERT INTO t (d, p) VALUES ('[1]', '[{\"op\":\"add\",\"path\":\"/-\",\"value\":2}]')")
+        self.assertEqual(run("SELECT e FROM t").fetchall(), [("[1,2]",)])
+        run("UPDATE t SET d = '[3]'")
+        self.assertEqual(run("SELECT e FROM t").fetchall(), [("[3,2]",)])
+        self.assertEqual(len(run("SELECT * FROM log").fetchall()), 1)
+        plan = run("EXPLAIN QUERY PLAN SELECT * FROM t WHERE json_patch_apply(d, p) = '[1]'").fetchall()
+        self.assertIn("INDEX i", str(plan))
+
+    def test_a_refused_row_changes_none(self):
+        run = self.database.execute
+        run("CREATE TABLE t (id INTEGER PRIMARY KEY, d TEXT)")
+        self.database.executemany("INSERT INTO t VALUES (?, ?)", (
+            (row, '{"n":1}' if row != WRONG_ROW else '{"m":1}') for row in range(ROWS)))
+        patch = '[{"op":"replace","path":"/n","value":2}]'
+        with self.assertRaises(sqlite3.OperationalError) as caught:
+            run("UPDATE t SET d = json_patch_apply(d, ?)", (patch,))
+        self.assertEqual(str(caught.exception), "json_patch_apply: operation 0 failed at path '/n': path is invalid")
+        self.assertEqual(run("SELECT d, count(*) FROM t GROUP BY d ORDER BY d").fetchall(), [('{"m":1}', 1), ('{"n":1}', ROWS - 1)])
+        run("UPDATE t SET d = '{\"n\":1}' WHERE id = ?", (WRONG_ROW,))
+        run("UPDATE t SET d = json_patch_apply(d, ?)", (patch,))
+        self.assertEqual(run("SELECT d, count(*) FROM t GROUP BY d").fetchall(), [('{"n":2}', ROWS)])
+
+
+class History(Sql):
+    """The example, and what it promises."""
+
+    def schema(self, database):
+        text = (TOP / "sqlite/example.sql").read_text()
+        database.executescript("CREATE TABLE" + text.split("CREATE TABLE", 1)[1].split("INSERT INTO documents (id", 1)[0])
+
+    def undo_statement(self):
+        text = (TOP / "sqlite/example.sql").read_text()
+        return text.split("-- an undo\n", 1)[1].split(";", 1)[0].replace("WHERE id = 1", "WHERE id = ?")
+
+    def test_random_changes_and_all_undone(self):
+        self.schema(self.database)
+        run = self.database.execute
+        made = cases.Cases(51)
+        pick = random.Random(52)
+        first = [made.value() for _ in range(20)]
+        for number, document in enumerate(first):
+            run("INSERT INTO documents (id, document) VALUES (?, json(?))", (number, json.dumps(document)))
+        states, changes, refused = [[document] for document in first], 0, 0
+        while changes < CHANGES:
+            number = pick.randrange(len(first))
+            patch = [made.operation(states[number][-1])]
+            try:
+                run("UPDATE documents SET version = version + 1, document = json_patch_apply(document, ?) WHERE id = ?", (json.dumps(patch), number))
+            except sqlite3.OperationalError:
+                refused += 1
+                continue
+            states[number].append(made.model.step(copied(states[number][-1]), patch[0]))
+            changes += 1
+        self.assertGreater(refused, 100)
+        for number, passed in enumerate(states):
+            for state in reversed(passed):
+                self.assertSays(state, run("SELECT document FROM documents WHERE id = ?", (number,)).fetchone()[0])
+                run(self.undo_statement(), (number,)) if state is not passed[0] else None
+        self.assertEqual(run("SELECT count(*) FROM undos").fetchone(), (0,))
+
+    def test_two_connections_lose_nothing(self):
+        """Each adds to a number behind a `test` of what it read, and reads again where it is refused."""
+        with tempfile.TemporaryDirectory() as folder:
+            path = str(Path(folder) / "documents.db")
+            database = opened(path)
+            database.execute("PRAGMA journal_mode = WAL")
+            database.execute("CREATE TABLE t (d TEXT)")
+            database.execute("INSERT INTO t VALUES ('{\"n\":0}')")
+            refused = [0] * THREADS
+
+            def count(thread):
+                own = opened(path)
+                added = 0
+                while added < EACH:
+                    n = json.loads(own.execute("SELECT d FROM t").fetchone()[0])["n"]
+                    patch = json.dumps([{"op": "test", "path": "/n", "value": n}, {"op": "replace", "path": "/n", "value": n + 1}])
+                    try:
+                        own.execute("UPDATE t SET d = json_patch_apply(d, ?)", (patch,))
+                        added += 1
+                    except sqlite3.OperationalError as error:
+                        if "value did not match" in str(error):
+                            refused[thread] += 1
+                        elif "locked" not in str(error):
+                            raise
+                own.close()
+
+            threads = [threading.Thread(target=count, args=(number,)) for number in range(THREADS)]
+            for thread in threads:
+                thread.start()
+            for thread in threads:
+                thread.join()
+            self.assertEqual(database.execute("SELECT d FROM t").fetchone(), (f'{{"n":{THREADS * EACH}}}',))
+            self.assertGreater(sum(refused), 0)
+            database.close()
+
+    def shown(self, page):
+        """The one block of SQL that a page shows."""
+        block, = re.findall(r"^```sql\n(.*?)^```", (TOP / page).read_text(), re.MULTILINE | re.DOTALL)
+        return block
+
+    def test_what_the_texts_show(self):
+        self.assertIn(self.shown("docs/SQLITE.md"), (TOP / "sqlite/example.sql").read_text())
+        self.schema(self.database)
+        self.database.execute("INSERT INTO documents (id, document) VALUES (1, '{\"a\":1,\"b\":2}')")
+        self.database.execute(self.shown("README.md"))
+        self.assertEqual(self.database.execute("SELECT document FROM documents").fetchall(), [('{"b":2}',)])
+
+    def test_example(self):
+        done = subprocess.run(["sqlite3"], input=(TOP / "sqlite/example.sql").read_text(), cwd=Path(LIBRARY).parent, capture_output=True, text=True, timeout=60)
+        self.assertEqual((done.stdout, done.stderr), ((TOP / "sqlite/example.out").read_text(), ""))
+
+
+class Memory(Sql):
+    def test_hard_heap_limit(self):
+        """Out of SQLite's memory at any point: the statement fails for that, and nothing is changed."""
+        limit_heap = ctypes.CDLL("libsqlite3.so.0").sqlite3_hard_heap_limit64
+        limit_heap.argtypes = [ctypes.c_int64]
+        self.addCleanup(limit_heap, 0)
+        run = self.database.execute
+        before = json.dumps({"a": "x" * 100_000}, separators=(",", ":"))
+        run("CREATE TABLE t (d TEXT)")
+        run("INSERT INTO t VALUES (?)", (before,))
+        patch = json.dumps([{"op": "copy", "from": "/a", "path": f"/{number}"} for number in range(50)])
+        failed = 0
+        for limit in range(300_000, 30_000_000, 300_000):
+            limit_heap(limit)
+            try:
+                run("UPDATE t SET d = json_patch_apply(d, ?)", (patch,))
+                break
+            except MemoryError:
+                failed += 1
+            finally:
+                limit_heap(0)
+            self.assertEqual(run("SELECT d FROM t").fetchall(), [(before,)])
+        self.assertGreater(failed, 3)
+        self.assertEqual(len(json.loads(run("SELECT d FROM t").fetchone()[0])), 51)
+
+
+if __name__ == "__main__":
+    LIBRARY = str(Path(sys.argv[1]).resolve())
+    unittest.main(argv=[sys.argv[0], *sys.argv[2:]])
