@@ -1,9 +1,9 @@
 -- The text with another value's stretch in the place of one.
-use Rattle.std.proofs.Common.{◌≡◌, ℕ, ◌-◌, List, [], ◌++◌, Some, take, drop, refl, sym, ap, ◌∙◌, subst}
+use Rattle.std.proofs.Common.{◌≡◌, ℕ, List, [], ◌++◌, take, drop, refl, sym, ap, ◌∙◌, subst}
 use Rattle.json.specs.Json.{Json}
 use Rattle.jsonptr.specs.Text.{Pointer}
 use Rattle.json_text.specs.Found.{IsWithin}
-use Rattle.json_text.specs.Pointed.{put_at, IsStretch, IsWrittenAt, StandsBetween}
+use Rattle.json_text.specs.Pointed.{put_at, IsStretch, StandsBetween}
 use Rattle.json_text.specs.Replaced.{IsReplaced}
 use Rattle.json_text.specs.Spelled.{IsShallowText, Says}
 use Rattle.json_text.specs.declared.span.Span.{Span}
