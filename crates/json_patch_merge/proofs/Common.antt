@@ -22,7 +22,7 @@ pub use Rattle.std.proofs.lemmas.List.{map-append}
 pub use Rattle.std.specs.Bool.{⊤}
 pub use Rattle.json_patch_merge.specs.Filled.{IsFilled, IsFilledMember, by_key, stays, left, fills, Fills, FillsAt}
 pub use Rattle.json_patch_merge.specs.Filled.{LogsMember, IsPrunedMember, ArePruned, with_member, former_value}
-pub use Rattle.json_patch_merge.specs.Filled.{restore_members, members_before, Prunes}
+pub use Rattle.json_patch_merge.specs.Filled.{restore_members, members_before, Prunes, RemovesNothing, RemoveNothing}
 pub use Rattle.json_patch_merge.specs.Merged.{IsMerged, IsMergedMember, goes, merges, replaces}
 pub use Rattle.json_patch_merge.specs.MergedComputed.{after_merge, members_after_merge, members_of}
 pub use Rattle.json_patch_merge.specs.declared.merging.Before.{Absent, Filled, Replaced, fold-Before}

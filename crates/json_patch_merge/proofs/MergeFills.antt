@@ -10,7 +10,7 @@ use Rattle.json_patch_merge.proofs.Common.{view-lookup, view-Object, sight_of, k
 use Rattle.json_patch_merge.proofs.Common.{left, fills, Fills, FillsAt, LogsMember, IsPrunedMember, ArePruned, with_member}
 use Rattle.json_patch_merge.proofs.Common.{former_value, restore_members, members_before, ⊤, AllocError, insert_entry}
 use Rattle.json_patch_merge.proofs.Common.{match_ordering, Sight, Prunes, IsMerged, members_of, Filled, Replaced, Absent}
-use Rattle.json_patch_merge.proofs.Common.{fold-Before}
+use Rattle.json_patch_merge.proofs.Common.{fold-Before, RemovesNothing, RemoveNothing}
 use Rattle.std.proofs.Common.{string_cmp, IsErr}
 use Rattle.json_patch_merge.specs.Filled.{replaces}
 use Rattle.std.specs.Borrow.{Bor}
@@ -135,8 +135,34 @@ merged_members : (ps ms ns : Members) → ArePruned ms ps ns → (d : Data) → 
 merged_members ps ms ns h d (replaces other) = absurd (other refl)
 merged_members ps ms ns h d (by_key named held each) = m.by_key refl refl (λ k. h k (get k d) (each k))
 
+-- ---- a patch that removes nothing
+
+pub nothing_of_another : (p : Data) → sight_of p ≢ Sight.object → RemovesNothing p
+nothing_of_another p other d w h = pruned_other (λ named. absurd (other named)) h
+
+one_merged : (was now : Option Data) (q : Data) → q ≢ null → RemovesNothing q → IsFilledMember was (Some q) now → m.IsMergedMember was (Some q) now
+one_merged was now q other none left = absurd (other refl)
+one_merged was now q other none (fills {w = w} o h) = m.merges o (none _ w h)
+
+named_so : {was o named now : Option Data} → o ≡ named → (IsFilledMember was named now → m.IsMergedMember was named now) → IsFilledMember was o now → m.IsMergedMember was o now
+named_so {was} {o} {named} {now} is h f = subst (λ x. m.IsMergedMember was x now) (sym is) (h (subst (λ x. IsFilledMember was x now) is f))
+
+each_merged : (k : List ℕ) (ps : Members) (was now : Option Data) → RemoveNothing ps → IsFilledMember was (get_member k ps) now → m.IsMergedMember was (get_member k ps) now
+each_merged k no_members was now h stays = m.stays
+each_merged k (member l q ps) was now h f = ⊎_elim
+    (λ (same : k ≡ l). named_so (ap (λ x. get_member x (member l q ps)) same ∙ found_first l q ps) (one_merged was now q h.0 h.1) f)
+    (λ other. named_so (skips k l q ps other) (each_merged k ps was now h.2) f)
+    (name_cases k l)
+
+pub nothing_of_members : (ps : Members) → RemoveNothing ps → RemovesNothing (object ps)
+nothing_of_members ps h d w (replaces other) = absurd (other refl)
+nothing_of_members ps h d w (by_key named held each) = m.by_key named held (λ k. each_merged k ps (get k d) (get k w) h (each k))
+
 pub named_members : (p : Value) (ps : BTreeMap (String Global) Value) → p ≡ Object ps → members_of (view p) ≡ members_view ps.entries
 named_members p ps is = ap members_of (ap view is ∙ view-Object ps)
+
+pub nothing_of_object : (p : Value) (ps : BTreeMap (String Global) Value) → p ≡ Object ps → RemoveNothing (members_of (view p)) → RemovesNothing (view p)
+nothing_of_object p ps is h = subst RemovesNothing (sym (ap view is ∙ view-Object ps)) (nothing_of_members (members_view ps.entries) (subst RemoveNothing (named_members p ps is) h))
 
 pub pruned_object : (old new patch : Value) (m n ps : BTreeMap (String Global) Value) → old ≡ Object m → new ≡ Object n → patch ≡ Object ps
     → (AreMembers (members_view m.entries) → IsDocument (view patch) → Passes IsPrunedMember (members_view m.entries) (members_of (view patch)) (members_view n.entries) no_members) → Prunes (view old) (view patch) (view new)

@@ -4,7 +4,7 @@ use Rattle.std.specs.Prelude.{Vec}
 use Rattle.std.specs.Borrow.{Bor}
 use Rattle.std.specs.declared.alloc.AllocError.{AllocError}
 use Rattle.std.specs.declared.alloc.Global.{Global}
-use Rattle.serde_json.specs.Data.{Data, null, object, Members, put}
+use Rattle.serde_json.specs.Data.{Data, null, object, Members, no_members, member, put}
 use Rattle.serde_json.specs.Find.{get, get_member}
 use Rattle.serde_json.specs.View.{view}
 use Rattle.json_patch_document.specs.ChangeComputed.{without}
@@ -81,3 +81,12 @@ ArePruned ms ps ns = (k : List ℕ) → IsPrunedMember (get_member k ms) (get_me
 -- what is filled is pruned, whatever it was before
 abbrev pub Prunes : Data → Data → Data → Type 0
 Prunes w p e = IsDocument w → IsDocument p → IsDocument e × ((d : Data) → IsFilled d p w → IsMerged d p e)
+
+-- what is filled with p is merged: p removes nothing
+abbrev pub RemovesNothing : Data → Type 0
+RemovesNothing p = (d w : Data) → IsFilled d p w → IsMerged d p w
+
+-- none of the members is null, nor removes anything
+abbrev pub RemoveNothing : Members → Type 0
+RemoveNothing no_members = ⊤
+RemoveNothing (member k q ps) = (q ≢ null) × RemovesNothing q × RemoveNothing ps

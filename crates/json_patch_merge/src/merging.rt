@@ -1,11 +1,11 @@
 //! JSON Merge Patch (RFC 7396, section 2).
 
 ghost use Rattle.json_patch_document.specs.Document.{IsDocument};
-ghost use Rattle.json_patch_merge.specs.Filled.{FillsAll, FillsAt, LogsMember, Prunes, former_value, members_before, with_member};
+ghost use Rattle.json_patch_merge.specs.Filled.{FillsAll, FillsAt, LogsMember, Prunes, RemovesNothing, former_value, members_before, with_member};
 ghost use Rattle.json_patch_merge.specs.Merged.{IsMerged};
 ghost use Rattle.serde_json.specs.Find.{get_member};
 ghost use Rattle.serde_json.specs.View.{view, members_view};
-ghost use Rattle.std.specs.Prelude.{◌≡◌, OnOk, OnErr, Some, string_bytes};
+ghost use Rattle.std.specs.Prelude.{◌≡◌, IsFalse, OnOk, OnErr, Some, string_bytes};
 
 use serde_json::{Map, Value};
 use std::alloc::{AllocError, Global};
@@ -47,12 +47,12 @@ pub fn merge(alloc: Global, doc: &mut Value, patch: &Value) -> Result<(), AllocE
     if let Value::Object(changes) = patch {
         if let Value::Object(members) = doc {
             drop(fill(alloc, changes, members)?);
-            prune(patch, doc);
+            finish(patch, doc);
             return Ok(());
         }
     }
     *doc = patch.clone()?;
-    prune(patch, doc);
+    finish(patch, doc);
     Ok(())
 }
 
@@ -138,6 +138,30 @@ fn restore_member(name: &str, former: Before<'_>, members: &mut Map<String, Valu
             }
         }
     }
+}
+
+/// Removes what the patch removes, if it removes anything: to look costs less than to find each name.
+fn finish(patch: &Value, target: &mut Value)
+    ensures { Prunes (view target.old) (view patch.now) (view target.new) }
+{
+    if has_null(patch) {
+        prune(patch, target);
+    }
+}
+
+/// Whether a member is null, at any depth.
+fn has_null(patch: &Value) -> bool
+    ensures { IsFalse result → RemovesNothing (view patch.now) }
+{
+    let Value::Object(changes) = patch else {
+        return false;
+    };
+    for (_, change) in changes {
+        if change.is_null() || has_null(change) {
+            return true;
+        }
+    }
+    false
 }
 
 /// Removes what the patch removes.

@@ -12,7 +12,7 @@ returns-in_err-fill-clause-document c = subst IsDocument (sym (of_objects (Err c
 pub returns-in-Object-doc : goal.returns-in-Object-doc
 returns-in-Object-doc c =
     let r = of_objects (Ok (Filled c.in_ok-fill.field-0)) _ _ _ _ c.fill.new.members c.in-Object.changes (c.in-Object-doc.is ∙ ap Object (sym c.in-Object-doc.members-is)) refl c.in-Object.is c.in_ok-fill.ensures c.requires.document c.requires.whole in
-    let e = c.prune.ensures (search rules) c.requires.whole in
+    let e = c.finish.ensures (search rules) c.requires.whole in
     record { merged = e.1 _ (search rules); unchanged = search rules; document = e.0 }
 
 pub returns-clause-merged : goal.returns-clause-merged
@@ -23,4 +23,4 @@ returns-clause-merged c =
       | in_default w ↦ λ named. absurd (other_value c.args.patch.now w.in_default.not-Object named)
     ])
     c.in_ok-doc.ensures.cases refl c.requires.whole in
-    (c.prune-2.ensures r.1 c.requires.whole).1 _ r.0
+    (c.finish-2.ensures r.1 c.requires.whole).1 _ r.0
