@@ -1,7 +1,8 @@
 // Times the calls of nlohmann/json as bench/driver.rt.txt times those here: its arguments are
 // `MODE COUNT`, its input is `[document,patch]`, and it prints the nanoseconds of one call, each made
 // on a fresh copy whose making isn't counted. The modes are `patch`, which answers a new document,
-// `inplace`, which leaves a refused patch part-way, and `merge`; and those of bench/c_calls.c.
+// `inplace`, which leaves a refused patch part-way, and `merge`; and those of bench/c_calls.c. For `diff`
+// the input is two documents: it prints what bench/differences.rt.txt prints.
 #include <chrono>
 #include <iostream>
 #include <nlohmann/json.hpp>
@@ -28,11 +29,25 @@ long long from_texts(const json& pair, const std::string& mode, long count) {
     return mode == "kept" || written ? spent : 0;
 }
 
+// The patch from one document to another: the nanoseconds of one call, its operations and its bytes.
+void differences(const json& from, const json& to, long count) {
+    json changes;
+    const auto start = Clock::now();
+    for (long i = 0; i < count; ++i) changes = json::diff(from, to);
+    const auto spent = std::chrono::nanoseconds(Clock::now() - start).count() / count;
+    if (from.patch(changes) != to) return;
+    std::cout << spent << ' ' << changes.size() << ' ' << changes.dump().size() << '\n';
+}
+
 int main(int, char** argv) {
     std::ios::sync_with_stdio(false);
     const std::string mode = argv[1];
     const long count = std::stol(argv[2]);
     const json pair = json::parse(std::cin);
+    if (mode == "diff") {
+        differences(pair[0], pair[1], count);
+        return 0;
+    }
     if (mode == "texts" || mode == "kept") {
         std::cout << from_texts(pair, mode, count) << '\n';
         return 0;

@@ -1,7 +1,8 @@
 """Times the calls of Python's jsonpatch as bench/driver.rt.txt times those here: its arguments are
 `MODE COUNT`, its input is `[document,patch]`, and it prints the nanoseconds of one call. The modes are
 `patch`, which answers a new document, and `inplace`, which leaves a refused patch part-way and works
-on a fresh copy, whose making isn't counted; and those of bench/c_calls.c, in place too."""
+on a fresh copy, whose making isn't counted; and those of bench/c_calls.c, in place too. For `diff`
+the input is two documents: it prints what bench/differences.rt.txt prints."""
 import copy
 import json
 import sys
@@ -23,6 +24,22 @@ def from_texts():
             json.dumps(made)
     return time.perf_counter_ns() - start
 
+
+def differences(before, after):
+    """The nanoseconds of one call, and how many operations and bytes the patch has."""
+    start = time.perf_counter_ns()
+    for _ in range(count):
+        made = jsonpatch.make_patch(before, after)
+    spent = (time.perf_counter_ns() - start) // count
+    if made.apply(before) != after:
+        return ""
+    written = json.dumps(made.patch, ensure_ascii=False, separators=(",", ":"))
+    return f"{spent} {len(made.patch)} {len(written.encode())}"
+
+
+if mode == "diff":
+    print(differences(document, operations))
+    sys.exit()
 
 if mode in ("texts", "kept"):
     print(from_texts() // count)

@@ -1,4 +1,6 @@
 """The documents and patches that are timed."""
+import copy
+import random
 
 
 def row(number):
@@ -167,4 +169,74 @@ SIZES = [
     (100_000, 1_450, 200),
     (1_000_000, 14_500, 20),
     (10_000_000, 145_000, 3),
+]
+
+
+def with_rows(change):
+    """Fifty rows, and what is left of them where they are changed so."""
+    before = rows(50)
+    after = copy.deepcopy(before)
+    change(after["rows"])
+    return before, after
+
+
+def one_changed(count, place):
+    """So many rows, of which one has another name."""
+    before = rows(count)
+    after = copy.deepcopy(before)
+    after["rows"][place]["name"] = "other name"
+    return before, after
+
+
+def lists_edited(count, length):
+    """So many lists of numbers, each with one to five items put in, taken out or changed."""
+    roll = random.Random(1)
+    before = {f"list {i:03}": [roll.randrange(1_000) for _ in range(length)] for i in range(count)}
+    after = copy.deepcopy(before)
+    for items in after.values():
+        for _ in range(roll.randrange(1, 6)):
+            place = roll.randrange(len(items))
+            way = roll.choice(["add", "remove", "change"])
+            if way == "add":
+                items.insert(place, roll.randrange(1_000))
+            elif way == "remove":
+                del items[place]
+            else:
+                items[place] = roll.randrange(1_000)
+    return before, after
+
+
+def members_changed(count, changed):
+    """An object of so many members, of which some have another value."""
+    before = object_of(count)
+    after = dict(before)
+    for i in range(0, count, count // changed):
+        after[f"member {i:04}"] = "other text"
+    return before, after
+
+
+def nested(depth, before, after):
+    """Both so many objects deep, each of which has two other members."""
+    for i in range(depth):
+        before, after = ({"id": i, "name": f"name {i}", "next": value} for value in (before, after))
+    return before, after
+
+
+def others(count):
+    """So many rows, and as many objects of other names and values."""
+    return rows(count), {"lines": [{"number": -i, "text": f"text {i}", "marks": [i]} for i in range(count)]}
+
+
+# name, calls a round, two documents
+DIFFERENCES = [
+    ("10 MB, equal", 3, (rows(145_000), rows(145_000))),
+    ("10 MB, a change in the middle", 3, one_changed(145_000, 72_500)),
+    ("10 MB, a change in the last row", 3, one_changed(145_000, -1)),
+    ("a row inserted in the middle of 50", 1_000, with_rows(lambda items: items.insert(25, row(50)))),
+    ("10 of 50 rows removed", 1_000, with_rows(lambda items: items.__delitem__(slice(20, 30)))),
+    ("the first of 50 rows moved to the end", 1_000, with_rows(lambda items: items.append(items.pop(0)))),
+    ("300 lists of 60 numbers, 1 to 5 edits each", 10, lists_edited(300, 60)),
+    ("10 of 1,000 members changed", 200, members_changed(1_000, 10)),
+    ("100 kB, all different", 5, others(1_450)),
+    ("1,000 members below 20 objects, one changed", 200, nested(20, *members_changed(1_000, 1))),
 ]

@@ -1,5 +1,5 @@
 -- Lists with a test before each removal and replacement.
-use Rattle.std.proofs.Common.{◌≡◌, IsSome, is_some, true, ℕ, suc, ◌+◌, ◌*◌, ◌<◌, ◌≤◌, List, [], ◌∷◌, ◌++◌, length, Option, Some, None, Ok, refl, sym, ap, ◌∙◌, arith, subst, append_assoc, append-nil, option_map, option_to_list, inl, inr}
+use Rattle.std.proofs.Common.{◌≡◌, IsSome, is_some, true, ◌*◌, ◌<◌, ◌≤◌, List, [], ◌∷◌, ◌++◌, length, Option, Some, None, Ok, refl, sym, ap, ◌∙◌, arith, subst, append_assoc, append-nil, option_map, option_to_list}
 use Rattle.std.proofs.lemmas.List.{length-append, length-map, map-append}
 use Rattle.std.specs.Prelude.{◌↔◌}
 use Rattle.serde_json.specs.Data.{Data}
@@ -11,10 +11,9 @@ use Rattle.json_patch.specs.Operation.{Operation, AreWhole, IsWholeOp, operation
 use Rattle.json_patch.specs.PatchOperation.{PatchOperation}
 use Rattle.json_patch.specs.Resolve.{StandsAt}
 use Rattle.json_patch.specs.Run.{Accepts, IsAccepted}
-use Rattle.json_patch.specs.RunComputed.{after_step}
 use Rattle.json_patch.specs.Step.{Leaves}
 use Rattle.json_patch_diff.specs.Guarded.{AcceptsBeside, AgreesAt, Guards, IsGuarded}
-use Rattle.json_patch_diff.specs.Steps.{AreChanges, IsChange, takes, tests_of, put_back}
+use Rattle.json_patch_diff.specs.Steps.{AreChanges, IsChange, takes, tests_of}
 use Rattle.json_patch_diff.proofs.Results.{KeepsDocuments, RunEnds, StepLeft, only_end}
 
 -- ---- lists

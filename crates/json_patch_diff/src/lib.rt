@@ -7,6 +7,7 @@ mod edits;
 mod guarded;
 mod hash;
 mod sizes;
+mod survey;
 
 pub use difference::diff;
 pub use guarded::guarded_diff;

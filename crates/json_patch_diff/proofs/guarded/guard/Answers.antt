@@ -1,8 +1,7 @@
-use Rattle.std.proofs.Common.{◌≡◌, ◌∷◌, ◌++◌, [], List, length, refl, sym, ap, subst, ◌∙◌, rules, arith}
+use Rattle.std.proofs.Common.{◌≡◌, ◌∷◌, [], List, length, refl, sym, ap, subst, ◌∙◌, rules, arith}
 use Rattle.std.proofs.lemmas.List.{map-append}
 use Rattle.std.specs.Vec.Iter.{into_iter_items}
 use Rattle.json_patch.specs.Operation.{Operation, operation_of, operations}
-use Rattle.json_patch.specs.PatchOperation.{PatchOperation}
 use Rattle.json_patch_diff.proofs.Guards.{Along, ended, next, starts}
 use Rattle.json_patch_diff.proofs.guarded.guard.Goals as goal
 
