@@ -8,7 +8,8 @@ use Rattle.json_text.specs.Found.{IsWithin}
 use Rattle.json_text.specs.Pointed.{child, if_some, tree_at, put_child, put_at, IsStretch, IsTight}
 use Rattle.json_text.specs.Spelled.{Says}
 use Rattle.json_text.specs.declared.span.Span.{Span}
-use Rattle.json_text.proofs.Stretches.{slice, two_parts}
+use Rattle.json_text.specs.Rows.{slice}
+use Rattle.json_text.proofs.Stretches.{two_parts}
 
 -- of the tokens P those of Q are left at the stretch s, which says v
 pub record IsAt (before s behind : List ℕ) (j : Json) (P Q : Pointer) : Type 0 where
@@ -19,7 +20,7 @@ pub record IsAt (before s behind : List ℕ) (j : Json) (P Q : Pointer) : Type 0
   pub alone : (new : List ℕ) (w : Json) → Says new (put_at Q w value) → Says (before ++ (new ++ behind)) (put_at P w j)
 
 -- what is put where the pointer leads is put so in the child
-put_step : (t : List ℕ) (Q : Pointer) (w v c : Json) → child t v ≡ Some c → put_at (t ∷ Q) w v ≡ put_child t (put_at Q w c) v
+pub put_step : (t : List ℕ) (Q : Pointer) (w v c : Json) → child t v ≡ Some c → put_at (t ∷ Q) w v ≡ put_child t (put_at Q w c) v
 put_step t Q w v c e = ap (λ o. if_some o (λ d. put_child t (put_at Q w d) v) v) e
 
 regroup : (a b c d e : List ℕ) → a ++ ((b ++ (c ++ d)) ++ e) ≡ (a ++ b) ++ (c ++ (d ++ e))

@@ -24,7 +24,7 @@ byte_step in_string space x xs h = omega (arith, h in_string)
 byte_step in_string other x xs h = omega (arith, h in_string)
 byte_step in_escape c x xs h = omega (arith, h in_string)
 
-lexemes : (m : Mode) (xs : List ℕ) → length (lex m xs) ≤ length xs
+pub lexemes : (m : Mode) (xs : List ℕ) → length (lex m xs) ≤ length xs
 unfolding lex
 lexemes m [] = omega arith
 lexemes m (x ∷ xs) = byte_step m (class x) x xs (λ n. lexemes n xs)

@@ -19,3 +19,4 @@ pub mod Nests
 pub mod Replacing
 pub mod Respelled
 pub mod Parsed
+pub mod Rows

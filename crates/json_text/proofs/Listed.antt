@@ -18,7 +18,7 @@ tail [] = []
 tail (l ∷ ls) = ls
 
 -- no value begins as a list ends
-no_end : (j : Json) (ls : List Lexeme) → kind (spelled j ++ ls) ≡ 93 → ⊥
+pub no_end : (j : Json) (ls : List Lexeme) → kind (spelled j ++ ls) ≡ 93 → ⊥
 no_end null ls e = absurd (omega (arith, e))
 no_end (boolean b) ls e = absurd (omega (arith, e))
 no_end (number s) ls e = absurd (omega (arith, e))

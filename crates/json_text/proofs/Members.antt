@@ -21,7 +21,7 @@ use Rattle.json_text.proofs.FirstBytes.{kind, token_kind, string_kind, byte_by_k
 use Rattle.json_text.proofs.Skipping.{skip-value}
 use Rattle.json_text.proofs.Steps.{drop_step, string_has_end, quote_opens}
 
-quote_left : (t : List ℕ) (i : ℕ) → i < length t → get_or t i 0 ≡ 34 → left_at t i ≡ token (string_token (content plain (drop (i + 1) t))) ∷ lex in_string (drop (i + 1) t)
+pub quote_left : (t : List ℕ) (i : ℕ) → i < length t → get_or t i 0 ≡ 34 → left_at t i ≡ token (string_token (content plain (drop (i + 1) t))) ∷ lex in_string (drop (i + 1) t)
 unfolding lex
 quote_left t i h e = ap (lex between) (drop_step t i h ∙ ap (λ x. x ∷ drop (i + 1) t) e)
 
@@ -52,6 +52,11 @@ unfolding string_in
 string_of None = refl
 string_of (Some s) = refl
 
+-- what the string stands for, and what is behind it
+pub same_string : (o : Option (List ℕ)) (l : List ℕ) (ls ms : List Lexeme) → token (string_token o) ∷ ls ≡ token (t.string l) ∷ ms → (o ≡ Some l) × (ls ≡ ms)
+unfolding string_first string_in
+same_string o l ls ms e = (sym (string_of o) ∙ ap string_first e, ap tail e)
+
 -- what is known behind a member's value
 pub record Passed (t : List ℕ) (k : List ℕ) (ms : Members) (found : Option Span) (i : ℕ) : Type 0 where
   pub more : Members
@@ -78,7 +83,7 @@ chosen t k l false o s found j last ls d e f g h =
     not_equal (inl y) = absurd (false≢true (d.1 (e ∙ ap Some ((bytes_eq-Decides l k).0 y))))
     not_equal (inr n) = n
 
-no_end : (o : Option (List ℕ)) → token_kind (string_token o) ≡ 125 → ⊥
+pub no_end : (o : Option (List ℕ)) → token_kind (string_token o) ≡ 125 → ⊥
 no_end o e = by_kind (string_kind o)
   where
     by_kind : (token_kind (string_token o) ≡ 0) ⊎ (token_kind (string_token o) ≡ 34) → ⊥

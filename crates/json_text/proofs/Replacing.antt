@@ -7,7 +7,8 @@ use Rattle.json_text.specs.Pointed.{put_at, IsStretch, StandsBetween}
 use Rattle.json_text.specs.Replaced.{IsReplaced}
 use Rattle.json_text.specs.Spelled.{IsShallowText, Says}
 use Rattle.json_text.specs.declared.span.Span.{Span}
-use Rattle.json_text.proofs.Stretches.{slice, two_parts, cut_out}
+use Rattle.json_text.specs.Rows.{slice}
+use Rattle.json_text.proofs.Stretches.{two_parts, cut_out}
 use Rattle.std.proofs.Common.{take-append-drop}
 
 -- a text's own stretch

@@ -12,6 +12,7 @@ use Rattle.json_text.specs.Lexing.{after, Fits, Outside}
 use Rattle.json_text.specs.Found.{IsCut, IsWithin}
 use Rattle.json_text.specs.Places.{mode_at, left_at, HasEnd, IsEnd, IsOpen}
 use Rattle.json_text.specs.Pointed.{IsStretch, IsTight, IsWrittenAt, StandsBetween}
+use Rattle.json_text.specs.Rows.{slice}
 use Rattle.json_text.specs.Spelled.{spelled, Says}
 use Rattle.json_text.specs.declared.span.Span.{Span}
 use Rattle.json_text.proofs.Around.{Around}
@@ -22,7 +23,7 @@ use Rattle.json_text.proofs.Steps.{after-append, follows, ends-follows}
 
 -- ---- two texts, one after the other
 
-fits : (m : Mode) (r : List ℕ) → Outside m → ends_word r ≡ true → Fits m r
+pub fits : (m : Mode) (r : List ℕ) → Outside m → ends_word r ≡ true → Fits m r
 fits between r o e = tt
 fits in_word r o e = e
 fits in_string r o e = o
@@ -35,25 +36,22 @@ goes_on in_word r f = in_word-ended r f
 goes_on in_string r f = absurd f
 goes_on in_escape r f = absurd f
 
-lex-join : (a r : List ℕ) → Fits (after between a) r → lex between (a ++ r) ≡ lex between a ++ lex between r
+pub lex-join : (a r : List ℕ) → Fits (after between a) r → lex between (a ++ r) ≡ lex between a ++ lex between r
 lex-join a r f = lex-append between a r f ∙ ap (λ l. lex between a ++ l) (goes_on (after between a) r f)
 
 -- ---- the stretch
-
-abbrev pub slice : List ℕ → ℕ → ℕ → List ℕ
-slice text i k = take (k - i) (drop i text)
 
 pub two_parts : (text : List ℕ) (i k : ℕ) → i ≤ k → slice text i k ++ drop k text ≡ drop i text
 two_parts text i k h =
     let e : i + (k - i) ≡ k = omega arith in
     ap (λ l. slice text i k ++ l) (sym (drop-drop (k - i) i text ∙ ap (λ n. drop n text) e)) ∙ take-append-drop (k - i) (drop i text)
 
-mode_between : (text : List ℕ) (i k : ℕ) → i ≤ k → mode_at text i ≡ between → mode_at text k ≡ after between (slice text i k)
+pub mode_between : (text : List ℕ) (i k : ℕ) → i ≤ k → mode_at text i ≡ between → mode_at text k ≡ after between (slice text i k)
 mode_between text i k h m =
     let e : i + (k - i) ≡ k = omega arith in
     ap (after between) (ap (λ n. take n text) (sym e) ∙ take-add i (k - i) text) ∙ after-append between (take i text) (slice text i k) ∙ ap (λ n. after n (slice text i k)) m
 
-slice_says : (text : List ℕ) (i k : ℕ) (v : Json) (ls : List Lexeme) → mode_at text i ≡ between → left_at text i ≡ spelled v ++ ls → left_at text k ≡ ls → IsEnd text k → i ≤ k → k ≤ length text → Says (slice text i k) v
+pub slice_says : (text : List ℕ) (i k : ℕ) (v : Json) (ls : List Lexeme) → mode_at text i ≡ between → left_at text i ≡ spelled v ++ ls → left_at text k ≡ ls → IsEnd text k → i ≤ k → k ≤ length text → Says (slice text i k) v
 unfolding lex
 slice_says text i k v ls m at left ends h w = by_end ends
   where
@@ -70,7 +68,7 @@ slice_says text i k v ls m at left ends h w = by_end ends
         let none : ls ≡ [] = sym left ∙ ap (lex between) (drop_all k text (omega (arith, e))) in
         ap (lex between) (ap (λ n. take n (drop i text)) size ∙ take-length (drop i text)) ∙ at ∙ ap (λ l. spelled v ++ l) none ∙ append-nil (spelled v)
 
-not_empty : (text : List ℕ) (i k : ℕ) (v : Json) → Says (slice text i k) v → i < k
+pub not_empty : (text : List ℕ) (i k : ℕ) (v : Json) → Says (slice text i k) v → i < k
 unfolding lex
 not_empty text i k v says = by_size (cases_lt i k)
   where
@@ -81,10 +79,10 @@ not_empty text i k v says = by_size (cases_lt i k)
         let none : [] ≡ spelled v = sym (ap (λ n. lex between (take n (drop i text))) e) ∙ says in
         absurd (omega (arith, ap length none, some_lexeme v))
 
-not_open : (text : List ℕ) (j : Json) → Says text j → IsOpen text → ⊥
+pub not_open : (text : List ℕ) (j : Json) → Says text j → IsOpen text → ⊥
 not_open text j says left = left (subst (λ t. Outside (after between t)) (sym (take-length text)) (closed-Says text j says))
 
-tight : (text : List ℕ) (j : Json) (s : Span) → Says text j → IsCut text s → s.start < s.end → s.end ≤ length text → IsTight (slice text s.start s.end)
+pub tight : (text : List ℕ) (j : Json) (s : Span) → Says text j → IsCut text s → s.start < s.end → s.end ≤ length text → IsTight (slice text s.start s.end)
 tight text j s says c h w =
     let i = s.start in
     let k = s.end in

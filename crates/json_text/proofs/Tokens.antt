@@ -20,7 +20,8 @@ use Rattle.json_text.proofs.Counted.{item_within}
 use Rattle.json_text.proofs.FirstBytes.{kind, byte_by_kind}
 use Rattle.json_text.proofs.Skipping.{skip-value}
 use Rattle.json_text.proofs.Steps.{follows, operator_left, operator_end}
-use Rattle.json_text.proofs.Stretches.{slice, stretch}
+use Rattle.json_text.specs.Rows.{slice}
+use Rattle.json_text.proofs.Stretches.{stretch}
 
 abbrev tail : List Lexeme → List Lexeme
 tail [] = []

@@ -5,4 +5,10 @@ pub mod Lexing
 pub mod Skipped
 pub mod Places
 pub mod Found
+pub mod Rows
+pub mod Listing
+pub mod Changed
+pub mod Removed
+pub mod Added
+pub mod Less
 pub mod Replaced

@@ -72,3 +72,16 @@ StandsBetween before s behind j P = (v : Json) × (tree_at P j ≡ Some v) × Is
 -- s is the stretch of the text, which says j, where P leads
 abbrev pub IsWrittenAt : List ℕ → Json → Pointer → List ℕ → Type 0
 IsWrittenAt text j P s = (before : List ℕ) × (behind : List ℕ) × (text ≡ before ++ (s ++ behind)) × StandsBetween before s behind j P
+
+-- the object or list that all tokens of P but the last lead to in j, and where it stands in the text
+pub record ParentStands (text : List ℕ) (j : Json) (P : Pointer) : Type 0 where
+  pub front : Pointer
+  pub last : List ℕ
+  pub split : P ≡ front ++ (last ∷ [])
+  pub parent : Json
+  pub leads : tree_at front j ≡ Some parent
+  pub before : List ℕ
+  pub own : List ℕ
+  pub behind : List ℕ
+  pub whole : text ≡ before ++ (own ++ behind)
+  pub stood : IsStretch before own behind parent (λ w. put_at front w j)

@@ -5,8 +5,8 @@ use Rattle.jsonptr.specs.Text.{Pointer}
 use Rattle.json_text.specs.Faults.{IsTextFault}
 use Rattle.json_text.specs.Pointed.{tree_at, put_at, IsWrittenAt, StandsBetween}
 use Rattle.json_text.specs.Spelled.{IsShallowText, Says}
-use Rattle.json_text.specs.declared.fault.ReplaceFault.{ReplaceFault}
-use Rattle.json_text.specs.declared.fault.ReplaceFault.TheVariants.{Text, Value, NoTarget, Memory}
+use Rattle.json_text.specs.declared.fault.ChangeFault.{ChangeFault}
+use Rattle.json_text.specs.declared.fault.ChangeFault.TheVariants.{Text, Value, NoTarget, Memory}
 
 -- new is the text with the stretch where P leads exchanged for the value's, and says the tree with the value's tree there
 pub record IsReplaced (text : List ℕ) (P : Pointer) (value new : List ℕ) : Type 0 where
@@ -28,7 +28,7 @@ pub record IsReplaced (text : List ℕ) (P : Pointer) (value new : List ℕ) : T
 abbrev pub LeadsNowhere : List ℕ → Pointer → Type 0
 LeadsNowhere text P = (j : Json) × Says text j × (tree_at P j ≡ None)
 
-abbrev pub IsReplaceFault : List ℕ → Pointer → List ℕ → ReplaceFault → Type 0
+abbrev pub IsReplaceFault : List ℕ → Pointer → List ℕ → ChangeFault → Type 0
 IsReplaceFault text P value (Text f) = IsTextFault text f
 IsReplaceFault text P value (Value f) = IsTextFault value f
 IsReplaceFault text P value NoTarget = LeadsNowhere text P

@@ -4,17 +4,24 @@ ghost use Rattle.std.specs.Prelude.{◌≡◌, ◌++◌, IfOk, IfErr, drop, take
 ghost use Rattle.std.specs.String.{string_bytes};
 ghost use Rattle.jsonptr.specs.Pointers.{tokens_of};
 ghost use Rattle.json_text.specs.Found.{IsWithin};
+ghost use Rattle.json_text.specs.Removed.{IsRemoved, IsRemoveFault};
 ghost use Rattle.json_text.specs.Replaced.{IsReplaced, IsReplaceFault};
 
-use crate::ReplaceFault;
+use crate::ChangeFault;
 use crate::children::whole;
+use crate::cutting::without;
 use crate::reading::{check, find};
 use crate::span::Span;
 use jsonptr::Pointer;
 use std::alloc::{AllocError, Global};
 
 /// The text with other bytes in the place of these.
-fn exchanged(alloc: Global, text: &str, place: Span, put: &str) -> Result<String, AllocError>
+pub(crate) fn exchanged(
+    alloc: Global,
+    text: &str,
+    place: Span,
+    put: &str,
+) -> Result<String, AllocError>
     requires { IsWithin text.now place }
     ensures { IfOk result (λ new. string_bytes new
         ≡ take place.start text.now ++ (put.now ++ drop place.end text.now)) }
@@ -42,21 +49,56 @@ pub fn replace(
     text: &str,
     pointer: Pointer,
     value: &str,
-) -> Result<String, ReplaceFault>
+) -> Result<String, ChangeFault>
     ensures replaced { IfOk result (λ new.
         IsReplaced text.now (tokens_of pointer.entry) value.now (string_bytes new)) }
     ensures fault { IfErr result (IsReplaceFault text.now (tokens_of pointer.entry) value.now) }
 {
     if let Err(fault) = check(alloc, text) {
-        return Err(ReplaceFault::Text(fault));
+        return Err(ChangeFault::Text(fault));
     }
     if let Err(fault) = check(alloc, value) {
-        return Err(ReplaceFault::Value(fault));
+        return Err(ChangeFault::Value(fault));
     }
     let Some(place) = find(alloc, text, pointer)? else {
-        return Err(ReplaceFault::NoTarget);
+        return Err(ChangeFault::NoTarget);
     };
     let put = whole(value.as_bytes());
     let new = exchanged(alloc, text, place, &value[put.start..put.end])?;
+    Ok(new)
+}
+
+/// The text without what stands where the pointer leads (RFC 6902, section 4.2), and every other byte
+/// as it was.
+///
+/// Of an object all members of the name go. With a member or an item go the blanks before the next
+/// one and the comma there; of the last one, and not alone, the comma and the blanks before it; of one
+/// that is alone all blanks between the brackets. The whole isn't removed: the pointer needs a token.
+///
+/// ```rust
+/// let text = r#"{"name": "x", "list": [1.50, 2] }"#;
+/// let new = remove(alloc, text, place)?;
+/// // {"name": "x", "list": [1.50] }
+/// ```
+pub fn remove(alloc: Global, text: &str, pointer: Pointer) -> Result<String, ChangeFault>
+    ensures removed { IfOk result (λ new.
+        IsRemoved text.now (tokens_of pointer.entry) (string_bytes new)) }
+    ensures fault { IfErr result (IsRemoveFault text.now (tokens_of pointer.entry)) }
+{
+    if let Err(fault) = check(alloc, text) {
+        return Err(ChangeFault::Text(fault));
+    }
+    let Some((parent, last)) = pointer.split_back() else {
+        return Err(ChangeFault::NoTarget);
+    };
+    let Some(place) = find(alloc, text, parent)? else {
+        return Err(ChangeFault::NoTarget);
+    };
+    let name = last.decoded(alloc)?;
+    let here = &text[place.start..place.end];
+    let Some(less) = without(alloc, here, name.as_str())? else {
+        return Err(ChangeFault::NoTarget);
+    };
+    let new = exchanged(alloc, text, place, less.as_str())?;
     Ok(new)
 }

@@ -19,7 +19,7 @@ use jsonptr::index::Index;
 
 /// The byte at `i`, or a blank past the end.
 #[inline(always)]
-fn byte_at(text: &[u8], i: usize) -> u8
+pub(crate) fn byte_at(text: &[u8], i: usize) -> u8
     ensures within { result ≢ 32 → i < length text.now }
     ensures value { result ≡ get_or text.now i 32 }
 {
@@ -28,7 +28,7 @@ fn byte_at(text: &[u8], i: usize) -> u8
 
 /// Past the operator `c` and the blanks around it.
 #[inline(always)]
-fn after(text: &[u8], from: usize, c: u8) -> Option<usize>
+pub(crate) fn after(text: &[u8], from: usize, c: u8) -> Option<usize>
     requires within { from ≤ length text.now }
     requires operator { is_operator c ≡ true }
     ensures bounds { IfSome result (λ i. (from < i) × (i ≤ length text.now)) }
@@ -51,7 +51,7 @@ fn after(text: &[u8], from: usize, c: u8) -> Option<usize>
 
 /// The value that begins at `start`.
 #[inline(always)]
-fn value_from(text: &[u8], start: usize) -> Span
+pub(crate) fn value_from(text: &[u8], start: usize) -> Span
     requires within { start ≤ length text.now }
     requires stops { start < length text.now → is_space (get_or text.now start 0) ≡ false }
     ensures start { result.start ≡ start }

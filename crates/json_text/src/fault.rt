@@ -29,29 +29,29 @@ impl From<AllocError> for TextFault {
     }
 }
 
-/// Why no value of a text is replaced.
+/// Why a text isn't changed.
 #[derive(Debug, Drop, Error)]
-pub enum ReplaceFault {
+pub enum ChangeFault {
     /// The text isn't read.
     #[error("{0}")]
     Text(TextFault),
-    /// The value's text isn't read.
+    /// The value's text isn't read. [`crate::remove`] has none.
     #[error("the value: {0}")]
     Value(TextFault),
-    /// Nothing stands where the pointer leads.
-    #[error("nothing stands there")]
+    /// The pointer leads to nothing that can be replaced or removed, or nowhere that can be added to.
+    #[error("no such place")]
     NoTarget,
     /// No memory was found.
     #[error("out of memory")]
     Memory(AllocError),
 }
 
-impl From<AllocError> for ReplaceFault {
-    ghost use Rattle.json_text.specs.declared.fault.ReplaceFault.TheVariants.{Memory};
+impl From<AllocError> for ChangeFault {
+    ghost use Rattle.json_text.specs.declared.fault.ChangeFault.TheVariants.{Memory};
 
     ghost from_gives = { λ error fault. fault ≡ Memory error };
 
-    fn from(error: AllocError) -> ReplaceFault {
-        ReplaceFault::Memory(error)
+    fn from(error: AllocError) -> ChangeFault {
+        ChangeFault::Memory(error)
     }
 }

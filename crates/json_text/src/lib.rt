@@ -1,8 +1,9 @@
-//! One place of a JSON text, read or replaced, with no value built.
+//! One place of a JSON text, read or changed, with no value built.
 //!
 //! A text says a tree: of each number its text, of each string what its escapes stand for, and the
 //! members in their order, with names that come twice. [`value_text`] answers with the stretch of the
-//! text where a pointer leads, as it is written there, and [`replace`] exchanges that stretch alone.
+//! text where a pointer leads, as it is written there. [`replace`] exchanges that stretch alone, and
+//! [`remove`] and [`add`] take a member or item out or put one in, in the style of its neighbours.
 //!
 //! ```rust
 //! let text = r#"{"name": "x", "list": [1.50, "\u0041"] }"#;
@@ -11,17 +12,26 @@
 //! ```
 #![tactic(auto)]
 
+mod additions;
+#[cfg(test)]
+mod change_tests;
 mod changes;
 mod children;
+mod cutting;
 mod fault;
+mod growing;
 pub mod laws;
 mod lexemes;
+mod listing;
 mod names;
+mod parts;
 mod reading;
 mod span;
 #[cfg(test)]
 mod tests;
 
-pub use changes::replace;
-pub use fault::{ReplaceFault, TextFault};
+pub use additions::add;
+pub use changes::{remove, replace};
+pub use fault::{ChangeFault, TextFault};
+pub use listing::{Shape, child_texts};
 pub use reading::value_text;

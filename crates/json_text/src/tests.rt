@@ -6,7 +6,7 @@ ghost use Rattle.jsonptr.specs.Pointers.{tokens_of};
 ghost use Rattle.json_text.specs.Pointed.{IsWrittenAt};
 ghost use Rattle.json_text.specs.Spelled.{Says};
 
-use crate::{ReplaceFault, TextFault, replace, value_text};
+use crate::{ChangeFault, Shape, TextFault, add, child_texts, remove, replace, value_text};
 use jsonptr::Pointer;
 use std::alloc::Global;
 use std::test::Fail;
@@ -122,43 +122,73 @@ fn example(rt: HostRuntime) -> Result<(), Fail> {
     Ok(())
 }
 
-fn second_replaced(alloc: Global, place: Pointer) -> Result<String, ReplaceFault> {
+fn second_replaced(alloc: Global, place: Pointer) -> Result<String, ChangeFault> {
     let text = r#"{"name": "x", "list": [1.50, 2] }"#;
     let new = replace(alloc, text, place, "7")?;
     Ok(new)
 }
 
-fn replaced(alloc: Global, text: &str, place: &str, value: &str) -> Result<String, Fail> {
-    let pointer = Pointer::parse(place).map_err(|_| "no pointer")?;
-    Ok(replace(alloc, text, pointer, value).map_err(|_| "refused")?)
+fn second_removed(alloc: Global, place: Pointer) -> Result<String, ChangeFault> {
+    let text = r#"{"name": "x", "list": [1.50, 2] }"#;
+    let new = remove(alloc, text, place)?;
+    Ok(new)
+}
+
+fn second_added(alloc: Global, place: Pointer) -> Result<String, ChangeFault> {
+    let text = r#"{"name": "x", "list": [1.50, 2] }"#;
+    let new = add(alloc, text, place, "7")?;
+    Ok(new)
 }
 
 #[test]
-fn replaces(rt: HostRuntime) -> Result<(), Fail> {
+fn changes(rt: HostRuntime) -> Result<(), Fail> {
     let a = rt.alloc();
     let place = Pointer::parse("/list/1").map_err(|_| "no pointer")?;
     let new = second_replaced(a, place).map_err(|_| "refused")?;
     assert_eq!(rt; new.as_str(), r#"{"name": "x", "list": [1.50, 7] }"#);
-    let text = "{\n  \"a\": 1.50,\n  \"b\" : [1e400, 2],\n  \"\\u0061\": -0\n}\n";
-    let new = replaced(a, text, "/b/1", " {\"c\": []}\n")?;
-    let wanted = "{\n  \"a\": 1.50,\n  \"b\" : [1e400, {\"c\": []}],\n  \"\\u0061\": -0\n}\n";
-    assert_eq!(rt; new.as_str(), wanted);
-    let new = replaced(a, text, "/a", "3")?;
-    let wanted = "{\n  \"a\": 1.50,\n  \"b\" : [1e400, 2],\n  \"\\u0061\": 3\n}\n";
-    assert_eq!(rt; new.as_str(), wanted);
-    assert_eq!(rt; replaced(a, " 1 ", "", "[]")?.as_str(), " [] ");
+    let new = second_removed(a, place).map_err(|_| "refused")?;
+    assert_eq!(rt; new.as_str(), r#"{"name": "x", "list": [1.50] }"#);
+    let new = second_added(a, place).map_err(|_| "refused")?;
+    assert_eq!(rt; new.as_str(), r#"{"name": "x", "list": [1.50, 7, 2] }"#);
+    Ok(())
+}
+
+/// Whether these are the texts in a value.
+fn has_texts(alloc: Global, text: &str, wanted: &[(&str, &str)]) -> bool {
+    match child_texts(alloc, text) {
+        Ok(found) => found.as_slice() == wanted,
+        Err(_) => false,
+    }
+}
+
+fn example_texts(alloc: Global) -> Result<bool, Fail> {
+    let found = child_texts(alloc, r#"{"a": 1.50, "b": [ ]}"#)?;
+    Ok(found.as_slice() == [("\"a\"", "1.50"), ("\"b\"", "[ ]")].as_slice())
+}
+
+#[test]
+fn listed(rt: HostRuntime) -> Result<(), Fail> {
+    let a = rt.alloc();
+    let text = " {\"a\" : 1.50,\n\"\\u0061\":[ {} , \"]\"] }\t";
+    assert!(rt;
+        has_texts(
+            a,
+            text,
+            &[("\"a\"", "1.50"), ("\"\\u0061\"", "[ {} , \"]\"]")]
+        )
+    );
+    assert!(rt; has_texts(a, "[ {} , \"]\"]", &[("", "{}"), ("", "\"]\"")]));
+    assert!(rt; has_texts(a, "[ ]", &[]) && has_texts(a, " 1 ", &[]));
+    assert!(rt; example_texts(a)?);
     Ok(())
 }
 
 #[test]
-fn replaces_nothing(rt: HostRuntime) -> Result<(), Fail> {
-    let a = rt.alloc();
-    let place = Pointer::parse("/2").map_err(|_| "no pointer")?;
-    let none = replace(a, "[1,2]", place, "3");
-    assert!(rt; matches!(none, Err(ReplaceFault::NoTarget)));
-    let bad = replace(a, "[1,2]", place, "03");
-    assert!(rt; matches!(bad, Err(ReplaceFault::Value(TextFault::NotJson))));
-    let bad = replace(a, "[1,2", place, "3");
-    assert!(rt; matches!(bad, Err(ReplaceFault::Text(TextFault::NotJson))));
-    Ok(())
+fn shapes(rt: HostRuntime) {
+    assert!(rt; matches!(Shape::of(" {}"), Shape::Object));
+    assert!(rt; matches!(Shape::of("\n[{}]"), Shape::List));
+    assert!(rt; matches!(Shape::of("\"[\""), Shape::String));
+    assert!(rt;
+        matches!(Shape::of("-1"), Shape::Atom) && matches!(Shape::of("null "), Shape::Atom)
+    );
 }

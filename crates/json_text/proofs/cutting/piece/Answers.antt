@@ -1,0 +1,29 @@
+use Rattle.std.proofs.Common.{◌≡◌, ◌++◌, None, take, drop, sym, subst}
+use Rattle.std.specs.Prelude.{MatchOption}
+use Rattle.json_text.specs.Less.{IsLessText}
+use Rattle.json_text.specs.Pointed.{child}
+use Rattle.json_text.specs.Spelled.{Says}
+use Rattle.json_text.proofs.Rows.Objects.{leaf_child}
+use Rattle.json_text.proofs.Rows.Less.{less_text, none_chosen}
+use Rattle.json_text.proofs.cutting.piece.Goals as goal
+
+pub returns-in_err-row-clause-piece : goal.returns-in_err-row-clause-piece
+returns-in_err-row-clause-piece c = λ v says.
+    let t = c.args.text.now in
+    let k = c.args.name.now in
+    subst (λ x. MatchOption x (child k v ≡ None) (λ p. IsLessText t v k (take p.start t ++ drop p.end t))) (sym c.from_residual.ensures) (leaf_child k v (c.in_err-row.ensures.row v says))
+
+pub returns-in_err-found-clause-piece : goal.returns-in_err-found-clause-piece
+returns-in_err-found-clause-piece c = λ v says.
+    let t = c.args.text.now in
+    let k = c.args.name.now in
+    let (cs, is, at) = c.in_ok-row.ensures.row v says in
+    subst (λ x. MatchOption x (child k v ≡ None) (λ p. IsLessText t v k (take p.start t ++ drop p.end t))) (sym c.from_residual-in_err-found.ensures)
+    (subst (λ x. child k x ≡ None) (sym is) (none_chosen c.in_ok-row.row.named cs k c.in_ok-number.number (c.in_ok-number.ensures.number cs at.0) (c.in_err-found.ensures.found cs at)))
+
+pub returns-clause-piece : goal.returns-clause-piece
+returns-clause-piece c = λ v says.
+    let t = c.args.text.now in
+    let (cs, is, at) = c.in_ok-row.ensures.row v says in
+    subst (λ x. IsLessText t x c.args.name.now (take c.edges.result.start t ++ drop c.edges.result.end t)) (sym is)
+    (less_text t c.args.name.now c.in_ok-row.row.named cs c.in_ok-number.number c.in_ok-found.found c.edges.result (subst (Says t) is says) (c.in_ok-number.ensures.number cs at.0) (c.in_ok-found.ensures.found cs at) c.in_ok-found.ensures.order.1 c.in_ok-found.ensures.order.0 c.edges.ensures.edges)

@@ -1,0 +1,65 @@
+-- The values in an object or a list, each with its text.
+use Rattle.std.specs.Prelude.{◌≡◌, ◌++◌, ℕ, List, [], ◌∷◌, Bool, true, false, ⊤}
+use Rattle.std.specs.Borrow.{Bor}
+use Rattle.json.specs.Json.{Json, null, boolean, number, string, array, object, Items, no_items, item, Members, no_members, member}
+use Rattle.json_text.specs.Places.{left_at}
+use Rattle.json_text.specs.Pointed.{IsTight}
+use Rattle.json_text.specs.Rows.{Child, inside, others}
+use Rattle.json_text.specs.declared.span.Span.{Span}
+use Rattle.json.specs.Lex.{colon}
+use Rattle.json_text.specs.Spelled.{Says, spelled}
+use Rattle.json_text.specs.declared.listing.Shape.{Shape}
+use Rattle.json_text.specs.declared.listing.Shape.TheVariants.{Object, List as ListShape, String, Atom}
+
+-- the text says j, and neither begins nor ends with a blank
+abbrev pub IsTextOf : List ℕ → Json → Type 0
+IsTextOf s j = Says s j × IsTight s
+
+-- a name's text and a value's
+abbrev pub Texts : Type 0
+Texts = Bor (List ℕ) × Bor (List ℕ)
+
+abbrev pub AreTextsOfItems : List Texts → Items → Type 0
+AreTextsOfItems [] no_items = ⊤
+AreTextsOfItems (e ∷ es) (item j js) = (e.0.now ≡ []) × IsTextOf e.1.now j × AreTextsOfItems es js
+AreTextsOfItems es js = ⊥
+
+abbrev pub AreTextsOfMembers : List Texts → Members → Type 0
+AreTextsOfMembers [] no_members = ⊤
+AreTextsOfMembers (e ∷ es) (member k j ms) = IsTextOf e.0.now (string k) × IsTextOf e.1.now j × AreTextsOfMembers es ms
+AreTextsOfMembers es ms = ⊥
+
+-- the texts of j's members, or of its items, in their order
+abbrev pub AreTextsIn : Json → List Texts → Type 0
+AreTextsIn (array js) es = AreTextsOfItems es js
+AreTextsIn (object ms) es = AreTextsOfMembers es ms
+AreTextsIn j es = es ≡ []
+
+abbrev pub shape_of : Json → Shape
+shape_of null = Atom
+shape_of (boolean b) = Atom
+shape_of (number s) = Atom
+shape_of (string s) = String
+shape_of (array js) = ListShape
+shape_of (object ms) = Object
+
+-- ---- for private clauses
+
+abbrev pub IsNameOf : Bool → List ℕ → List ℕ → Type 0
+IsNameOf true s k = IsTextOf s (string k)
+IsNameOf false s k = s ≡ []
+
+abbrev pub AreTextsOf : Bool → List Texts → List Child → Type 0
+AreTextsOf b [] [] = ⊤
+AreTextsOf b (e ∷ es) (c ∷ cs) = IsNameOf b e.0.now c.0 × IsTextOf e.1.now c.1 × AreTextsOf b es cs
+AreTextsOf b es cs = ⊥
+
+-- of the children cs, found has the texts of those before the place i
+abbrev pub AreListed : List ℕ → Bool → List Child → List Texts → ℕ → Type 0
+AreListed t b cs found i = (more : List Child) × (left_at t i ≡ inside b more) × ((es : List Texts) → AreTextsOf b es more → AreTextsOf b (found ++ es) cs)
+
+-- the name of the first of these children, if it has one, ends where s does
+abbrev pub NamesAt : List ℕ → Bool → List Child → Span → Type 0
+NamesAt t b [] s = ⊤
+NamesAt t true (c ∷ cs) s = (left_at t s.start ≡ spelled (string c.0) ++ (colon ∷ (spelled c.1 ++ others true cs))) × (left_at t s.end ≡ colon ∷ (spelled c.1 ++ others true cs))
+NamesAt t false (c ∷ cs) s = s.end ≡ s.start

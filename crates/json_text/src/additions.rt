@@ -1,0 +1,93 @@
+//! A text with a value added, and every other byte kept.
+
+ghost use Rattle.std.specs.Prelude.{◌≡◌, ◌-◌, None, IfNone, IfSome, IfOk, IfErr, drop, take};
+ghost use Rattle.std.specs.String.{string_bytes};
+ghost use Rattle.json.specs.Json.{Json};
+ghost use Rattle.jsonptr.specs.Pointers.{tokens_of};
+ghost use Rattle.json_text.specs.Added.{IsAdded, IsAddFault};
+ghost use Rattle.json_text.specs.Found.{IsWithin};
+ghost use Rattle.json_text.specs.Less.{IsObject};
+ghost use Rattle.json_text.specs.Pointed.{tree_at, StandsBetween};
+ghost use Rattle.json_text.specs.Spelled.{Says};
+
+use crate::ChangeFault;
+use crate::changes::{exchanged, replace};
+use crate::children::whole;
+use crate::growing::with_child;
+use crate::parts::is_object;
+use crate::reading::{check, find};
+use crate::span::Span;
+use jsonptr::Pointer;
+use std::alloc::{AllocError, Global};
+
+/// Where a member stands to which the pointer leads: an `add` exchanges its value.
+fn standing_member(
+    alloc: Global,
+    text: &str,
+    pointer: Pointer,
+    parent: &str,
+) -> Result<Option<Span>, AllocError>
+    ensures stands { IfOk result (λ found. (j : Json) → Says text.now j → IfSome found
+        (λ s. StandsBetween (take s.start text.now)
+        (take (s.end - s.start) (drop s.start text.now)) (drop s.end text.now) j
+        (tokens_of pointer.entry))) }
+    ensures object { IfOk result (λ found. (v : Json) → Says parent.now v
+        → IfSome found (λ s. IsObject v)) }
+    ensures none { IfOk result (λ found. (j v : Json) → Says text.now j → Says parent.now v
+        → IsObject v → IfNone found (tree_at (tokens_of pointer.entry) j ≡ None)) }
+    ensures within { IfOk result (λ found. IfSome found (IsWithin text.now)) }
+{
+    if is_object(parent.as_bytes()) {
+        find(alloc, text, pointer)
+    } else {
+        Ok(None)
+    }
+}
+
+/// The text with a value added where the pointer leads (RFC 6902, section 4.1), and every other byte as
+/// it was.
+///
+/// The whole value, and a member that stands, of several of one name the last, is exchanged. A new
+/// member comes behind the last, a new item before the one at the index, or behind the last for `-` and
+/// the index past it. The value is put in as it is written, without the blanks around it.
+///
+/// Behind the comma come the blanks that stand before the last member or item, or before the item that
+/// the new one precedes (before the first those of the second). A member has the last one's colon with
+/// the blanks around it. With no neighbour the value comes right behind the bracket, with no blank.
+///
+/// ```rust
+/// let text = r#"{"name": "x", "list": [1.50, 2] }"#;
+/// let new = add(alloc, text, place, "7")?;
+/// // {"name": "x", "list": [1.50, 7, 2] }
+/// ```
+pub fn add(alloc: Global, text: &str, pointer: Pointer, value: &str) -> Result<String, ChangeFault>
+    ensures added { IfOk result (λ new.
+        IsAdded text.now (tokens_of pointer.entry) value.now (string_bytes new)) }
+    ensures fault { IfErr result (IsAddFault text.now (tokens_of pointer.entry) value.now) }
+{
+    if let Err(fault) = check(alloc, text) {
+        return Err(ChangeFault::Text(fault));
+    }
+    if let Err(fault) = check(alloc, value) {
+        return Err(ChangeFault::Value(fault));
+    }
+    let Some((parent, last)) = pointer.split_back() else {
+        return replace(alloc, text, pointer, value);
+    };
+    let Some(place) = find(alloc, text, parent)? else {
+        return Err(ChangeFault::NoTarget);
+    };
+    let here = &text[place.start..place.end];
+    let put = whole(value.as_bytes());
+    let put = &value[put.start..put.end];
+    if let Some(old) = standing_member(alloc, text, pointer, here)? {
+        let new = exchanged(alloc, text, old, put)?;
+        return Ok(new);
+    }
+    let name = last.decoded(alloc)?;
+    let Some(grown) = with_child(alloc, here, name.as_str(), put)? else {
+        return Err(ChangeFault::NoTarget);
+    };
+    let new = exchanged(alloc, text, place, grown.as_str())?;
+    Ok(new)
+}

@@ -1,0 +1,245 @@
+//! A value put into the text of an object or a list, in the style of its neighbours.
+
+ghost use Rattle.std.specs.Prelude.{◌≡◌, ◌≢◌, ◌<◌, ◌≤◌, ◌+◌, ◌^◌, ◌++◌, List, None, true, false, IfOk, IfSome, MatchOption, length, take, drop, []};
+ghost use Rattle.std.specs.Str.{IsUtf8, IsCharBoundary};
+ghost use Rattle.std.specs.String.{string_bytes};
+ghost use Rattle.json.specs.Json.{Json};
+ghost use Rattle.json.specs.Print.{quoted};
+ghost use Rattle.json_text.specs.Added.{IsPutInto};
+ghost use Rattle.json_text.specs.Changed.{add_child};
+ghost use Rattle.json_text.specs.Less.{IsObject};
+ghost use Rattle.json_text.specs.Pointed.{child};
+ghost use Rattle.json_text.specs.Spelled.{Says};
+ghost use Rattle.json_text.specs.Rows.{AreInOrder, CutNone, Child, HasRow, IsChild, IsComma, IsGap, IsInside};
+ghost use Rattle.json_text.specs.Rows.{IsMember, IsMemberAhead, IsNumbered, IsTrail};
+
+use crate::lexemes::{blank_end, string_end};
+use crate::parts::{Numbered, last_part, part_at, row_in};
+use json::Writer;
+use jsonptr::index::Index;
+use std::alloc::{AllocError, Global};
+
+/// A name as a JSON string.
+fn quoted(alloc: Global, name: &str) -> Result<String, AllocError>
+    ensures { IfOk result (λ s. string_bytes s ≡ quoted name.now) }
+{
+    let mut out = Writer::new(Vec::new(alloc));
+    out.string(name)?;
+    match String::from_utf8(out.into_inner()) {
+        Ok(text) => Ok(text),
+        Err(_) => unreachable!(),
+    }
+}
+
+/// The text with a value put in at a place, and what goes with it before and behind.
+fn put_in(
+    alloc: Global,
+    text: &str,
+    at: usize,
+    around: (&str, &str),
+    value: &str,
+) -> Result<String, AllocError>
+    requires fits { at ≤ length text.now }
+    requires boundary { IsCharBoundary text.now at }
+    ensures { IfOk result (λ new. string_bytes new ≡ take at text.now
+        ++ (around.entry.0.now ++ (value.now ++ (around.entry.1.now ++ drop at text.now)))) }
+{
+    let (ahead, trail) = around;
+    let mut new = String::with_capacity(alloc, text.len())?;
+    new.push_str(&text[..at])?;
+    new.push_str(ahead)?;
+    new.push_str(value)?;
+    new.push_str(trail)?;
+    new.push_str(&text[at..])?;
+    Ok(new)
+}
+
+/// Where the blanks of a member or an item begin, behind the bracket or the comma before it.
+fn gap(text: &[u8], number: usize, found: Numbered) -> usize
+    requires child { IsChild text.now number found }
+    requires order { found.before ≤ found.part.start }
+    requires part { AreInOrder text.now found.part }
+    ensures gap { IsGap text.now result found.part.start }
+    ensures boundary { (IsUtf8 text.now → IsCharBoundary text.now found.before)
+        → IsUtf8 text.now → IsCharBoundary text.now result }
+{
+    if number == 0 {
+        found.before
+    } else {
+        blank_end(text, found.before) + 1
+    }
+}
+
+/// What stands before a value behind the last item: a comma, and the blanks of that item.
+fn comma(alloc: Global, text: &str, number: usize, last: Numbered) -> Result<String, AllocError>
+    requires child { IsChild text.now number last }
+    requires order { last.before ≤ last.part.start }
+    requires part { AreInOrder text.now last.part }
+    requires boundary { IsCharBoundary text.now last.before × CutNone text.now last.part }
+    ensures { IfOk result (λ s. IsComma text.now last.part.start (string_bytes s)) }
+{
+    let gap = gap(text.as_bytes(), number, last);
+    let mut ahead = String::new(alloc);
+    ahead.push(',')?;
+    ahead.push_str(&text[gap..last.part.start])?;
+    Ok(ahead)
+}
+
+/// The same behind the last member: and then the name, and that member's colon.
+fn label(
+    alloc: Global,
+    text: &str,
+    number: usize,
+    last: Numbered,
+    name: &str,
+) -> Result<String, AllocError>
+    requires member { IsMember text.now number last }
+    requires order { last.before ≤ last.part.start }
+    requires part { AreInOrder text.now last.part }
+    requires boundary { IsCharBoundary text.now last.before × CutNone text.now last.part }
+    ensures { IfOk result (λ s. IsMemberAhead text.now last name.now (string_bytes s)) }
+{
+    let mut ahead = comma(alloc, text, number, last)?;
+    let name = quoted(alloc, name)?;
+    let name_end = string_end(text.as_bytes(), last.part.start + 1);
+    ahead.push_str(name.as_str())?;
+    ahead.push_str(&text[name_end..last.part.value.start])?;
+    Ok(ahead)
+}
+
+/// The text of an object, whose inside begins at `start`, with a new member.
+fn with_member(
+    alloc: Global,
+    text: &str,
+    start: usize,
+    name: &str,
+    value: &str,
+) -> Result<String, AllocError>
+    requires within { start ≤ length text.now }
+    requires boundary { IsCharBoundary text.now start }
+    requires row { HasRow text.now true start }
+    requires new { (v : Json) → Says text.now v → child name.now v ≡ None }
+    ensures { IfOk result (λ new. (v : Json) → Says text.now v
+        → IsPutInto text.now v name.now value.now (string_bytes new)) }
+{
+    let Some((number, last)) = last_part(text.as_bytes(), start, true) else {
+        let mut ahead = quoted(alloc, name)?;
+        ahead.push_str(":")?;
+        return put_in(alloc, text, start, (ahead.as_str(), ""), value);
+    };
+    let ahead = label(alloc, text, number, last, name)?;
+    let end = last.part.value.end;
+    put_in(alloc, text, end, (ahead.as_str(), ""), value)
+}
+
+/// The second item, if `number` is that of the first.
+fn second(text: &[u8], start: usize, number: usize) -> Option<Numbered>
+    requires { start ≤ length text.now }
+    ensures second { (cs : List Child) → IsInside text.now false cs start
+        → MatchOption result (number ≡ 0 → drop 1 cs ≡ [])
+        (λ r. (number ≡ 0) × IsNumbered text.now false cs 1 r) }
+    ensures order { IfSome result (λ r. (r.before ≤ r.part.start) × AreInOrder text.now r.part) }
+    ensures boundary { (IsUtf8 text.now → IsCharBoundary text.now start) → IfSome result
+        (λ r. (IsUtf8 text.now → IsCharBoundary text.now r.before) × CutNone text.now r.part) }
+{
+    if number == 0 {
+        part_at(text, start, false, 1)
+    } else {
+        None
+    }
+}
+
+/// What stands behind a value before an item: a comma, and the blanks of that item, but before the
+/// first those of the second, if there is one.
+fn trail(
+    alloc: Global,
+    text: &str,
+    start: usize,
+    number: usize,
+    found: Numbered,
+) -> Result<String, AllocError>
+    requires within { start ≤ length text.now }
+    requires inside { IsCharBoundary text.now start }
+    requires row { HasRow text.now false start }
+    requires child { IsChild text.now number found }
+    requires order { found.before ≤ found.part.start }
+    requires part { AreInOrder text.now found.part }
+    requires boundary { IsCharBoundary text.now found.before × CutNone text.now found.part }
+    ensures { IfOk result (λ s. IsTrail text.now start number found (string_bytes s)) }
+{
+    match second(text.as_bytes(), start, number) {
+        Some(second) => comma(alloc, text, 1, second),
+        None => comma(alloc, text, number, found),
+    }
+}
+
+/// The text of a list, whose inside begins at `start`, with a new item.
+fn with_item(
+    alloc: Global,
+    text: &str,
+    start: usize,
+    name: &str,
+    value: &str,
+) -> Result<Option<String>, AllocError>
+    requires within { start ≤ length text.now }
+    requires boundary { IsCharBoundary text.now start }
+    requires row { HasRow text.now false start }
+    ensures { IfOk result (λ grown. (v : Json) → Says text.now v
+        → MatchOption grown ((w : Json) → add_child name.now w v ≡ None)
+        (λ new. IsPutInto text.now v name.now value.now (string_bytes new))) }
+{
+    let Ok(index) = Index::parse(name) else {
+        return Ok(None);
+    };
+    let last = last_part(text.as_bytes(), start, false);
+    let Ok(number) = index.for_len_incl(count(last)) else {
+        return Ok(None);
+    };
+    if let Some(found) = part_at(text.as_bytes(), start, false, number) {
+        let trail = trail(alloc, text, start, number, found)?;
+        let new = put_in(alloc, text, found.part.start, ("", trail.as_str()), value)?;
+        return Ok(Some(new));
+    }
+    let Some((number, last)) = last else {
+        let new = put_in(alloc, text, start, ("", ""), value)?;
+        return Ok(Some(new));
+    };
+    let ahead = comma(alloc, text, number, last)?;
+    let end = last.part.value.end;
+    let new = put_in(alloc, text, end, (ahead.as_str(), ""), value)?;
+    Ok(Some(new))
+}
+
+/// How many there are, by the last.
+fn count(last: Option<(usize, Numbered)>) -> usize
+    requires { IfSome last (λ r. r.0 + 1 < 2 ^ 64) }
+    ensures { MatchOption last (result ≡ 0) (λ r. result ≡ r.0 + 1) }
+{
+    match last {
+        Some((number, _)) => number + 1,
+        None => 0,
+    }
+}
+
+/// The text of an object or a list with a value put in as what a token names.
+pub(crate) fn with_child(
+    alloc: Global,
+    text: &str,
+    name: &str,
+    value: &str,
+) -> Result<Option<String>, AllocError>
+    requires says { (v : Json) × Says text.now v }
+    requires new { (v : Json) → Says text.now v → IsObject v → child name.now v ≡ None }
+    ensures { IfOk result (λ grown. (v : Json) → Says text.now v
+        → MatchOption grown ((w : Json) → add_child name.now w v ≡ None)
+        (λ new. IsPutInto text.now v name.now value.now (string_bytes new))) }
+{
+    let Some(row) = row_in(text.as_bytes()) else {
+        return Ok(None);
+    };
+    if !row.named {
+        return with_item(alloc, text, row.start, name, value);
+    }
+    let new = with_member(alloc, text, row.start, name, value)?;
+    Ok(Some(new))
+}
