@@ -1,0 +1,4 @@
+pub mod Matching
+pub mod Reading
+pub mod Same
+pub mod Trees
