@@ -1,0 +1,15 @@
+pub mod Agree
+pub mod Alike
+pub mod Changes
+pub mod Depths
+pub mod Made
+pub mod Members
+pub mod Outcomes
+pub mod Outlines
+pub mod Patches
+pub mod Reached
+pub mod Readings
+pub mod Runs
+pub mod Stepped
+pub mod Steps
+pub mod Whole

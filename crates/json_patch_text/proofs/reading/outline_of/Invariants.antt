@@ -1,0 +1,10 @@
+use Rattle.std.proofs.Common.{drop, option_map}
+use Rattle.json.specs.Json.{Json}
+use Rattle.serde_json.specs.View.{members_view}
+use Rattle.json_text.specs.Spelled.{IsShallowText}
+use Rattle.json_patch_text.specs.Outline.{IsAhead}
+use Rattle.json_patch_text.proofs.reading.outline_of.Given as goal
+
+abbrev pub invariant-loop-member : goal.invariant-loop-member
+invariant-loop-member l =
+    (j : Json) → IsShallowText l.text j → IsAhead j (drop l.member-index l.member-items) (members_view l.members.entries) (option_map (λ s. s.now) l.value)

@@ -1,0 +1,10 @@
+pub mod Changed
+pub mod Made
+pub mod Operations
+pub mod Outline
+pub mod Patched
+pub mod Reached
+pub mod Run
+pub mod Step
+pub mod Stopped
+pub mod TextOperations

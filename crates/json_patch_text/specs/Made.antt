@@ -1,0 +1,93 @@
+-- What an operation makes of a text, in trees and byte by byte (RFC 6902, section 4).
+use Rattle.std.specs.Prelude.{◌≡◌, ◌<◌, ℕ, List, [], ◌∷◌, take, Option, Some, None, Result, Ok, Err, ⊤}
+use Rattle.std.specs.String.{string_bytes}
+use Rattle.std.specs.declared.string.String.{String}
+use Rattle.json.specs.Json.{Json, max_depth}
+use Rattle.jsonptr.specs.Text.{Pointer}
+use Rattle.json_patch_operation.specs.declared.error.PatchErrorKind.TheVariants.{InvalidPointer}
+use Rattle.json_patch_text.specs.Operations.{TreeOperation}
+use Rattle.json_patch_text.specs.Step.{ComesTo}
+use Rattle.json_patch_text.specs.declared.fault.StepFault.{StepFault}
+use Rattle.json_patch_text.specs.declared.fault.StepFault.TheVariants as step
+use Rattle.json_patch_text.specs.declared.operation.TextOperation.{TextOperation}
+use Rattle.json_patch_text.specs.declared.operation.TextOperation.TheVariants.{Add, Remove, Replace, Move, Copy, Test}
+use Rattle.json_text.specs.Added.{IsAdded}
+use Rattle.json_text.specs.Faults.{nesting}
+use Rattle.json_text.specs.Pointed.{IsWrittenAt}
+use Rattle.json_text.specs.Removed.{IsRemoved}
+use Rattle.json_text.specs.Replaced.{IsReplaced}
+use Rattle.json_text.specs.Spelled.{Says}
+use Rattle.json_text.specs.declared.fault.ChangeFault.{ChangeFault}
+use Rattle.json_text.specs.declared.fault.ChangeFault.TheVariants as change
+use Rattle.json_text.specs.declared.fault.TextFault.{TextFault}
+use Rattle.json_text.specs.declared.fault.TextFault.TheVariants.{NotJson, TooDeep, Memory}
+
+-- ---- the bytes
+
+-- the bytes of the value at F, as they stand there, are added at P
+abbrev pub IsCopied : List ℕ → Pointer → Pointer → List ℕ → Type 0
+IsCopied text F P new = (i : Json) × (s : List ℕ) × Says text i × IsWrittenAt text i F s × IsAdded text P s new
+
+-- and what stood at F is removed before
+abbrev pub IsMoved : List ℕ → Pointer → Pointer → List ℕ → Type 0
+IsMoved text F P new = (i : Json) × (s : List ℕ) × (less : List ℕ) × Says text i × IsWrittenAt text i F s × IsRemoved text F less × IsAdded less P s new
+
+-- new is the text after this operation, with every other byte kept
+abbrev pub IsMadeIn : List ℕ → TextOperation → List ℕ → Type 0
+IsMadeIn text (Add P s) new = IsAdded text P s.now new
+IsMadeIn text (Remove P) new = IsRemoved text P new
+IsMadeIn text (Replace P s) new = IsReplaced text P s.now new
+IsMadeIn text (Move F P) new = IsMoved text F P new
+IsMadeIn text (Copy F P) new = IsCopied text F P new
+IsMadeIn text (Test P s) new = new ≡ text
+
+-- the same of a list of operations, one after another
+abbrev pub AreMadeIn : List ℕ → List TextOperation → List ℕ → Type 0
+AreMadeIn text [] new = new ≡ text
+AreMadeIn text (o ∷ os) new = (next : List ℕ) × IsMadeIn text o next × AreMadeIn next os new
+
+-- the operations before the one at k leave a text in which more than 128 objects and arrays are open at once
+abbrev pub IsTooDeepAt : List ℕ → List TextOperation → ℕ → Type 0
+IsTooDeepAt text os k = (left : List ℕ) × AreMadeIn text (take k os) left × (max_depth < nesting left)
+
+-- ---- for private clauses: a step
+
+-- new says what the operation comes to from i
+abbrev pub IsLeft : List ℕ → Json → TreeOperation → Type 0
+IsLeft new i op = (j : Json) × Says new j × ComesTo i op (Ok j)
+
+-- why the text isn't read, but for want of memory
+abbrev pub IsNoText : List ℕ → TextFault → Type 0
+IsNoText text NotJson = (j : Json) → ¬ Says text j
+IsNoText text TooDeep = max_depth < nesting text
+IsNoText text (Memory m) = ⊥
+
+-- why it isn't made in the text, which says i
+abbrev pub IsStopped : List ℕ → Json → TreeOperation → StepFault → Type 0
+IsStopped text i op (step.Refused kind) = ComesTo i op (Err kind)
+IsStopped text i op (step.Text f) = IsNoText text f
+IsStopped text i op (step.Memory m) = ⊤
+
+-- with a new text, or none where it is as it was
+abbrev pub IsStepped : {A : Type 0} → List ℕ → Json → TreeOperation → Result (Option (String A)) StepFault → Type 0
+IsStepped text i op (Ok None) = ComesTo i op (Ok i)
+IsStepped text i op (Ok (Some new)) = IsLeft (string_bytes new) i op
+IsStepped text i op (Err f) = IsStopped text i op f
+
+-- the text is as it was where there is no other
+abbrev pub text_or : {A : Type 0} → List ℕ → Option (String A) → List ℕ
+text_or text None = text
+text_or text (Some new) = string_bytes new
+
+-- ---- which fault that of a call becomes
+
+abbrev pub of_text : TextFault → StepFault
+of_text NotJson = step.Text NotJson
+of_text TooDeep = step.Text TooDeep
+of_text (Memory m) = step.Memory m
+
+abbrev pub of_change : ChangeFault → StepFault
+of_change (change.Text f) = of_text f
+of_change (change.Value f) = of_text f
+of_change change.NoTarget = step.Refused InvalidPointer
+of_change (change.Memory m) = step.Memory m

@@ -1,0 +1,24 @@
+//! A JSON text patched in place (RFC 6902): [`patch_text`], and what it is to patch a text, in
+//! definitions and their laws.
+//!
+//! Every byte that no operation changes is kept: blanks, the order of members, `1.50` and `"\u0061"` as
+//! they are written.
+//!
+//! A text may say numbers that no document of JSON Patch has, as `1.50`. So the operations stand on
+//! trees, in which a number is its text, and what they do is said by every reading of the numbers
+//! (`json_reading`): under each one a tree is a document, and the operations lead from the document of
+//! the one tree to the document of the other.
+#![tactic(auto)]
+
+mod fault;
+pub mod laws;
+mod operation;
+mod patch;
+mod reading;
+mod run;
+mod step;
+#[cfg(test)]
+mod tests;
+
+pub use fault::PatchTextFault;
+pub use patch::patch_text;
