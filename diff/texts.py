@@ -1,0 +1,190 @@
+#!/usr/bin/env python3
+"""Random JSON texts, patched in place, against a model of the bytes.
+
+    diff/texts.py [--seed S] [--cases N] --ours PROGRAM [--spoil]
+
+PROGRAM is that of diff/texts.rt.txt, which `diff/build FOLDER json_patch_texts diff/texts.rt.txt
+json_patch_text` proves and builds. The texts have blanks of all kinds anywhere, names and strings with
+escapes, names that come twice, decimals and exponents of any size, and empty objects and lists. Each
+answer has to be the model's (`texts_model`), byte by byte, and each refusal its number, path and kind.
+In one case of eight a byte of the text or of the patch is changed or cut off: then there has to be an answer
+or a named refusal. The run fails where one of this doesn't hold, and where a kind of operation was never
+accepted or a kind of refusal never came. With `--spoil` a byte of each new text is changed before it is
+compared: then it fails where one isn't found out."""
+import argparse
+import json
+import random
+import subprocess
+import sys
+from collections import Counter
+
+from texts_model import at_tokens, patched, read, tokens_of
+
+NAMES = ("a", "b", "", "a/b", "m~n", "\u00e9", "\n", "\U0001f600", "-", "0", "1")
+NUMBERS = ("0", "-0", "1", "1.0", "1.50", "15e-1", "1.5", "-1", "-0.0e5", "1e400", "10E+399", "1e-400", "100", "1e2",
+           "18446744073709551616", "9007199254740993", "0.1", "0.10000000000000001")
+BATCH = 2000
+KINDS = ("value did not match", "path is invalid", '"from" path is invalid', "cannot move the value inside itself")
+
+
+class Texts:
+    """Texts and patches, the same for one seed."""
+
+    def __init__(self, seed):
+        self.random = random.Random(seed)
+        self.style = 0
+
+    def blanks(self):
+        if self.style == 0:
+            return ""
+        return "".join(self.random.choice(" \t\n\r ") for _ in range(self.random.choice((0, 0, 1, 2))))
+
+    def string(self, said):
+        """A string, with escapes in the place of some of its characters."""
+        written = json.dumps(said, ensure_ascii=self.random.random() < 0.5)
+        if said and self.random.random() < 0.3:
+            first = ord(said[0])
+            if first < 0x10000:
+                return f'"\\u{first:04{self.random.choice("xX")}}' + json.dumps(said[1:])[1:]
+        return written.replace("/", "\\/") if self.random.random() < 0.3 else written
+
+    def value(self, depth):
+        kind = self.random.randrange(8 if depth else 5)
+        if kind < 2:
+            return self.random.choice(NUMBERS)
+        if kind == 2:
+            return self.random.choice(("true", "false", "null"))
+        if kind < 5:
+            return self.string(self.random.choice(NAMES + ("x" * 5,)))
+        count = self.random.choice((0, 1, 2, 3, 4))
+        if kind == 5:
+            return self.row("[]", [self.value(depth - 1) for _ in range(count)])
+        members = []
+        for _ in range(count):
+            name = self.string(self.random.choice(NAMES))
+            members.append(name + self.blanks() + ":" + self.blanks() + self.value(depth - 1))
+        return self.row("{}", members)
+
+    def row(self, brackets, parts):
+        inside = ",".join(self.blanks() + part + self.blanks() for part in parts) if parts else self.blanks()
+        return brackets[0] + inside + brackets[1]
+
+    def text(self, depth):
+        self.style = self.random.randrange(3)
+        return self.blanks() + self.value(depth) + self.blanks()
+
+    def pointer(self, text):
+        """One that leads somewhere, mostly."""
+        node, tokens = read(text), []
+        while node.parts and self.random.random() < 0.8:
+            number = self.random.randrange(len(node.parts))
+            part = node.parts[number]
+            tokens.append(part[1] if node.kind == "object" else str(number))
+            node = part[3]
+        if self.random.random() < 0.3:
+            tokens.append(self.random.choice(NAMES + ("01", "2")))
+        return "".join("/" + token.replace("~", "~0").replace("/", "~1") for token in tokens)
+
+    def operation(self, text):
+        op = self.random.choice(("add", "add", "remove", "replace", "move", "copy", "test"))
+        operation, put = {"op": op, "path": self.pointer(text)}, None
+        if op in ("move", "copy"):
+            operation["from"] = self.pointer(text)
+        if op in ("add", "replace", "test"):
+            put = self.value(self.random.choice((0, 0, 1, 2)))
+            if op == "test" and self.random.random() < 0.6:
+                put = self.there(text, operation["path"]) or put
+        return operation, put
+
+    @staticmethod
+    def there(text, path):
+        node = at_tokens(read(text), tokens_of(path))
+        return node and text[node.start:node.end]
+
+    def operations(self, text):
+        made = []
+        for _ in range(self.random.choice((0, 1, 1, 1, 2, 3))):
+            made.append(self.operation(text))
+            after, _ = patched(text, made[-1:])
+            text = text if after is None else after
+        return made
+
+    def written(self, operations):
+        """The patch as a text."""
+        items = []
+        for operation, put in operations:
+            members = [self.string(name) + ":" + self.blanks() + self.string(said) for name, said in operation.items()]
+            if put is not None:
+                members.append('"value":' + self.blanks() + put + self.blanks())
+            self.random.shuffle(members)
+            items.append("{" + ",".join(members) + "}")
+        return self.row("[]", items)
+
+    def broken(self, text):
+        """With a byte of it changed, or its end cut off."""
+        at = self.random.randrange(len(text))
+        if self.random.random() < 0.5:
+            return text[:at]
+        return text[:at] + self.random.choice('{}[]:,"\\0e.- \x00') + text[at + 1:]
+
+
+def answers(program, pairs):
+    lines = "".join(json.dumps(pair) + "\n" for pair in pairs).encode()
+    said = subprocess.run([program], input=lines, capture_output=True, check=True).stdout.decode().splitlines()
+    assert len(said) == len(pairs), f"{len(said)} lines for {len(pairs)} cases"
+    return said
+
+
+def told(line):
+    """The new text and why there is none, of a line."""
+    kind, _, said = line.partition(" ")
+    return (json.loads(said), None) if kind == "ok" else (None, json.loads(said) if kind == "no" else kind)
+
+
+def main():
+    words = argparse.ArgumentParser(description=__doc__, formatter_class=argparse.RawDescriptionHelpFormatter)
+    words.add_argument("--seed", type=int, default=1)
+    words.add_argument("--cases", type=int, default=10000)
+    words.add_argument("--ours", required=True)
+    words.add_argument("--spoil", action="store_true")
+    asked = words.parse_args()
+    texts, came, wrong, done = Texts(asked.seed), Counter(), 0, 0
+    while done < asked.cases:
+        batch = []
+        for _ in range(min(BATCH, asked.cases - done)):
+            text = texts.text(4)
+            operations = texts.operations(text)
+            patch = texts.written(operations)
+            wanted = patched(text, operations)
+            if texts.random.random() < 0.125:
+                text, patch = (texts.broken(text), patch) if texts.random.random() < 0.5 else (text, texts.broken(patch))
+                wanted = None
+            batch.append(((text, patch), operations, wanted))
+        for (pair, operations, wanted), line in zip(batch, answers(asked.ours, [pair for pair, *_ in batch])):
+            got = told(line)
+            if wanted is None:
+                came["changed or cut off"] += 1
+                is_wrong = got[1] in ("memory", "unreadable", "")
+            else:
+                if asked.spoil and got[0]:
+                    at = texts.random.randrange(len(got[0]))
+                    got = got[0][:at] + ("x" if got[0][at] != "x" else "y") + got[0][at + 1:], None
+                is_wrong = got != wanted
+                came.update([operation["op"] for operation, _ in operations] if wanted[0] is not None else [wanted[1].rpartition("': ")[2]])
+            if asked.spoil:
+                wrong += wanted is not None and wanted[0] is not None and not is_wrong
+            elif is_wrong:
+                wrong += 1
+                if wrong <= 5:
+                    print(f"WRONG: {pair}\n  wanted {wanted}\n  got    {got}")
+        done += len(batch)
+    missing = [kind for kind in ("add", "remove", "replace", "move", "copy", "test", *KINDS) if not came[kind]]
+    print(f"{done} texts, seed {asked.seed}: {wrong} " + ("spoilt ones not found out" if asked.spoil else "wrong"))
+    print(", ".join(f"{count} {kind}" for kind, count in sorted(came.items())))
+    if missing:
+        print("never: " + ", ".join(missing))
+    return 1 if wrong or missing else 0
+
+
+if __name__ == "__main__":
+    sys.exit(main())
