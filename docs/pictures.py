@@ -18,6 +18,8 @@ CAPTIONS = {
     "jsonptr": ("pointers: strings, tokens, indexes", "library"),
     "json_number": ("numbers compared exactly", "library"),
     "json_text": ("one place of a text, read or replaced", "library"),
+    "json_reading": ("texts' numbers as documents have them", "library"),
+    "json_patch_text": ("what patching a text means", "library"),
     "json_patch_document": ("what a document is, equality", "library"),
     "json_patch_operation": ("operations: read, written, printed", "library"),
     "json_patch_edit": ("one edit, and what undoes it", "library"),
