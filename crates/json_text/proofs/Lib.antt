@@ -12,10 +12,14 @@ pub mod Members
 pub mod Listed
 pub mod Around
 pub mod Counted
+pub mod Deeper
+pub mod Depths
 pub mod Stretches
 pub mod Tokens
+mod Trimmed
 pub mod Along
 pub mod Nests
+pub mod Readable
 pub mod Replacing
 pub mod Respelled
 pub mod Parsed

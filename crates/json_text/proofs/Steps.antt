@@ -32,7 +32,7 @@ drop_step t i h =
 
 -- ---- classes
 
-space_class : (x : ℕ) → is_space x ≡ true → class x ≡ space
+pub space_class : (x : ℕ) → is_space x ≡ true → class x ≡ space
 space_class x h = go (or_cases _ _ h)
   where
     two : ((x == 32) ≡ true) ⊎ ((x == 9) ≡ true) → class x ≡ space

@@ -12,13 +12,11 @@ use Rattle.jsonptr.specs.Places.{place_of, next_token}
 use Rattle.json_text.specs.Found.{IsCut, IsWithin, Placed, Stands, named, numbered}
 use Rattle.json_text.specs.Places.{mode_at, left_at}
 use Rattle.json_text.specs.Pointed.{child, if_some, put_child, put_item, put_member, IsStretch}
-use Rattle.json_text.specs.Skipped.{skip}
 use Rattle.json_text.specs.Spelled.{spelled, first_items, first_members, Says}
 use Rattle.json_text.specs.declared.span.Span.{Span}
 use Rattle.json_text.proofs.Around.{Around, alone, item_around, item_follows, member_around, member_follows, named_is, numbered_is}
 use Rattle.json_text.proofs.Counted.{item_within}
 use Rattle.json_text.proofs.FirstBytes.{kind, byte_by_kind}
-use Rattle.json_text.proofs.Skipping.{skip-value}
 use Rattle.json_text.proofs.Steps.{follows, operator_left, operator_end}
 use Rattle.json_text.specs.Rows.{slice}
 use Rattle.json_text.proofs.Stretches.{stretch}
@@ -121,7 +119,7 @@ no_place_no_child text t j o p says h n = ap (child t) p.is ∙ by_place (place_
 
 -- ---- the text without the blanks around it
 
-pub whole_found : (text : List ℕ) (j : Json) (s : Span) → Says text j → left_at text s.start ≡ left_at text 0 → left_at text s.end ≡ skip 0 (left_at text s.start) → IsCut text s → s.start ≤ s.end → s.end ≤ length text → IsStretch (take s.start text) (slice text s.start s.end) (drop s.end text) j (λ w. w)
+pub whole_found : (text : List ℕ) (j : Json) (s : Span) → Says text j → left_at text s.start ≡ left_at text 0 → left_at text s.end ≡ [] → IsCut text s → s.start ≤ s.end → s.end ≤ length text → IsStretch (take s.start text) (slice text s.start s.end) (drop s.end text) j (λ w. w)
 whole_found text j s says b e c h w =
     let at : left_at text s.start ≡ spelled j ++ [] = b ∙ says ∙ sym (append-nil (spelled j)) in
-    stretch text j j [] (λ x. x) s says (alone j) refl at (e ∙ ap (skip 0) at ∙ skip-value j []) c h w
+    stretch text j j [] (λ x. x) s says (alone j) refl at e c h w

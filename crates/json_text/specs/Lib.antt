@@ -8,6 +8,7 @@ pub mod Found
 pub mod Rows
 pub mod Listing
 pub mod Changed
+pub mod Checked
 pub mod Removed
 pub mod Added
 pub mod Less

@@ -10,13 +10,13 @@ ghost use Rattle.json_text.specs.Less.{IsObject};
 ghost use Rattle.json_text.specs.Pointed.{tree_at, StandsBetween};
 ghost use Rattle.json_text.specs.Spelled.{Says};
 
-use crate::ChangeFault;
-use crate::changes::{exchanged, replace};
+use crate::changes::exchanged;
 use crate::children::whole;
 use crate::growing::with_child;
 use crate::parts::is_object;
-use crate::reading::{check, find};
+use crate::reading::find;
 use crate::span::Span;
+use crate::{ChangeFault, CheckedText};
 use jsonptr::Pointer;
 use std::alloc::{AllocError, Global};
 
@@ -65,29 +65,65 @@ pub fn add(alloc: Global, text: &str, pointer: Pointer, value: &str) -> Result<S
         IsAdded text.now (tokens_of pointer.entry) value.now (string_bytes new)) }
     ensures fault { IfErr result (IsAddFault text.now (tokens_of pointer.entry) value.now) }
 {
-    if let Err(fault) = check(alloc, text) {
-        return Err(ChangeFault::Text(fault));
-    }
-    if let Err(fault) = check(alloc, value) {
-        return Err(ChangeFault::Value(fault));
-    }
-    let Some((parent, last)) = pointer.split_back() else {
-        return replace(alloc, text, pointer, value);
+    let text = match CheckedText::new(alloc, text) {
+        Ok(text) => text,
+        Err(fault) => return Err(ChangeFault::Text(fault)),
     };
-    let Some(place) = find(alloc, text, parent)? else {
-        return Err(ChangeFault::NoTarget);
+    let value = match CheckedText::new(alloc, value) {
+        Ok(value) => value,
+        Err(fault) => return Err(ChangeFault::Value(fault)),
     };
-    let here = &text[place.start..place.end];
-    let put = whole(value.as_bytes());
-    let put = &value[put.start..put.end];
-    if let Some(old) = standing_member(alloc, text, pointer, here)? {
-        let new = exchanged(alloc, text, old, put)?;
-        return Ok(new);
+    match text.add(alloc, pointer, value)? {
+        Some(new) => Ok(new),
+        None => Err(ChangeFault::NoTarget),
     }
-    let name = last.decoded(alloc)?;
-    let Some(grown) = with_child(alloc, here, name.as_str(), put)? else {
-        return Err(ChangeFault::NoTarget);
-    };
-    let new = exchanged(alloc, text, place, grown.as_str())?;
-    Ok(new)
+}
+
+impl<'a> CheckedText<'a> {
+    ghost use Rattle.std.specs.Prelude.{MatchOption};
+    ghost use Rattle.json_text.specs.Added.{HasNoPlace};
+    ghost use Rattle.json_text.specs.Checked.{text_in};
+
+    /// The text with a value added where the pointer leads, as [`crate::add`] makes it; `None` where
+    /// nothing can be added there.
+    ///
+    /// ```rust
+    /// let text = CheckedText::new(alloc, r#"{"list": [1.50, 2] }"#)?;
+    /// let value = CheckedText::new(alloc, "7")?;
+    /// let new = text.add(alloc, place, value)?;
+    /// // {"list": [1.50, 7, 2] }
+    /// ```
+    pub fn add(
+        &self,
+        alloc: Global,
+        pointer: Pointer,
+        value: CheckedText,
+    ) -> Result<Option<String>, AllocError>
+        ensures { IfOk result (λ found.
+            MatchOption found (HasNoPlace (text_in self.now) (tokens_of pointer.entry))
+            (λ new. IsAdded (text_in self.now) (tokens_of pointer.entry) (text_in value.entry)
+            (string_bytes new))) }
+    {
+        let Some((parent, last)) = pointer.split_back() else {
+            return self.replace(alloc, pointer, value);
+        };
+        let text = self.as_str();
+        let Some(place) = find(alloc, text, parent)? else {
+            return Ok(None);
+        };
+        let here = &text[place.start..place.end];
+        let value = value.as_str();
+        let put = whole(value.as_bytes());
+        let put = &value[put.start..put.end];
+        if let Some(old) = standing_member(alloc, text, pointer, here)? {
+            let new = exchanged(alloc, text, old, put)?;
+            return Ok(Some(new));
+        }
+        let name = last.decoded(alloc)?;
+        let Some(grown) = with_child(alloc, here, name.as_str(), put)? else {
+            return Ok(None);
+        };
+        let new = exchanged(alloc, text, place, grown.as_str())?;
+        Ok(Some(new))
+    }
 }

@@ -7,11 +7,11 @@ ghost use Rattle.json_text.specs.Found.{IsWithin};
 ghost use Rattle.json_text.specs.Removed.{IsRemoved, IsRemoveFault};
 ghost use Rattle.json_text.specs.Replaced.{IsReplaced, IsReplaceFault};
 
-use crate::ChangeFault;
 use crate::children::whole;
 use crate::cutting::without;
-use crate::reading::{check, find};
+use crate::reading::find;
 use crate::span::Span;
+use crate::{ChangeFault, CheckedText};
 use jsonptr::Pointer;
 use std::alloc::{AllocError, Global};
 
@@ -54,18 +54,18 @@ pub fn replace(
         IsReplaced text.now (tokens_of pointer.entry) value.now (string_bytes new)) }
     ensures fault { IfErr result (IsReplaceFault text.now (tokens_of pointer.entry) value.now) }
 {
-    if let Err(fault) = check(alloc, text) {
-        return Err(ChangeFault::Text(fault));
-    }
-    if let Err(fault) = check(alloc, value) {
-        return Err(ChangeFault::Value(fault));
-    }
-    let Some(place) = find(alloc, text, pointer)? else {
-        return Err(ChangeFault::NoTarget);
+    let text = match CheckedText::new(alloc, text) {
+        Ok(text) => text,
+        Err(fault) => return Err(ChangeFault::Text(fault)),
     };
-    let put = whole(value.as_bytes());
-    let new = exchanged(alloc, text, place, &value[put.start..put.end])?;
-    Ok(new)
+    let value = match CheckedText::new(alloc, value) {
+        Ok(value) => value,
+        Err(fault) => return Err(ChangeFault::Value(fault)),
+    };
+    match text.replace(alloc, pointer, value)? {
+        Some(new) => Ok(new),
+        None => Err(ChangeFault::NoTarget),
+    }
 }
 
 /// The text without what stands where the pointer leads (RFC 6902, section 4.2), and every other byte
@@ -85,20 +85,78 @@ pub fn remove(alloc: Global, text: &str, pointer: Pointer) -> Result<String, Cha
         IsRemoved text.now (tokens_of pointer.entry) (string_bytes new)) }
     ensures fault { IfErr result (IsRemoveFault text.now (tokens_of pointer.entry)) }
 {
-    if let Err(fault) = check(alloc, text) {
-        return Err(ChangeFault::Text(fault));
+    let text = match CheckedText::new(alloc, text) {
+        Ok(text) => text,
+        Err(fault) => return Err(ChangeFault::Text(fault)),
+    };
+    match text.remove(alloc, pointer)? {
+        Some(new) => Ok(new),
+        None => Err(ChangeFault::NoTarget),
     }
-    let Some((parent, last)) = pointer.split_back() else {
-        return Err(ChangeFault::NoTarget);
-    };
-    let Some(place) = find(alloc, text, parent)? else {
-        return Err(ChangeFault::NoTarget);
-    };
-    let name = last.decoded(alloc)?;
-    let here = &text[place.start..place.end];
-    let Some(less) = without(alloc, here, name.as_str())? else {
-        return Err(ChangeFault::NoTarget);
-    };
-    let new = exchanged(alloc, text, place, less.as_str())?;
-    Ok(new)
+}
+
+impl<'a> CheckedText<'a> {
+    ghost use Rattle.std.specs.Prelude.{MatchOption};
+    ghost use Rattle.json_text.specs.Checked.{text_in};
+    ghost use Rattle.json_text.specs.Removed.{HasNothingToRemove};
+    ghost use Rattle.json_text.specs.Replaced.{LeadsNowhere};
+
+    /// The text with another value where the pointer leads, as [`crate::replace`] makes it; `None`
+    /// where nothing stands there.
+    ///
+    /// ```rust
+    /// let text = CheckedText::new(alloc, r#"{"list": [1.50, 2] }"#)?;
+    /// let value = CheckedText::new(alloc, "7")?;
+    /// let new = text.replace(alloc, place, value)?;
+    /// // {"list": [1.50, 7] }
+    /// ```
+    pub fn replace(
+        &self,
+        alloc: Global,
+        pointer: Pointer,
+        value: CheckedText,
+    ) -> Result<Option<String>, AllocError>
+        ensures { IfOk result (λ found.
+            MatchOption found (LeadsNowhere (text_in self.now) (tokens_of pointer.entry))
+            (λ new. IsReplaced (text_in self.now) (tokens_of pointer.entry) (text_in value.entry)
+            (string_bytes new))) }
+    {
+        let text = self.as_str();
+        let Some(place) = find(alloc, text, pointer)? else {
+            return Ok(None);
+        };
+        let value = value.as_str();
+        let put = whole(value.as_bytes());
+        let new = exchanged(alloc, text, place, &value[put.start..put.end])?;
+        Ok(Some(new))
+    }
+
+    /// The text without what stands where the pointer leads, as [`crate::remove`] makes it; `None`
+    /// where nothing stands there, or the pointer is that of the whole.
+    ///
+    /// ```rust
+    /// let text = CheckedText::new(alloc, r#"{"list": [1.50, 2] }"#)?;
+    /// let new = text.remove(alloc, place)?;
+    /// // {"list": [1.50] }
+    /// ```
+    pub fn remove(&self, alloc: Global, pointer: Pointer) -> Result<Option<String>, AllocError>
+        ensures { IfOk result (λ found.
+            MatchOption found (HasNothingToRemove (text_in self.now) (tokens_of pointer.entry))
+            (λ new. IsRemoved (text_in self.now) (tokens_of pointer.entry) (string_bytes new))) }
+    {
+        let text = self.as_str();
+        let Some((parent, last)) = pointer.split_back() else {
+            return Ok(None);
+        };
+        let Some(place) = find(alloc, text, parent)? else {
+            return Ok(None);
+        };
+        let name = last.decoded(alloc)?;
+        let here = &text[place.start..place.end];
+        let Some(less) = without(alloc, here, name.as_str())? else {
+            return Ok(None);
+        };
+        let new = exchanged(alloc, text, place, less.as_str())?;
+        Ok(Some(new))
+    }
 }

@@ -12,7 +12,7 @@ ghost use Rattle.json_text.specs.Pointed.{child, put_child, IsStretch};
 ghost use Rattle.json_text.specs.Skipped.{skip};
 ghost use Rattle.json_text.specs.Spelled.{first_items, first_members, Says};
 
-use crate::lexemes::{blank_end, string_end, value_end};
+use crate::lexemes::{blank_end, last_end, string_end, value_end};
 use crate::names::is_name;
 use crate::span::Span;
 use jsonptr::index::Index;
@@ -156,5 +156,6 @@ pub(crate) fn whole(text: &[u8]) -> Span
     ensures within { IsWithin text.now result }
 {
     let start = blank_end(text, 0);
-    value_from(text, start)
+    let end = last_end(text, start);
+    Span { start, end }
 }

@@ -12,7 +12,7 @@ pub enum TextFault {
     #[error("the text is not JSON")]
     NotJson,
     /// More than 128 objects and arrays are open at once. Whether the text is JSON isn't told.
-    #[error("the text nests deeper than 128 levels")]
+    #[error("the text nests too deep")]
     TooDeep,
     /// No memory was found.
     #[error("out of memory")]

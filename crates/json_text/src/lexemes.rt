@@ -1,10 +1,11 @@
 //! Lexemes of a JSON text, by their places. Nothing here is recursive.
 
-ghost use Rattle.std.specs.Prelude.{◌≡◌, ◌⊎◌, ◌<◌, ◌≤◌, ◌+◌, ◌-◌, ◌^◌, true, false, length, drop, get_or};
+ghost use Rattle.std.specs.Prelude.{◌≡◌, ◌⊎◌, ◌<◌, ◌≤◌, ◌+◌, ◌-◌, ◌^◌, [], true, false, length, drop, get_or};
 ghost use Rattle.std.specs.Bool.{Decides};
 ghost use Rattle.std.specs.Str.{IsUtf8, IsCharBoundary};
 ghost use Rattle.json.specs.Word.{is_operator, is_space, ends_word};
 ghost use Rattle.json.specs.Lex.{between, in_word, in_string, lex};
+ghost use Rattle.json_text.specs.Lexing.{Outside};
 ghost use Rattle.json_text.specs.Skipped.{skip};
 ghost use Rattle.json_text.specs.Faults.{nesting};
 ghost use Rattle.json_text.specs.Places.{mode_at, left_at, depth_by, Closes, HasEnd, IsEnd, Steps};
@@ -142,6 +143,24 @@ pub(crate) fn value_end(text: &[u8], from: usize) -> usize
             return end;
         }
         i = blank_end(text, end);
+    }
+    end
+}
+
+/// The place after the last byte that is no blank, or `from` where none stands behind that.
+pub(crate) fn last_end(text: &[u8], from: usize) -> usize
+    requires { from ≤ length text.now }
+    ensures bounds { (from ≤ result) × (result ≤ length text.now) }
+    ensures left { left_at text.now result ≡ [] }
+    ensures ended { ends_word (drop result text.now) ≡ true }
+    ensures closed { Outside (mode_at text.now (length text.now))
+        → Outside (mode_at text.now result) }
+    ensures back { (result ≡ from) ⊎ (is_space (get_or text.now (result - 1) 0) ≡ false) }
+    ensures boundary { IsCharBoundary text.now result }
+{
+    let mut end = text.len();
+    while end > from && is_blank(text[end - 1]) {
+        end -= 1;
     }
     end
 }

@@ -3,7 +3,8 @@
 //! A text says a tree: of each number its text, of each string what its escapes stand for, and the
 //! members in their order, with names that come twice. [`value_text`] answers with the stretch of the
 //! text where a pointer leads, as it is written there. [`replace`] exchanges that stretch alone, and
-//! [`remove`] and [`add`] take a member or item out or put one in, in the style of its neighbours.
+//! [`remove`] and [`add`] take a member or item out or put one in, in the style of its neighbours. A
+//! [`CheckedText`] is checked once, and does all this with no further check.
 //!
 //! ```rust
 //! let text = r#"{"name": "x", "list": [1.50, "\u0041"] }"#;
@@ -16,6 +17,9 @@ mod additions;
 #[cfg(test)]
 mod change_tests;
 mod changes;
+mod checked;
+#[cfg(test)]
+mod checked_tests;
 mod children;
 mod cutting;
 mod fault;
@@ -32,6 +36,7 @@ mod tests;
 
 pub use additions::add;
 pub use changes::{remove, replace};
+pub use checked::CheckedText;
 pub use fault::{ChangeFault, TextFault};
 pub use listing::{Shape, child_texts};
-pub use reading::value_text;
+pub use reading::{is_deeper, value_text};

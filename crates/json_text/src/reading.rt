@@ -1,35 +1,31 @@
 //! The text of a value within a JSON text.
 
-ghost use Rattle.std.specs.Prelude.{◌≡◌, ◌-◌, None, IfOk, IfErr, IfSome, OnOk, MatchOption, drop, take};
+ghost use Rattle.std.specs.Prelude.{◌≡◌, ◌<◌, ◌-◌, None, IfOk, IfErr, IfSome, MatchOption, drop, take};
+ghost use Rattle.std.specs.Bool.{Decides};
 ghost use Rattle.json.specs.Json.{Json};
 ghost use Rattle.jsonptr.specs.Pointers.{tokens_of};
-ghost use Rattle.json_text.specs.Faults.{IsTextFault};
+ghost use Rattle.json_text.specs.Faults.{IsTextFault, nesting};
 ghost use Rattle.json_text.specs.Found.{IsWithin};
 ghost use Rattle.json_text.specs.Pointed.{tree_at, IsWrittenAt, StandsBetween};
 ghost use Rattle.json_text.specs.Spelled.{IsShallowText, Says};
 
-use crate::TextFault;
 use crate::children::{child, whole};
-use crate::lexemes::is_deeper;
 use crate::span::Span;
-use json::{MAX_DEPTH, Scratch, is_valid};
+use crate::{CheckedText, TextFault, lexemes};
 use jsonptr::Pointer;
 use std::alloc::{AllocError, Global};
 
-/// That the text is JSON.
-pub(crate) fn check(alloc: Global, text: &str) -> Result<(), TextFault>
-    ensures shallow { OnOk result ((j : Json) × IsShallowText text.now j) }
-    ensures fault { IfErr result (IsTextFault text.now) }
+/// Whether more than so many objects and arrays of the text are open at once. The text need not be
+/// JSON. Each byte is looked at once, nothing is recursive, and no memory is taken.
+///
+/// ```rust
+/// is_deeper(r#"{"a": [1]}"#, 1)
+/// // true: the array stands in the object
+/// ```
+pub fn is_deeper(text: &str, most: usize) -> bool
+    ensures { Decides result (most < nesting text.now) }
 {
-    let mut scratch = Scratch::new(alloc);
-    if is_valid(text, &mut scratch)? {
-        return Ok(());
-    }
-    if is_deeper(text.as_bytes(), MAX_DEPTH) {
-        Err(TextFault::TooDeep)
-    } else {
-        Err(TextFault::NotJson)
-    }
+    lexemes::is_deeper(text.as_bytes(), most)
 }
 
 /// Where the stretch stands to which the pointer leads, in a text that is JSON.
@@ -75,9 +71,9 @@ pub fn value_text<'a>(
         (λ s. IsWrittenAt text.now j (tokens_of pointer.entry) s.now)) }
     ensures fault { IfErr result (IsTextFault text.now) }
 {
-    check(alloc, text)?;
-    let Some(place) = find(alloc, text, pointer)? else {
-        return Ok(None);
-    };
-    Ok(Some(&text[place.start..place.end]))
+    let text = CheckedText::new(alloc, text)?;
+    match text.value(alloc, pointer)? {
+        Some(value) => Ok(Some(value.as_str())),
+        None => Ok(None),
+    }
 }

@@ -6,7 +6,9 @@ ghost use Rattle.jsonptr.specs.Pointers.{tokens_of};
 ghost use Rattle.json_text.specs.Pointed.{IsWrittenAt};
 ghost use Rattle.json_text.specs.Spelled.{Says};
 
-use crate::{ChangeFault, Shape, TextFault, add, child_texts, remove, replace, value_text};
+use crate::{
+    ChangeFault, Shape, TextFault, add, child_texts, is_deeper, remove, replace, value_text,
+};
 use jsonptr::Pointer;
 use std::alloc::Global;
 use std::test::Fail;
@@ -101,6 +103,26 @@ fn faults(rt: HostRuntime) -> Result<(), Fail> {
         assert!(rt; matches!(read, Err(TextFault::TooDeep)));
     }
     Ok(())
+}
+
+fn array_in_object() -> bool {
+    is_deeper(r#"{"a": [1]}"#, 1)
+}
+
+#[test]
+fn nesting(rt: HostRuntime) {
+    assert!(rt; array_in_object());
+    for (text, levels) in [
+        (" 1 ", 0),
+        ("[]", 1),
+        (r#"{"a": [1], "b": [[]]}"#, 3),
+        ("[[], [], []]", 2),
+        (r#"["[[[\"["]"#, 1),
+        ("]][", 1),
+    ] {
+        assert!(rt; !is_deeper(text, levels));
+        assert!(rt; levels == 0 || is_deeper(text, levels - 1));
+    }
 }
 
 fn list_in(alloc: Global, place: Pointer) -> Result<Option<&'static str>, TextFault> {

@@ -1,0 +1,5 @@
+use Rattle.json_text.proofs.Nests.{accepted}
+use Rattle.json_text.proofs.checked.CheckedText.as_str.Goals as goal
+
+pub returns-clause-shallow : goal.returns-clause-shallow
+returns-clause-shallow c = accepted c.args.self.now.text.now c.args.self.now.read

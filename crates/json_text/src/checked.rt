@@ -1,0 +1,88 @@
+//! A text that is checked once, and then read and changed with no further check.
+
+ghost use Rattle.std.specs.Prelude.{IsSome};
+ghost use Rattle.json.specs.Json.{document};
+
+use crate::TextFault;
+use crate::reading::{find, is_deeper};
+use json::{MAX_DEPTH, Scratch, is_valid};
+use jsonptr::Pointer;
+use std::alloc::{AllocError, Global};
+
+/// A text that is JSON and nests no deeper than 128 levels. It was checked, so its calls check nothing:
+/// each only passes over the text to its place.
+#[derive(Clone, Copy, Debug)]
+pub struct CheckedText<'a> {
+    text: &'a str,
+    ghost read: { IsSome (document text.now) },
+}
+
+impl<'a> CheckedText<'a> {
+    ghost use Rattle.std.specs.Prelude.{◌≡◌, None, IfErr, IfOk, OnOk, MatchOption};
+    ghost use Rattle.json.specs.Json.{Json};
+    ghost use Rattle.jsonptr.specs.Pointers.{tokens_of};
+    ghost use Rattle.json_text.specs.Checked.{text_in};
+    ghost use Rattle.json_text.specs.Faults.{IsTextFault};
+    ghost use Rattle.json_text.specs.Pointed.{tree_at, IsWrittenAt};
+    ghost use Rattle.json_text.specs.Spelled.{IsShallowText};
+
+    /// The text, once it is checked.
+    ///
+    /// ```rust
+    /// let text = CheckedText::new(alloc, r#"{"list": [1.50, 2] }"#)?;
+    /// ```
+    pub fn new(alloc: Global, text: &'a str) -> Result<CheckedText<'a>, TextFault>
+        ensures text { IfOk result (λ checked. text_in checked ≡ text.now) }
+        ensures shallow { OnOk result ((j : Json) × IsShallowText text.now j) }
+        ensures fault { IfErr result (IsTextFault text.now) }
+    {
+        let mut scratch = Scratch::new(alloc);
+        if is_valid(text, &mut scratch)? {
+            return Ok(CheckedText { text });
+        }
+        if is_deeper(text, MAX_DEPTH) {
+            Err(TextFault::TooDeep)
+        } else {
+            Err(TextFault::NotJson)
+        }
+    }
+
+    /// A text that is known to be JSON and to nest no deeper than 128 levels, so that it needs no check.
+    pub fn known(text: &'a str) -> CheckedText<'a>
+        requires { (j : Json) × IsShallowText text.now j }
+        ensures { text_in result ≡ text.now }
+    {
+        CheckedText { text }
+    }
+
+    /// The text itself.
+    pub fn as_str(&self) -> &'a str
+        ensures text { result.now ≡ text_in self.now }
+        ensures shallow { (j : Json) × IsShallowText result.now j }
+    {
+        self.text
+    }
+
+    /// The text of the value where the pointer leads (RFC 6901, section 4), as [`crate::value_text`]
+    /// has it; `None` where nothing stands there.
+    ///
+    /// ```rust
+    /// let text = CheckedText::new(alloc, r#"{"list": [1.50, 2] }"#)?;
+    /// let list = text.value(alloc, place)?;
+    /// // [1.50, 2]
+    /// ```
+    pub fn value(
+        &self,
+        alloc: Global,
+        pointer: Pointer,
+    ) -> Result<Option<CheckedText<'a>>, AllocError>
+        ensures { IfOk result (λ found. (j : Json) × IsShallowText (text_in self.now) j
+            × MatchOption found (tree_at (tokens_of pointer.entry) j ≡ None)
+            (λ s. IsWrittenAt (text_in self.now) j (tokens_of pointer.entry) (text_in s))) }
+    {
+        let Some(place) = find(alloc, self.text, pointer)? else {
+            return Ok(None);
+        };
+        Ok(Some(CheckedText::known(&self.text[place.start..place.end])))
+    }
+}
