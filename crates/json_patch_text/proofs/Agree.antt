@@ -1,5 +1,5 @@
 -- The trees that json_text's changes of a text leave are those that operations come to.
-use Rattle.std.proofs.Common.{◌≡◌, ◌≤◌, ℕ, zero, suc, List, [], ◌∷◌, ◌++◌, Option, Some, None, cond, bytes_eq, option_map, option_and_then, refl, sym, ap, ap₂, ◌∙◌, subst, inl, inr}
+use Rattle.std.proofs.Common.{◌≡◌, ◌≤◌, ℕ, zero, suc, List, [], ◌∷◌, ◌++◌, Option, Some, None, cond, bytes_eq, option_map, option_and_then, refl, sym, ap, ap₂, ◌∙◌, subst, inl, inr, arith}
 use Rattle.std.proofs.lemmas.Option.{none-some, same_Some}
 use Rattle.json.specs.Json.{Json, null, boolean, number, string, array, object, Items, no_items, item, Members, no_members, member}
 use Rattle.json.specs.Find.{get_member}
@@ -10,12 +10,13 @@ use Rattle.json_patch_document.specs.ChangeComputed.{front_of, last_of, slot_in}
 use Rattle.json_patch_text.specs.Changed.{count, insert_item, append_member, add_child, remove_child, remove_item, without, take_child, changed, added, removed, replaced}
 use Rattle.json_text.specs.Changed as text
 use Rattle.json_text.specs.Added.{HasNoPlace}
+use Rattle.json_text.specs.Faults.{nesting}
 use Rattle.json_text.specs.Pointed.{child, if_some, put_at, put_member, tree_at}
 use Rattle.json_text.specs.Removed.{AreCutOut, HasNothingToRemove, IsRemoved}
 use Rattle.json_text.specs.Replaced.{LeadsNowhere}
 use Rattle.json_text.specs.Spelled.{Says}
-use Rattle.json_text.proofs.Nests.{one_tree}
-use Rattle.json_patch_text.proofs.Depths.{put_shallow, remove_shallow}
+use Rattle.json_text.proofs.Deeper.{removed_nests}
+use Rattle.json_text.proofs.Nests.{nests, one_tree}
 
 -- ---- add
 
@@ -142,9 +143,10 @@ removed_tree text P new i says r =
     let stood : child r.at.last r.at.parent ≡ Some there.0 = child_of (child r.at.last r.at.parent) there.0 there.1 in
     let done = removed_is P r.at.front r.at.last r.tree r.at.parent there.0 new r.at.split r.at.leads stood r.after in
     let m = put_at r.at.front (remove_child r.at.last r.at.parent) r.tree in
-    let less : depth m ≤ depth r.tree = put_shallow r.at.front (remove_child r.at.last r.at.parent) r.at.parent r.tree r.at.leads (remove_shallow r.at.last r.at.parent) in
-    let same = one_tree text r.tree i r.says.0 says in
-    (m, subst (λ x. removed P x ≡ Some m) same done.0, done.1, subst (λ x. depth m ≤ depth x) same less)
+    let before = nests text i says in
+    let behind = nests new m done.1 in
+    let lower : nesting new ≤ nesting text = removed_nests text new P r in
+    (m, subst (λ x. removed P x ≡ Some m) (one_tree text r.tree i r.says.0 says) done.0, done.1, omega arith)
 
 alone : (o : Option Json) → option_and_then (tree_at []) o ≡ o
 alone None = refl

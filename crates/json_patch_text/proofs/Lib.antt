@@ -1,9 +1,11 @@
 pub mod Agree
 pub mod Alike
+pub mod Bounded
 pub mod Changes
-pub mod Depths
+pub mod Limits
 pub mod Made
 pub mod Members
+pub mod Nested
 pub mod Outcomes
 pub mod Outlines
 pub mod Patches
@@ -13,3 +15,5 @@ pub mod Runs
 pub mod Stepped
 pub mod Steps
 pub mod Whole
+pub mod WholeNumbers
+pub mod Within

@@ -1,8 +1,6 @@
 -- What json_text's calls make of a text is what operations come to, and why not.
-use Rattle.std.proofs.Common.{◌≡◌, ◌≤◌, ◌<◌, ℕ, List, Bool, true, false, Option, Some, None, Result, Ok, Err, IfErr, IfOk, if◌then◌else◌, refl, sym, ap, ap₂, ◌∙◌, subst, arith}
-use Rattle.std.specs.Prelude.{⊤}
+use Rattle.std.proofs.Common.{◌≡◌, ◌≤◌, ℕ, List, Bool, true, false, Option, Some, None, Result, Ok, Err, IfOk, if◌then◌else◌, refl, sym, ap, ap₂, ◌∙◌, subst, arith}
 use Rattle.std.specs.Bool.{Decides}
-use Rattle.std.specs.Result.{IsErrAnd}
 use Rattle.std.proofs.lemmas.Option.{same_Some}
 use Rattle.std.proofs.lemmas.Result.{IfOk-at_ok}
 use Rattle.json.specs.Json.{Json, document, max_depth}
@@ -12,56 +10,20 @@ use Rattle.json_patch_edit.proofs.StepOutcomes.{not_begins, prefix_begins}
 use Rattle.json_patch_operation.specs.declared.error.PatchErrorKind.{PatchErrorKind}
 use Rattle.json_patch_operation.specs.declared.error.PatchErrorKind.TheVariants.{TestFailed, InvalidFromPointer, InvalidPointer, CannotMoveInsideItself}
 use Rattle.json_patch_text.specs.Changed.{added, removed, replaced}
-use Rattle.json_patch_text.specs.Made.{IsLeft, IsStopped, of_text, of_change}
-use Rattle.json_patch_text.specs.Operations.{TreeOperation, add, remove, replace, move, copy, test}
+use Rattle.json_patch_text.specs.Made.{IsLeft, IsNotMade, IsStopped}
+use Rattle.json_patch_text.specs.Operations.{add, remove, replace, move, copy, test}
 use Rattle.json_patch_text.specs.Step.{ComesTo, Tests, or_refused, after_move, after_copy}
 use Rattle.json_patch_text.specs.declared.fault.StepFault.{StepFault}
 use Rattle.json_patch_text.specs.declared.fault.StepFault.TheVariants as step
 use Rattle.json_patch_text.proofs.Agree.{added_is, no_place, replaced_there, replaced_nowhere, removed_tree, removed_nothing}
-use Rattle.json_patch_text.proofs.Depths.{part_shallow}
 use Rattle.json_reading.specs.Same.{SameTree}
-use Rattle.json_text.specs.Added.{IsAdded, IsAddFault}
-use Rattle.json_text.specs.Faults.{IsTextFault, nesting}
+use Rattle.json_text.specs.Added.{HasNoPlace, IsAdded}
 use Rattle.json_text.specs.Pointed.{tree_at, put_at, IsWrittenAt}
-use Rattle.json_text.specs.Removed.{IsRemoved, IsRemoveFault}
-use Rattle.json_text.specs.Replaced.{IsReplaced, IsReplaceFault}
+use Rattle.json_text.specs.Removed.{HasNothingToRemove, IsRemoved}
+use Rattle.json_text.specs.Replaced.{IsReplaced, LeadsNowhere}
 use Rattle.json_text.specs.Spelled.{IsShallowText, Says}
-use Rattle.json_text.specs.declared.fault.ChangeFault.{ChangeFault}
-use Rattle.json_text.specs.declared.fault.ChangeFault.TheVariants as change
-use Rattle.json_text.specs.declared.fault.TextFault.{TextFault}
-use Rattle.json_text.specs.declared.fault.TextFault.TheVariants.{NotJson, TooDeep, Memory}
-use Rattle.json_text.proofs.Nests.{nests, one_tree, read_is}
-
--- the fault that a `?` hands on
-pub passed : {T : Type 0} (r : Result T StepFault) (g : StepFault) (P : StepFault → Type 0) → IsErrAnd r (λ f. f ≡ g) → P g → IfErr r P
-passed (Ok x) g P e h = tt
-passed (Err f) g P e h = subst P (sym e) h
-
--- ---- texts that aren't read
-
-pub text_stops : (text : List ℕ) (i : Json) (op : TreeOperation) (f : TextFault) → IsTextFault text f → IsStopped text i op (of_text f)
-text_stops text i op NotJson h = h
-text_stops text i op TooDeep h = h
-text_stops text i op (Memory m) h = tt
-
--- a text that is read has no fault but want of memory
-not_deep : (text : List ℕ) (j : Json) → IsShallowText text j → max_depth < nesting text → ⊥
-not_deep text j s h = let deep : max_depth < depth j = subst (λ n. max_depth < n) (nests text j s.0) h in let shallow : depth j ≤ max_depth = s.1 in omega arith
-
-abbrev pub IsMemory : StepFault → Type 0
-IsMemory (step.Refused kind) = ⊥
-IsMemory (step.Text f) = ⊥
-IsMemory (step.Memory m) = ⊤
-
-read_stops : (text : List ℕ) (j : Json) (f : TextFault) → IsShallowText text j → IsTextFault text f → IsMemory (of_text f)
-read_stops text j NotJson s h = absurd (h j s.0)
-read_stops text j TooDeep s h = absurd (not_deep text j s h)
-read_stops text j (Memory m) s h = tt
-
-memory_stops : (text : List ℕ) (i : Json) (op : TreeOperation) (f : StepFault) → IsMemory f → IsStopped text i op f
-memory_stops text i op (step.Refused kind) h = absurd h
-memory_stops text i op (step.Text f) h = absurd h
-memory_stops text i op (step.Memory m) h = tt
+use Rattle.json_text.proofs.Nests.{one_tree, read_is}
+use Rattle.json_text.proofs.Readable.{part_shallow}
 
 -- ---- add
 
@@ -76,39 +38,18 @@ add_comes text value new P i w said value_said a =
     let left = add_left text value new P i w said value_said a in
     (left.0, left.2, sym (ap (or_refused InvalidPointer) left.1))
 
-pub add_stops : (text value : List ℕ) (P : Pointer) (i w : Json) (f : ChangeFault) → Says text i → IsShallowText value w → IsAddFault text P value f → IsStopped text i (add P w) (of_change f)
-add_stops text value P i w (change.Text f) said s h = text_stops text i (add P w) f h
-add_stops text value P i w (change.Value f) said s h = memory_stops text i (add P w) (of_text f) (read_stops value w f s h)
-add_stops text value P i w change.NoTarget said s h = sym (ap (or_refused InvalidPointer) (no_place text P w i said h))
-add_stops text value P i w (change.Memory m) said s h = tt
-
--- of a text that is read
-abbrev IsRefused : Option Json → StepFault → Type 0
-IsRefused o (step.Refused kind) = (kind ≡ InvalidPointer) × (o ≡ None)
-IsRefused o (step.Text f) = ⊥
-IsRefused o (step.Memory m) = ⊤
-
-memory_refused : (o : Option Json) (f : StepFault) → IsMemory f → IsRefused o f
-memory_refused o (step.Refused kind) h = absurd h
-memory_refused o (step.Text f) h = absurd h
-memory_refused o (step.Memory m) h = tt
-
-add_refused : (text value : List ℕ) (P : Pointer) (i w : Json) (f : ChangeFault) → IsShallowText text i → IsShallowText value w → IsAddFault text P value f → IsRefused (added P w i) (of_change f)
-add_refused text value P i w (change.Text f) t s h = memory_refused (added P w i) (of_text f) (read_stops text i f t h)
-add_refused text value P i w (change.Value f) t s h = memory_refused (added P w i) (of_text f) (read_stops value w f s h)
-add_refused text value P i w change.NoTarget t s h = (refl, no_place text P w i t.0 h)
-add_refused text value P i w (change.Memory m) t s h = tt
+pub add_stops : (text : List ℕ) (P : Pointer) (i w : Json) (f : StepFault) → Says text i → IsNotMade (HasNoPlace text P) f → IsStopped i (add P w) f
+add_stops text P i w (step.Refused kind) said h = ap Err h.0 ∙ sym (ap (or_refused InvalidPointer) (no_place text P w i said h.1))
+add_stops text P i w (step.Memory m) said h = tt
 
 -- ---- remove and replace
 
 pub remove_comes : (text new : List ℕ) (P : Pointer) (i : Json) → Says text i → IsRemoved text P new → IsLeft new i (remove P)
 remove_comes text new P i said r = let left = removed_tree text P new i said r in (left.0, left.2, sym (ap (or_refused InvalidPointer) left.1))
 
-pub remove_stops : (text : List ℕ) (P : Pointer) (i : Json) (f : ChangeFault) → Says text i → IsRemoveFault text P f → IsStopped text i (remove P) (of_change f)
-remove_stops text P i (change.Text f) said h = text_stops text i (remove P) f h
-remove_stops text P i (change.Value f) said h = absurd h
-remove_stops text P i change.NoTarget said h = sym (ap (or_refused InvalidPointer) (removed_nothing text P i said h))
-remove_stops text P i (change.Memory m) said h = tt
+pub remove_stops : (text : List ℕ) (P : Pointer) (i : Json) (f : StepFault) → Says text i → IsNotMade (HasNothingToRemove text P) f → IsStopped i (remove P) f
+remove_stops text P i (step.Refused kind) said h = ap Err h.0 ∙ sym (ap (or_refused InvalidPointer) (removed_nothing text P i said h.1))
+remove_stops text P i (step.Memory m) said h = tt
 
 pub replace_comes : (text value new : List ℕ) (P : Pointer) (i w : Json) → Says text i → Says value w → IsReplaced text P value new → IsLeft new i (replace P w)
 replace_comes text value new P i w said value_said r =
@@ -117,11 +58,9 @@ replace_comes text value new P i w said value_said r =
     let is : replaced P w i ≡ Some (put_at P r.wanted r.tree) = ap₂ (λ x y. replaced P x y) (sym put) (sym here) ∙ replaced_there P r.wanted r.tree r.stood.0 r.stood.1 in
     (put_at P r.wanted r.tree, r.after, sym (ap (or_refused InvalidPointer) is))
 
-pub replace_stops : (text value : List ℕ) (P : Pointer) (i w : Json) (f : ChangeFault) → Says text i → IsShallowText value w → IsReplaceFault text P value f → IsStopped text i (replace P w) (of_change f)
-replace_stops text value P i w (change.Text f) said s h = text_stops text i (replace P w) f h
-replace_stops text value P i w (change.Value f) said s h = memory_stops text i (replace P w) (of_text f) (read_stops value w f s h)
-replace_stops text value P i w change.NoTarget said s h = sym (ap (or_refused InvalidPointer) (replaced_nowhere text P w i said h))
-replace_stops text value P i w (change.Memory m) said s h = tt
+pub replace_stops : (text : List ℕ) (P : Pointer) (i w : Json) (f : StepFault) → Says text i → IsNotMade (LeadsNowhere text P) f → IsStopped i (replace P w) f
+replace_stops text P i w (step.Refused kind) said h = ap Err h.0 ∙ sym (ap (or_refused InvalidPointer) (replaced_nowhere text P w i said h.1))
+replace_stops text P i w (step.Memory m) said h = tt
 
 -- ---- what stands at `from`
 
@@ -136,9 +75,7 @@ Source text F i s = (v : Json) × (tree_at F i ≡ Some v) × IsShallowText s v 
 source : (text : List ℕ) (F : Pointer) (i : Json) (s : List ℕ) (a : (j : Json) × IsShallowText text j × IsWrittenAt text j F s) → Says text i → Source text F i s
 source text F i s (j, shallow, (before, behind, whole, (v, at, stretch))) said =
     let same = one_tree text j i shallow.0 said in
-    let part : depth v ≤ depth j = part_shallow F j v at in
-    let most : depth j ≤ max_depth = shallow.1 in
-    (v, subst (λ x. tree_at F x ≡ Some v) same at, (stretch.says, omega arith), subst (λ x. IsShallowText text x) same shallow)
+    (v, subst (λ x. tree_at F x ≡ Some v) same at, (stretch.says, part_shallow F j v at shallow.1), subst (λ x. IsShallowText text x) same shallow)
 
 pub nowhere : (text : List ℕ) (F : Pointer) (i : Json) → (j : Json) × IsShallowText text j × (tree_at F j ≡ None) → Says text i → tree_at F i ≡ None
 nowhere text F i (j, shallow, none) said = subst (λ x. tree_at F x ≡ None) (one_tree text j i shallow.0 said) none
@@ -154,15 +91,11 @@ copy_comes text s new F P i a said b =
     let left = add_left text s new P i v said shallow.0 b in
     (left.0, left.2, sym (ap (after_copy i P) at ∙ ap (or_refused InvalidPointer) left.1))
 
-copy_refused : (text : List ℕ) (F P : Pointer) (i v : Json) (f : StepFault) → tree_at F i ≡ Some v → IsRefused (added P v i) f → IsStopped text i (copy F P) f
-copy_refused text F P i v (step.Refused kind) at h = ap Err h.0 ∙ sym (ap (after_copy i P) at ∙ ap (or_refused InvalidPointer) h.1)
-copy_refused text F P i v (step.Text f) at h = absurd h
-copy_refused text F P i v (step.Memory m) at h = tt
-
-pub copy_stops : (text s : List ℕ) (F P : Pointer) (i : Json) (f : ChangeFault) → (j : Json) × IsShallowText text j × IsWrittenAt text j F s → Says text i → IsAddFault text P s f → IsStopped text i (copy F P) (of_change f)
-copy_stops text s F P i f a said h =
+pub copy_stops : (text s : List ℕ) (F P : Pointer) (i : Json) (f : StepFault) → (j : Json) × IsShallowText text j × IsWrittenAt text j F s → Says text i → IsNotMade (HasNoPlace text P) f → IsStopped i (copy F P) f
+copy_stops text s F P i (step.Refused kind) a said h =
     let (v, at, shallow, whole) = source text F i s a said in
-    copy_refused text F P i v (of_change f) at (add_refused text s P i v f whole shallow h)
+    ap Err h.0 ∙ sym (ap (after_copy i P) at ∙ ap (or_refused InvalidPointer) (no_place text P v i said h.1))
+copy_stops text s F P i (step.Memory m) a said h = tt
 
 -- ---- move
 
@@ -184,7 +117,7 @@ pub move_none : (text : List ℕ) (F P : Pointer) (i : Json) → (IsProperPrefix
 move_none text F P i out h said =
     sym (ap (λ b. moves b P (tree_at F i) (removed F i)) (not_begins F P out) ∙ ap (λ o. after_move P o (removed F i)) (nowhere text F i h said) ∙ moved_none P (removed F i))
 
-pub move_whole : (text : List ℕ) (F P : Pointer) (i : Json) → (IsProperPrefix F P → ⊥) → IsRemoveFault text F change.NoTarget → Says text i → ComesTo i (move F P) (Err InvalidFromPointer)
+pub move_whole : (text : List ℕ) (F P : Pointer) (i : Json) → (IsProperPrefix F P → ⊥) → HasNothingToRemove text F → Says text i → ComesTo i (move F P) (Err InvalidFromPointer)
 move_whole text F P i out h said =
     sym (ap (λ b. moves b P (tree_at F i) (removed F i)) (not_begins F P out) ∙ ap (after_move P (tree_at F i)) (removed_nothing text F i said h) ∙ moved_whole P (tree_at F i))
 
@@ -206,17 +139,12 @@ move_comes text s less new F P i out a said r b =
     let left = add_left less s new P m v lower.0 shallow.0 b in
     (left.0, left.2, sym (ap (λ b. moves b P (tree_at F i) (removed F i)) (not_begins F P out) ∙ ap₂ (after_move P) at is ∙ ap (or_refused InvalidPointer) left.1))
 
-move_refused : (text : List ℕ) (F P : Pointer) (i v m : Json) (f : StepFault) → (IsProperPrefix F P → ⊥) → tree_at F i ≡ Some v → removed F i ≡ Some m → IsRefused (added P v m) f → IsStopped text i (move F P) f
-move_refused text F P i v m (step.Refused kind) out at is h =
-    ap Err h.0 ∙ sym (ap (λ b. moves b P (tree_at F i) (removed F i)) (not_begins F P out) ∙ ap₂ (after_move P) at is ∙ ap (or_refused InvalidPointer) h.1)
-move_refused text F P i v m (step.Text f) out at is h = absurd h
-move_refused text F P i v m (step.Memory e) out at is h = tt
-
-pub move_stops : (text s less : List ℕ) (F P : Pointer) (i : Json) (f : ChangeFault) → (IsProperPrefix F P → ⊥) → (j : Json) × IsShallowText text j × IsWrittenAt text j F s → Says text i → IsRemoved text F less → IsAddFault less P s f → IsStopped text i (move F P) (of_change f)
-move_stops text s less F P i f out a said r h =
+pub move_stops : (text s less : List ℕ) (F P : Pointer) (i : Json) (f : StepFault) → (IsProperPrefix F P → ⊥) → (j : Json) × IsShallowText text j × IsWrittenAt text j F s → Says text i → IsRemoved text F less → IsNotMade (HasNoPlace less P) f → IsStopped i (move F P) f
+move_stops text s less F P i (step.Refused kind) out a said r h =
     let (v, at, shallow, whole) = source text F i s a said in
     let (m, (is, lower)) = taken text less F i whole r in
-    move_refused text F P i v m (of_change f) out at is (add_refused less s P m v f lower shallow h)
+    ap Err h.0 ∙ sym (ap (λ b. moves b P (tree_at F i) (removed F i)) (not_begins F P out) ∙ ap₂ (after_move P) at is ∙ ap (or_refused InvalidPointer) (no_place less P v m lower.0 h.1))
+move_stops text s less F P i (step.Memory e) out a said r h = tt
 
 -- ---- test
 

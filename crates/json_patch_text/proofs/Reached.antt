@@ -1,12 +1,11 @@
 -- A run over the operations of a patch's text, one step at a time.
-use Rattle.std.proofs.Common.{◌≡◌, ◌<◌, ◌+◌, ℕ, zero, suc, List, [], ◌∷◌, length, take, get_or, Option, Some, None, option_map, Ok, Err, unwrap_or, refl, sym, ap, ◌∙◌, subst, add-one, arith}
+use Rattle.std.proofs.Common.{◌≡◌, ◌<◌, ◌+◌, ℕ, zero, suc, List, [], ◌∷◌, length, take, get_or, Option, Some, None, option_map, Ok, Err, refl, sym, ap, ◌∙◌, subst, add-one, arith}
 use Rattle.std.specs.Prelude.{slice_get}
-use Rattle.std.specs.String.{string_bytes}
-use Rattle.std.specs.declared.string.String.{String}
+use Rattle.json_patch_text.specs.declared.step.NewText.{NewText}
 use Rattle.std.proofs.lemmas.Option.{none-some, same_Some}
-use Rattle.json.specs.Json.{Json, max_depth}
+use Rattle.json.specs.Json.{Json}
 use Rattle.json_patch_operation.specs.declared.error.PatchErrorKind.{PatchErrorKind}
-use Rattle.json_patch_text.specs.Made.{AreMadeIn, IsMadeIn, IsNoText, IsStepped, IsStopped, IsTooDeepAt, text_or}
+use Rattle.json_patch_text.specs.Made.{AreMadeIn, IsMadeIn, IsStepped, IsStopped, text_or}
 use Rattle.json_patch_text.specs.Operations.{TreeOperation, add, remove, replace, move, copy, test, path_of}
 use Rattle.json_patch_text.specs.Reached.{IsReached, Reaches}
 use Rattle.json_patch_text.specs.Run.{AcceptsText, AcceptsTree, RefusesTreeAt}
@@ -20,13 +19,10 @@ use Rattle.json_patch_text.specs.declared.operation.TextOperation.{TextOperation
 use Rattle.json_patch_text.specs.declared.operation.TextOperation.TheVariants.{Add, Remove, Replace, Move, Copy, Test}
 use Rattle.json_patch_text.proofs.Runs.{accepts_next, refuses_here, refuses_next}
 use Rattle.json_reading.specs.Trees.{data_of}
-use Rattle.json_text.specs.Faults.{nesting}
 use Rattle.json_text.specs.Spelled.{IsShallowText, Says}
-use Rattle.json_text.specs.declared.fault.TextFault.{TextFault}
-use Rattle.json_text.specs.declared.fault.TextFault.TheVariants as fault
 
 -- o is the operation at k
-abbrev IsAt : List TextOperation → ℕ → TextOperation → Type 0
+abbrev pub IsAt : List TextOperation → ℕ → TextOperation → Type 0
 IsAt os k o = o ≡ get_or os k o
 
 -- ---- trees
@@ -60,7 +56,7 @@ made_more text left new (x ∷ os) (suc k) o less at h s = (h.0, h.1, made_more 
 
 -- ---- the operation at k
 
-written_at : (os : List TextOperation) (ops : List TreeOperation) (k : ℕ) (o : TextOperation) → k < length os → IsAt os k o → AreWrittenAs os ops → (op : TreeOperation) × (slice_get ops k ≡ Some op) × IsWrittenAs o op
+pub written_at : (os : List TextOperation) (ops : List TreeOperation) (k : ℕ) (o : TextOperation) → k < length os → IsAt os k o → AreWrittenAs os ops → (op : TreeOperation) × (slice_get ops k ≡ Some op) × IsWrittenAs o op
 written_at [] [] k o less at w = absurd (omega arith)
 written_at (x ∷ os) (op ∷ ops) zero o less at w = (op, refl, subst (λ y. IsWrittenAs y op) (sym at) w.0)
 written_at (x ∷ os) (op ∷ ops) (suc k) o less at w = written_at os ops k o (omega arith) at w.1
@@ -83,12 +79,12 @@ reached_first text new os e = record {
   tree = λ i ops said w. (i, subst (λ t. Says t i) (sym e) said, refl);
 }
 
-left_by : {A : Type 0} (text : List ℕ) (i : Json) (op : TreeOperation) (o : Option (String A)) → Says text i → IsStepped text i op (Ok o) → (j : Json) × Says (text_or text o) j × ComesTo i op (Ok j)
+left_by : (text : List ℕ) (i : Json) (op : TreeOperation) (o : Option NewText) → Says text i → IsStepped i op (Ok o) → (j : Json) × Says (text_or text o) j × ComesTo i op (Ok j)
 left_by text i op None said h = (i, said, h)
 left_by text i op (Some new) said h = h
 
-reached_more : {A : Type 0} (text left : List ℕ) (os : List TextOperation) (k : ℕ) (o : TextOperation) (x : Option (String A)) → k < length os → IsAt os k o → IsReached text os k left → IsMadeIn left o (text_or left x)
-    → ((i : Json) (op : TreeOperation) → Says left i → IsWrittenAs o op → IsStepped left i op (Ok x)) → IsReached text os (k + 1) (text_or left x)
+pub reached_more : (text left : List ℕ) (os : List TextOperation) (k : ℕ) (o : TextOperation) (x : Option NewText) → k < length os → IsAt os k o → IsReached text os k left → IsMadeIn left o (text_or left x)
+    → ((i : Json) (op : TreeOperation) → Says left i → IsWrittenAs o op → IsStepped i op (Ok x)) → IsReached text os (k + 1) (text_or left x)
 reached_more text left os k o x less at r made comes = subst (λ n. IsReached text os n (text_or left x)) (sym (add-one k)) record {
   made = made_more text left (text_or left x) os k o less at r.made made;
   tree = λ i ops said w.
@@ -98,9 +94,10 @@ reached_more text left os k o x less at r made comes = subst (λ n. IsReached te
       (n, n_said, reaches_more i m n ops k op here reaches step_comes);
 }
 
-text_is : {A : Type 0} (left : String A) (o : Option (String A)) (new : String A) → new ≡ unwrap_or o left → string_bytes new ≡ text_or (string_bytes left) o
-text_is left None new e = ap string_bytes e
-text_is left (Some x) new e = ap string_bytes e
+pub accepted_first : (text new : List ℕ) (os : List TextOperation) (ops : List TreeOperation) (k : ℕ) → (j : Json) × IsShallowText text j → IsReached text os k new → AreWrittenAs os ops → AcceptsText text (take k ops) new
+accepted_first text new os ops k (i, s) r w =
+    let (m, said, reaches) = r.tree i ops s.0 w in
+    (i, m, s.0, said, reaches_accepts i m (take k ops) reaches)
 
 pub all_accepted : (text new : List ℕ) (os : List TextOperation) (ops : List TreeOperation) (k : ℕ) → length os ≡ k → (j : Json) × IsShallowText text j → IsReached text os k new → AreWrittenAs os ops → AcceptsText text ops new
 all_accepted text new os ops k e (i, s) r w =
@@ -109,33 +106,17 @@ all_accepted text new os ops k e (i, s) r w =
 
 -- ---- its faults
 
-deep_by : (left : List ℕ) (m : Json) (f : TextFault) → Says left m → IsNoText left f → max_depth < nesting left
-deep_by left m fault.NotJson said h = absurd (h m said)
-deep_by left m fault.TooDeep said h = h
-deep_by left m (fault.Memory e) said h = absurd h
-
 pub reported_fault : (text left : List ℕ) (os : List TextOperation) (ops : List TreeOperation) (k : ℕ) (o : TextOperation) (f : StepFault) (r : PatchTextFault) → (j : Json) × IsShallowText text j → k < length os → IsAt os k o → IsReached text os k left
-    → ((i : Json) (op : TreeOperation) → Says left i → IsWrittenAs o op → IsStopped left i op f) → Reports f k (place_of o) r → AreWrittenAs os ops → IsRunFault text os ops r
+    → ((i : Json) (op : TreeOperation) → Says left i → IsWrittenAs o op → IsStopped i op f) → Reports f k (place_of o) r → AreWrittenAs os ops → IsRunFault text os ops r
 reported_fault text left os ops k o f (Document g) a less at r stops e w = absurd e
 reported_fault text left os ops k o f (Patch g) a less at r stops e w = absurd e
 reported_fault text left os ops k o f (Unreadable g) a less at r stops e w = absurd e
 reported_fault text left os ops k o f (Refused g) (i, s) less at r stops (is, number, path) w =
     let (m, said, reaches) = r.tree i ops s.0 w in
     let (op, here, written) = written_at os ops k o less at w in
-    let refused : ComesTo m op (Err g.kind) = subst (IsStopped left m op) is (stops m op said written) in
+    let refused : ComesTo m op (Err g.kind) = subst (IsStopped m op) is (stops m op said written) in
     let at_k : RefusesTreeAt i ops k g.kind = refuses_at i m ops k op g.kind here reaches refused in
     let named : option_map path_of (slice_get ops k) ≡ Some g.path = ap (option_map path_of) here ∙ ap Some (sym (place_is o op written)) ∙ ap Some (sym path) in
     ((i, s.0, subst (λ n. RefusesTreeAt i ops n g.kind) (sym number) at_k), subst (λ n. option_map path_of (slice_get ops n) ≡ Some g.path) (sym number) named)
-reported_fault text left os ops k o f (TooDeep n) (i, s) less at r stops ((g, is), number) w =
-    let (m, said, reaches) = r.tree i ops s.0 w in
-    let (op, here, written) = written_at os ops k o less at w in
-    let deep : max_depth < nesting left = deep_by left m g said (subst (IsStopped left m op) is (stops m op said written)) in
-    let found : IsTooDeepAt text os k = (left, r.made, deep) in
-    subst (λ x. (x < length os) × IsTooDeepAt text os x) (sym number) (less, found)
+reported_fault text left os ops k o f (TooDeep n) a less at r stops e w = absurd e
 reported_fault text left os ops k o f (Memory m) a less at r stops e w = tt
-
--- for the code, which hands on copies
-pub reached_next : {A : Type 0} (text t : List ℕ) (left new : String A) (os : List TextOperation) (k : ℕ) (o : TextOperation) (x : Option (String A)) → t ≡ string_bytes left → new ≡ unwrap_or x left → k < length os → IsAt os k o → IsReached text os k (string_bytes left)
-    → IsMadeIn t o (text_or t x) → ((i : Json) (op : TreeOperation) → Says t i → IsWrittenAs o op → IsStepped t i op (Ok x)) → IsReached text os (k + 1) (string_bytes new)
-reached_next text t left new os k o x q e less at r made comes =
-    subst (IsReached text os (k + 1)) (sym (text_is left x new e ∙ ap (λ s. text_or s x) (sym q))) (reached_more text t os k o x less at (subst (IsReached text os k) (sym q) r) made comes)

@@ -105,14 +105,15 @@ not_refused i j (op ∷ ops) (suc k) kind r a n =
     let (m, h) = first_accepted i j op ops a in
     not_refused m j ops k kind r (accepts_rest i m j op ops h a) (refuses_rest r i m op ops k kind h n)
 
-one_left_by_all : (i j k : Json) (ops : List TreeOperation) (r : Reading) → AcceptsTree i ops j → AcceptsTree i ops k → data_of r j ≡ data_of r k
-one_left_by_all i j k [] r a b = sym (a r) ∙ b r
-one_left_by_all i j k (op ∷ ops) r a b =
+-- under a reading the operations lead to one document
+pub one_document_left : (i j : Json) (ops : List TreeOperation) (r : Reading) (e : Data) → AcceptsTree i ops j → Accepts (data_of r i) (all_under r ops) e → data_of r j ≡ e
+one_document_left i j [] r e a h = sym (a r) ∙ h
+one_document_left i j (op ∷ ops) r e a (d, l, rest) =
     let (m, h) = first_accepted i j op ops a in
-    one_left_by_all m j k ops r (accepts_rest i m j op ops h a) (accepts_rest i m k op ops h b)
+    one_document_left m j ops r e (accepts_rest i m j op ops h a) (subst (λ d. Accepts d (all_under r ops) e) (one_left r i op m d h l) rest)
 
 pub one_end : (i j k : Json) (ops : List TreeOperation) → AcceptsTree i ops j → AcceptsTree i ops k → SameTree j k
-one_end i j k ops a b = (same_exactly j k).1 (λ r. (AreSame-document (data_of r j) (data_of r k) (IsDocument-data_of r j)).1 (one_left_by_all i j k ops r a b))
+one_end i j k ops a b = (same_exactly j k).1 (λ r. (AreSame-document (data_of r j) (data_of r k) (IsDocument-data_of r j)).1 (one_document_left i j ops r (data_of r k) a (b r)))
 
 one_kind : (i : Json) (op : TreeOperation) (r s : Reading) (kind other : PatchErrorKind) → Refuses (data_of r i) (under r op) kind → Refuses (data_of s i) (under s op) other → other ≡ kind
 one_kind i op r s kind other n o = by (comes i op)

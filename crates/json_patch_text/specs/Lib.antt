@@ -1,3 +1,4 @@
+pub mod Bounded
 pub mod Changed
 pub mod Made
 pub mod Operations
@@ -8,3 +9,4 @@ pub mod Run
 pub mod Step
 pub mod Stopped
 pub mod TextOperations
+pub mod Within

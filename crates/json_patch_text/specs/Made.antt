@@ -1,7 +1,6 @@
 -- What an operation makes of a text, in trees and byte by byte (RFC 6902, section 4).
-use Rattle.std.specs.Prelude.{◌≡◌, ◌<◌, ℕ, List, [], ◌∷◌, take, Option, Some, None, Result, Ok, Err, ⊤}
+use Rattle.std.specs.Prelude.{◌≡◌, ◌<◌, ◌≤◌, false, ℕ, List, [], ◌∷◌, take, Option, Some, None, Result, Ok, Err, ⊤}
 use Rattle.std.specs.String.{string_bytes}
-use Rattle.std.specs.declared.string.String.{String}
 use Rattle.json.specs.Json.{Json, max_depth}
 use Rattle.jsonptr.specs.Text.{Pointer}
 use Rattle.json_patch_operation.specs.declared.error.PatchErrorKind.TheVariants.{InvalidPointer}
@@ -11,14 +10,13 @@ use Rattle.json_patch_text.specs.declared.fault.StepFault.{StepFault}
 use Rattle.json_patch_text.specs.declared.fault.StepFault.TheVariants as step
 use Rattle.json_patch_text.specs.declared.operation.TextOperation.{TextOperation}
 use Rattle.json_patch_text.specs.declared.operation.TextOperation.TheVariants.{Add, Remove, Replace, Move, Copy, Test}
+use Rattle.json_patch_text.specs.declared.step.NewText.{NewText}
 use Rattle.json_text.specs.Added.{IsAdded}
 use Rattle.json_text.specs.Faults.{nesting}
 use Rattle.json_text.specs.Pointed.{IsWrittenAt}
 use Rattle.json_text.specs.Removed.{IsRemoved}
 use Rattle.json_text.specs.Replaced.{IsReplaced}
 use Rattle.json_text.specs.Spelled.{Says}
-use Rattle.json_text.specs.declared.fault.ChangeFault.{ChangeFault}
-use Rattle.json_text.specs.declared.fault.ChangeFault.TheVariants as change
 use Rattle.json_text.specs.declared.fault.TextFault.{TextFault}
 use Rattle.json_text.specs.declared.fault.TextFault.TheVariants.{NotJson, TooDeep, Memory}
 
@@ -62,32 +60,27 @@ IsNoText text NotJson = (j : Json) → ¬ Says text j
 IsNoText text TooDeep = max_depth < nesting text
 IsNoText text (Memory m) = ⊥
 
--- why it isn't made in the text, which says i
-abbrev pub IsStopped : List ℕ → Json → TreeOperation → StepFault → Type 0
-IsStopped text i op (step.Refused kind) = ComesTo i op (Err kind)
-IsStopped text i op (step.Text f) = IsNoText text f
-IsStopped text i op (step.Memory m) = ⊤
+-- why it isn't made of i
+abbrev pub IsStopped : Json → TreeOperation → StepFault → Type 0
+IsStopped i op (step.Refused kind) = ComesTo i op (Err kind)
+IsStopped i op (step.Memory m) = ⊤
 
 -- with a new text, or none where it is as it was
-abbrev pub IsStepped : {A : Type 0} → List ℕ → Json → TreeOperation → Result (Option (String A)) StepFault → Type 0
-IsStepped text i op (Ok None) = ComesTo i op (Ok i)
-IsStepped text i op (Ok (Some new)) = IsLeft (string_bytes new) i op
-IsStepped text i op (Err f) = IsStopped text i op f
+abbrev pub IsStepped : Json → TreeOperation → Result (Option NewText) StepFault → Type 0
+IsStepped i op (Ok None) = ComesTo i op (Ok i)
+IsStepped i op (Ok (Some new)) = IsLeft (string_bytes new.text) i op
+IsStepped i op (Err f) = IsStopped i op f
 
 -- the text is as it was where there is no other
-abbrev pub text_or : {A : Type 0} → List ℕ → Option (String A) → List ℕ
+abbrev pub text_or : List ℕ → Option NewText → List ℕ
 text_or text None = text
-text_or text (Some new) = string_bytes new
+text_or text (Some new) = string_bytes new.text
 
--- ---- which fault that of a call becomes
+-- of a text that nests no deeper than these levels, the new one doesn't either, unless it says that it may
+abbrev pub IsNoDeeper : ℕ → List ℕ → NewText → Type 0
+IsNoDeeper levels text new = new.deeper ≡ false → nesting text ≤ levels → nesting (string_bytes new.text) ≤ levels
 
-abbrev pub of_text : TextFault → StepFault
-of_text NotJson = step.Text NotJson
-of_text TooDeep = step.Text TooDeep
-of_text (Memory m) = step.Memory m
-
-abbrev pub of_change : ChangeFault → StepFault
-of_change (change.Text f) = of_text f
-of_change (change.Value f) = of_text f
-of_change change.NoTarget = step.Refused InvalidPointer
-of_change (change.Memory m) = step.Memory m
+-- a change isn't made, since the pointer leads nowhere in this sense
+abbrev pub IsNotMade : Type 0 → StepFault → Type 0
+IsNotMade nowhere (step.Refused kind) = (kind ≡ InvalidPointer) × nowhere
+IsNotMade nowhere (step.Memory m) = ⊤

@@ -3,7 +3,7 @@ use Rattle.std.specs.Prelude.{◌≡◌, ◌<◌, ℕ, List, length, Some, optio
 use Rattle.jsonptr.specs.Text.{Pointer}
 use Rattle.json_patch_operation.specs.declared.error.PatchError.{PatchError}
 use Rattle.json_patch_text.specs.Made.{IsNoText, IsTooDeepAt}
-use Rattle.json_patch_text.specs.Operations.{TreeOperation, path_of}
+use Rattle.json_patch_text.specs.Operations.{TreeOperation, SaysNoOperations, path_of}
 use Rattle.json_patch_text.specs.Run.{RefusesTextAt}
 use Rattle.json_patch_text.specs.declared.fault.PatchTextFault.{PatchTextFault}
 use Rattle.json_patch_text.specs.declared.fault.PatchTextFault.TheVariants.{Document, Patch, Unreadable, Refused, TooDeep, Memory}
@@ -18,6 +18,15 @@ abbrev pub NamesFirstIn : List ℕ → List TreeOperation → PatchError → Typ
 NamesFirstIn text ops e = RefusesTextAt text ops e.operation e.kind × (option_map path_of (slice_get ops e.operation) ≡ Some e.path)
 
 -- ---- for private clauses
+
+-- why the patch's text has no operations
+abbrev pub IsUnread : List ℕ → PatchTextFault → Type 0
+IsUnread patch (Document f) = ⊥
+IsUnread patch (Patch f) = IsNoText patch f
+IsUnread patch (Unreadable e) = SaysNoOperations patch e.operation e.kind
+IsUnread patch (Refused e) = ⊥
+IsUnread patch (TooDeep k) = ⊥
+IsUnread patch (Memory m) = ⊤
 
 -- a run of the operations os, which are ops, ends so
 abbrev pub IsRunFault : List ℕ → List TextOperation → List TreeOperation → PatchTextFault → Type 0
@@ -34,7 +43,7 @@ Reports fault n P (Document f) = ⊥
 Reports fault n P (Patch f) = ⊥
 Reports fault n P (Unreadable e) = ⊥
 Reports fault n P (Refused e) = (fault ≡ step.Refused e.kind) × (e.operation ≡ n) × (e.path ≡ P)
-Reports fault n P (TooDeep k) = ((f : TextFault) × (fault ≡ step.Text f)) × (k ≡ n)
+Reports fault n P (TooDeep k) = ⊥
 Reports fault n P (Memory m) = ⊤
 
 -- which fault that of the document's text becomes, or of the patch's

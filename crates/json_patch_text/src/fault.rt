@@ -1,10 +1,10 @@
 //! Why a text isn't patched.
 
 ghost use Rattle.std.specs.Prelude.{◌≡◌};
-ghost use Rattle.json_patch_text.specs.Made.{of_text, of_change};
 
+use json_patch_limits::limits::LimitError;
 use json_patch_operation::{PatchError, PatchErrorKind, ReadError};
-use json_text::{ChangeFault, TextFault};
+use json_text::TextFault;
 use std::alloc::AllocError;
 use thiserror::Error;
 
@@ -45,13 +45,43 @@ impl From<AllocError> for PatchTextFault {
     }
 }
 
+/// Why a text isn't patched within limits.
+#[derive(Debug, Drop, Error)]
+pub enum TextLimitFault {
+    /// An operation would leave a text that is over the limits.
+    #[error("{0}")]
+    Over(LimitError),
+    /// It isn't patched for another reason.
+    #[error("{0}")]
+    Patch(PatchTextFault),
+}
+
+impl From<PatchTextFault> for TextLimitFault {
+    ghost use Rattle.json_patch_text.specs.declared.fault.TextLimitFault.TheVariants.{Patch};
+
+    ghost from_gives = { λ error fault. fault ≡ Patch error };
+
+    fn from(error: PatchTextFault) -> TextLimitFault {
+        TextLimitFault::Patch(error)
+    }
+}
+
+impl From<AllocError> for TextLimitFault {
+    ghost use Rattle.json_patch_text.specs.declared.fault.PatchTextFault.TheVariants.{Memory};
+    ghost use Rattle.json_patch_text.specs.declared.fault.TextLimitFault.TheVariants.{Patch};
+
+    ghost from_gives = { λ error fault. fault ≡ Patch (Memory error) };
+
+    fn from(error: AllocError) -> TextLimitFault {
+        TextLimitFault::Patch(PatchTextFault::Memory(error))
+    }
+}
+
 /// Why an operation isn't made.
 #[derive(Drop)]
 pub(crate) enum StepFault {
     /// It is refused.
     Refused(PatchErrorKind),
-    /// The text isn't read.
-    Text(TextFault),
     /// No memory was found.
     Memory(AllocError),
 }
@@ -63,29 +93,5 @@ impl From<AllocError> for StepFault {
 
     fn from(error: AllocError) -> StepFault {
         StepFault::Memory(error)
-    }
-}
-
-impl From<TextFault> for StepFault {
-    ghost from_gives = { λ error fault. fault ≡ of_text error };
-
-    fn from(error: TextFault) -> StepFault {
-        match error {
-            TextFault::Memory(failed) => StepFault::Memory(failed),
-            TextFault::NotJson => StepFault::Text(TextFault::NotJson),
-            TextFault::TooDeep => StepFault::Text(TextFault::TooDeep),
-        }
-    }
-}
-
-impl From<ChangeFault> for StepFault {
-    ghost from_gives = { λ error fault. fault ≡ of_change error };
-
-    fn from(error: ChangeFault) -> StepFault {
-        match error {
-            ChangeFault::Text(fault) | ChangeFault::Value(fault) => StepFault::from(fault),
-            ChangeFault::NoTarget => StepFault::Refused(PatchErrorKind::InvalidPointer),
-            ChangeFault::Memory(failed) => StepFault::Memory(failed),
-        }
     }
 }

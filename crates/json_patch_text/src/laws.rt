@@ -1,15 +1,27 @@
 //! Laws of what operations leave of a tree, as the clauses of functions that do nothing.
 
-ghost use Rattle.std.specs.Prelude.{◌≡◌, ◌⊎◌, ◌↔◌, ◌∷◌, [], ℕ, List, Option, Some, option_map};
-ghost use Rattle.json.specs.Json.{Json};
+ghost use Rattle.std.specs.Prelude.{◌≡◌, ◌⊎◌, ◌↔◌, ◌∷◌, ◌≤◌, ◌<◌, [], ℕ, List, Option, Some, option_map, take};
+ghost use Rattle.json.specs.Json.{Json, max_depth};
 ghost use Rattle.jsonptr.specs.Text.{Pointer};
+ghost use Rattle.serde_json.specs.Data.{Data};
+ghost use Rattle.serde_json.specs.Read.{of_json};
 ghost use Rattle.json_patch_document.specs.ChangeComputed.{pointee, after_add, after_remove, after_replace};
+ghost use Rattle.json_patch_document.specs.Document.{IsDocument};
+ghost use Rattle.json_patch_laws.specs.Run.{Accepts, RefusesAt};
+ghost use Rattle.json_patch_operation.specs.Operation.{Operation};
+ghost use Rattle.json_patch_limits.specs.declared.limits.LimitKind.{LimitKind};
+ghost use Rattle.json_patch_limits.specs.declared.limits.LimitKind.TheVariants.{TooDeep};
+ghost use Rattle.json_patch_limits.specs.declared.limits.Limits.{Limits};
 ghost use Rattle.json_patch_operation.specs.PatchValue.{ReadsPatch, RefusesPatch};
 ghost use Rattle.json_patch_operation.specs.declared.read_error.ReadKind.{ReadKind};
 ghost use Rattle.json_patch_operation.specs.declared.error.PatchErrorKind.{PatchErrorKind};
 ghost use Rattle.json_patch_text.specs.Changed.{added, removed, replaced};
+ghost use Rattle.json_patch_text.specs.Made.{AreMadeIn};
 ghost use Rattle.json_patch_text.specs.Operations.{TreeOperation, ReadsTreePatch, SaysOperations, all_under, test};
-ghost use Rattle.json_patch_text.specs.Run.{AcceptsTree, RefusesTreeAt};
+ghost use Rattle.json_patch_text.specs.Run.{AcceptsTree, RefusesTextAt, RefusesTreeAt};
+ghost use Rattle.json_patch_text.specs.Within.{AreMadeWithin, IsFaultWithin, IsTextOver, IsTextOverAt, IsTextWithin};
+ghost use Rattle.json_patch_text.specs.declared.fault.PatchTextFault.TheVariants as PatchTextFault;
+ghost use Rattle.json_patch_text.specs.declared.operation.TextOperation.{TextOperation};
 ghost use Rattle.json_reading.specs.Reading.{Reading};
 ghost use Rattle.json_reading.specs.Same.{SameTree};
 ghost use Rattle.json_reading.specs.Trees.{data_of};
@@ -60,6 +72,35 @@ pub fn runs()
         ↔ ((v : Json) × (tree_at P i ≡ Some v) × SameTree v w) }
 {}
 
+/// Operations within limits.
+pub fn limits()
+    // A text is within the limits, or over them in one way.
+    ensures within_or_over { (l : Limits) (most : ℕ) (text : List ℕ)
+        → IsTextWithin l most text ⊎ ((kind : LimitKind) × IsTextOver l most text kind) }
+    ensures over_alone { (l : Limits) (most : ℕ) (text : List ℕ) (kind : LimitKind)
+        → IsTextOver l most text kind → IsTextWithin l most text → ⊥ }
+    ensures one_kind { (l : Limits) (most : ℕ) (text : List ℕ) (kind other : LimitKind)
+        → IsTextOver l most text kind → IsTextOver l most text other → other ≡ kind }
+
+    // What is made within the limits is made, and is within them.
+    ensures made { (l : Limits) (most : ℕ) (text new : List ℕ) (os : List TextOperation)
+        → AreMadeWithin l most text os new → AreMadeIn text os new × IsTextWithin l most new }
+
+    // No operation up to the one that is over is refused.
+    ensures not_refused { (l : Limits) (most : ℕ) (text : List ℕ) (os : List TextOperation)
+        (ops : List TreeOperation) (k n : ℕ) (kind : LimitKind) (other : PatchErrorKind)
+        → IsTextOverAt l most text os ops k kind → RefusesTextAt text ops n other → k < n }
+
+    // One that leaves too deep a text is never made within the limits.
+    ensures deep_last { (l : Limits) (most : ℕ) (text left : List ℕ) (os : List TextOperation)
+        (ops : List TreeOperation) (k n : ℕ) → IsTextOverAt l most text os ops k TooDeep
+        → AreMadeWithin l most text (take n os) left → n ≤ k }
+
+    // With limits of at most 128 levels no text on the way is too deep to be read.
+    ensures readable { (l : Limits) (text patch : List ℕ) (k : ℕ) → l.depth ≤ max_depth
+        → IsFaultWithin l text patch (PatchTextFault.TooDeep k) → ⊥ }
+{}
+
 /// Patches as trees.
 pub fn patches()
     // A tree that reads as a patch does so under each reading.
@@ -74,6 +115,22 @@ pub fn patches()
     // A text says one list of operations at most.
     ensures one_patch { (text : List ℕ) (ops others : List TreeOperation) → SaysOperations text ops
         → SaysOperations text others → others ≡ ops }
+{}
+
+/// Trees i and p of a document and a patch whose numbers are all whole ones of 64 bits, so that they are
+/// read as the document d and the operations os.
+pub fn whole_numbers()
+    // Where both are accepted, they lead to one document.
+    ensures accepted_alike { (i j p : Json) (d v e : Data) (ops : List TreeOperation)
+        (os : List Operation) → of_json i ≡ Some d → IsDocument d → of_json p ≡ Some v
+        → IsDocument v → ReadsTreePatch p ops → ReadsPatch v os → AcceptsTree i ops j
+        → Accepts d os e → (r : Reading) → data_of r j ≡ e }
+
+    // Where the trees are refused, so are these, at the same operation and for the same kind.
+    ensures refused_alike { (i p : Json) (d v : Data) (ops : List TreeOperation)
+        (os : List Operation) (k : ℕ) (kind : PatchErrorKind) → of_json i ≡ Some d → IsDocument d
+        → of_json p ≡ Some v → IsDocument v → ReadsTreePatch p ops → ReadsPatch v os
+        → RefusesTreeAt i ops k kind → RefusesAt d os k kind }
 {}
 
 /// Values as they are written.

@@ -1,5 +1,6 @@
 //! A JSON text patched in place (RFC 6902): [`patch_text`], and what it is to patch a text, in
-//! definitions and their laws.
+//! definitions and their laws. [`patch_text_within`] is for the patch of a stranger: no text on the way
+//! nests deeper, or is longer, than limits allow.
 //!
 //! Every byte that no operation changes is kept: blanks, the order of members, `1.50` and `"\u0061"` as
 //! they are written.
@@ -10,8 +11,11 @@
 //! the one tree to the document of the other.
 #![tactic(auto)]
 
+mod bounds;
 mod fault;
 pub mod laws;
+#[cfg(test)]
+mod limit_tests;
 mod operation;
 mod patch;
 mod reading;
@@ -20,5 +24,5 @@ mod step;
 #[cfg(test)]
 mod tests;
 
-pub use fault::PatchTextFault;
-pub use patch::patch_text;
+pub use fault::{PatchTextFault, TextLimitFault};
+pub use patch::{patch_text, patch_text_within};

@@ -2,15 +2,18 @@
 
 ghost use Rattle.std.specs.Prelude.{◌≡◌, IfErr, IfOk};
 ghost use Rattle.std.specs.String.{string_bytes};
-ghost use Rattle.json_patch_text.specs.Patched.{AcceptsPatch, IsPatchTextFault, IsPatchedText};
-ghost use Rattle.json_patch_text.specs.Stopped.{as_patch};
+ghost use Rattle.json_patch_text.specs.Patched.{AcceptsPatch, HasTexts, IsPatchTextFault, IsPatchedText};
+ghost use Rattle.json_patch_text.specs.Stopped.{IsUnread, as_patch};
+ghost use Rattle.json_patch_text.specs.Within.{IsPatchedWithin, IsTextLimitFault, IsTextWithin, most_bytes};
 
-use crate::fault::PatchTextFault;
+use crate::bounds::Bounds;
+use crate::fault::{PatchTextFault, TextLimitFault};
+use crate::operation::TextOperation;
 use crate::reading::read;
 use crate::run::run;
+use json_patch_limits::limits::Limits;
 use json_patch_operation::ReadFault;
-use json_text::{TextFault, value_text};
-use jsonptr::Pointer;
+use json_text::{CheckedText, TextFault, is_deeper};
 use std::alloc::Global;
 
 /// The fault where the patch's text isn't read.
@@ -21,6 +24,24 @@ fn patch_fault(fault: TextFault) -> PatchTextFault
         TextFault::Memory(failed) => PatchTextFault::Memory(failed),
         TextFault::NotJson => PatchTextFault::Patch(TextFault::NotJson),
         TextFault::TooDeep => PatchTextFault::Patch(TextFault::TooDeep),
+    }
+}
+
+/// The operations that the patch's text says.
+fn operations_in<'a>(
+    alloc: Global,
+    patch: &'a str,
+) -> Result<Vec<TextOperation<'a>>, PatchTextFault>
+    ensures read { IfOk result (λ os. HasTexts patch.now os.items) }
+    ensures fault { IfErr result (IsUnread patch.now) }
+{
+    if let Err(fault) = CheckedText::new(alloc, patch) {
+        return Err(patch_fault(fault));
+    }
+    match read(alloc, patch) {
+        Ok(operations) => Ok(operations),
+        Err(ReadFault::Refused(error)) => Err(PatchTextFault::Unreadable(error)),
+        Err(ReadFault::Memory(failed)) => Err(PatchTextFault::Memory(failed)),
     }
 }
 
@@ -41,12 +62,62 @@ pub fn patch_text(alloc: Global, text: &str, patch: &str) -> Result<String, Patc
     ensures kept { IfOk result (λ new. IsPatchedText text.now patch.now (string_bytes new)) }
     ensures fault { IfErr result (IsPatchTextFault text.now patch.now) }
 {
-    if let Err(fault) = value_text(alloc, patch, Pointer::root()) {
-        return Err(patch_fault(fault));
+    let operations = operations_in(alloc, patch)?;
+    match run(alloc, text, operations.as_slice(), None) {
+        Ok(new) => Ok(new),
+        Err(TextLimitFault::Patch(fault)) => Err(fault),
+        Err(TextLimitFault::Over(_)) => unreachable!(),
     }
-    match read(alloc, patch) {
-        Ok(operations) => run(alloc, text, operations.as_slice()),
-        Err(ReadFault::Refused(error)) => Err(PatchTextFault::Unreadable(error)),
-        Err(ReadFault::Memory(failed)) => Err(PatchTextFault::Memory(failed)),
+}
+
+/// The text with the patch applied as [`patch_text`] does it, within limits: so a patch that a stranger
+/// wrote makes no text grow or nest without bound.
+///
+/// Each text that the operations leave, one after another, may have at most `limits.depth` objects and
+/// arrays open at once. It may have at most as many bytes as `text` and `patch` together, and
+/// `limits.copied` bytes more: so much the `copy`s may add, with the blanks, commas and names that go
+/// with a new member or item.
+///
+/// The first operation that would leave another text is `Over`, with its number: `TooDeep` where that
+/// text nests deeper, and else `TooMuch`. An operation that is refused leaves no text, and is never
+/// over. Where `text` itself nests deeper than `limits.depth`, it is refused as a document that is too
+/// deep.
+///
+/// ```rust
+/// let text = r#"{"a": [1, 2]}"#;
+/// let patch = r#"[{"op": "copy", "from": "", "path": "/b"}]"#;
+/// let limits = Limits {
+///     depth: 2,
+///     copied: 1_000,
+/// };
+/// let told = match patch_text_within(alloc, text, patch, limits) {
+///     Ok(new) => new,
+///     Err(fault) => format!(in alloc; "{fault}")?,
+/// };
+/// // operation '/0' is over the limits: value would reach too deep
+/// ```
+pub fn patch_text_within(
+    alloc: Global,
+    text: &str,
+    patch: &str,
+    limits: Limits,
+) -> Result<String, TextLimitFault>
+    ensures accepted { IfOk result (λ new. AcceptsPatch text.now patch.now (string_bytes new)) }
+    ensures kept { IfOk result (λ new. IsPatchedText text.now patch.now (string_bytes new)) }
+    ensures within { IfOk result (λ new. IsPatchedWithin limits text.now patch.now (string_bytes new)) }
+    ensures bounded { IfOk result
+        (λ new. IsTextWithin limits (most_bytes limits text.now patch.now) (string_bytes new)) }
+    ensures fault { IfErr result (IsTextLimitFault limits text.now patch.now) }
+{
+    if is_deeper(text, limits.depth) {
+        let fault = PatchTextFault::Document(TextFault::TooDeep);
+        return Err(TextLimitFault::Patch(fault));
     }
+    let operations = operations_in(alloc, patch)?;
+    let bounds = Bounds {
+        limits,
+        document: text.len(),
+        patch: patch.len(),
+    };
+    run(alloc, text, operations.as_slice(), Some(bounds))
 }

@@ -2,18 +2,19 @@
 
 ghost use Rattle.std.specs.Prelude.{◌≡◌, List, IfOk, IfErr};
 ghost use Rattle.std.specs.String.{string_bytes};
-ghost use Rattle.json_patch_text.specs.Made.{AreMadeIn};
+ghost use Rattle.json_patch_text.specs.Bounded.{AreMadeUnder, IsRunFaultUnder, IsUnder};
 ghost use Rattle.json_patch_text.specs.Operations.{TreeOperation};
 ghost use Rattle.json_patch_text.specs.Run.{AcceptsText};
-ghost use Rattle.json_patch_text.specs.Stopped.{IsRunFault, Reports, as_document};
+ghost use Rattle.json_patch_text.specs.Stopped.{Reports, as_document};
 ghost use Rattle.json_patch_text.specs.TextOperations.{AreWrittenAs, place_of};
 
-use crate::fault::{PatchTextFault, StepFault};
+use crate::bounds::{Bounds, levels, over};
+use crate::fault::{PatchTextFault, StepFault, TextLimitFault};
 use crate::operation::TextOperation;
 use crate::step::step;
+use json_patch_limits::limits::LimitError;
 use json_patch_operation::PatchError;
-use json_text::{TextFault, value_text};
-use jsonptr::Pointer;
+use json_text::{CheckedText, TextFault};
 use std::alloc::{AllocError, Global};
 
 /// The fault of a run in which the operation of this number was the first that wasn't made.
@@ -27,7 +28,6 @@ fn reported(
 {
     let kind = match fault {
         StepFault::Refused(kind) => kind,
-        StepFault::Text(_) => return PatchTextFault::TooDeep { operation: number },
         StepFault::Memory(failed) => return PatchTextFault::Memory(failed),
     };
     match operation.path().to_buf(alloc) {
@@ -51,28 +51,53 @@ fn document_fault(fault: TextFault) -> PatchTextFault
     }
 }
 
-/// The text after the operations, one after another.
+/// The text after the operations, one after another, within the bounds if there are any.
+///
+/// The text is checked once. How deep a new text nests is told by the value that was put in, and by a
+/// look at the whole only where that reaches too deep.
 pub(crate) fn run(
     alloc: Global,
     text: &str,
     operations: &[TextOperation],
-) -> Result<String, PatchTextFault>
+    bounds: Option<Bounds>,
+) -> Result<String, TextLimitFault>
+    requires under { IsUnder bounds text.now }
+    requires written { (ops : List TreeOperation) × AreWrittenAs operations.now ops }
     ensures accepted { IfOk result (λ new. (ops : List TreeOperation)
         → AreWrittenAs operations.now ops → AcceptsText text.now ops (string_bytes new)) }
-    ensures kept { IfOk result (λ new. AreMadeIn text.now operations.now (string_bytes new)) }
+    ensures made { IfOk result (λ new. AreMadeUnder bounds text.now operations.now (string_bytes new)) }
     ensures fault { IfErr result (λ fault. (ops : List TreeOperation)
-        → AreWrittenAs operations.now ops → IsRunFault text.now operations.now ops fault) }
+        → AreWrittenAs operations.now ops → IsRunFaultUnder bounds text.now operations.now ops fault) }
 {
-    if let Err(fault) = value_text(alloc, text, Pointer::root()) {
-        return Err(document_fault(fault));
+    if let Err(fault) = CheckedText::new(alloc, text) {
+        return Err(TextLimitFault::Patch(document_fault(fault)));
     }
+    let levels = levels(bounds);
     let mut new = String::from_str(alloc, text)?;
+    let mut deep = false;
     for number in 0..operations.len() {
-        let operation = &operations[number];
-        match step(alloc, new.as_str(), operation) {
-            Ok(next) => new = next.unwrap_or(new),
-            Err(fault) => return Err(reported(alloc, number, operation, fault)),
+        if deep {
+            let fault = PatchTextFault::TooDeep { operation: number };
+            return Err(TextLimitFault::Patch(fault));
         }
+        let operation = &operations[number];
+        let stepped = match step(alloc, CheckedText::known(new.as_str()), operation, levels) {
+            Ok(stepped) => stepped,
+            Err(fault) => {
+                return Err(TextLimitFault::Patch(reported(alloc, number, operation, fault)));
+            }
+        };
+        let Some(next) = stepped else {
+            continue;
+        };
+        if let Some(kind) = over(bounds, &next) {
+            return Err(TextLimitFault::Over(LimitError {
+                operation: number,
+                kind,
+            }));
+        }
+        deep = next.is_deep();
+        new = next.text;
     }
     Ok(new)
 }
