@@ -1,0 +1,4 @@
+pub mod Changes
+pub mod Merged
+pub mod Merging
+pub mod Steps

@@ -1,0 +1,16 @@
+//! A JSON text into which a merge patch is merged in place (RFC 7396): [`merge_text`].
+//!
+//! Every byte that the merge doesn't change is kept: blanks, the order of members, `1.50` and `"\u0061"`
+//! as they are written. What the text says is a document under each reading of the numbers that
+//! aren't whole (`json_reading`), and under each one the merge is that of `json_patch_merge`.
+#![tactic(auto)]
+
+mod fault;
+mod merging;
+mod place;
+#[cfg(test)]
+mod tests;
+mod whole;
+
+pub use fault::MergeTextFault;
+pub use whole::merge_text;

@@ -1,0 +1,122 @@
+//! A JSON text into which the text of a merge patch is merged (RFC 7396).
+
+ghost use Rattle.std.specs.Prelude.{◌≡◌, ◌≤◌, [], IfErr, IfOk, max};
+ghost use Rattle.std.specs.String.{string_bytes};
+ghost use Rattle.json.specs.Json.{Json};
+ghost use Rattle.json.specs.declared.error.Error.TheVariants as Error;
+ghost use Rattle.json_merge_text.specs.Merged.{IsMergeTextFault, IsMergedAlready, IsMergedText, SaysMerged};
+ghost use Rattle.json_merge_text.specs.Merging.{IsChanged, MergesInto};
+ghost use Rattle.json_merge_text.specs.Steps.{as_document, as_patch};
+ghost use Rattle.json_text.specs.Faults.{nesting};
+ghost use Rattle.json_text.specs.Spelled.{IsShallowText};
+
+use crate::fault::MergeTextFault;
+use crate::merging::merge_into;
+use crate::place::Place;
+use json::{Error, Scratch, Value};
+use json_text::{TextFault, value_text};
+use jsonptr::{Pointer, PointerBuf};
+use std::alloc::{AllocError, Global};
+
+/// The fault where the document's text isn't read.
+fn document_fault(fault: TextFault) -> MergeTextFault
+    ensures { result ≡ as_document fault }
+{
+    match fault {
+        TextFault::Memory(failed) => MergeTextFault::Memory(failed),
+        TextFault::NotJson => MergeTextFault::Document(TextFault::NotJson),
+        TextFault::TooDeep => MergeTextFault::Document(TextFault::TooDeep),
+    }
+}
+
+/// The fault where the patch's text isn't read.
+fn patch_fault(fault: TextFault) -> MergeTextFault
+    ensures { result ≡ as_patch fault }
+{
+    match fault {
+        TextFault::Memory(failed) => MergeTextFault::Memory(failed),
+        TextFault::NotJson => MergeTextFault::Patch(TextFault::NotJson),
+        TextFault::TooDeep => MergeTextFault::Patch(TextFault::TooDeep),
+    }
+}
+
+/// The failure of a text that is JSON and nests no deeper than 128 levels.
+fn parse_failure(error: Error) -> AllocError
+    requires { error ≡ Error.OutOfMemory }
+{
+    match error {
+        Error::OutOfMemory => AllocError,
+        Error::Invalid => unreachable!(),
+        Error::TooLong => unreachable!(),
+        Error::DuplicateKey => unreachable!(),
+    }
+}
+
+/// The text with the patch merged in; both are JSON and nest no deeper than 128 levels.
+fn merged(alloc: Global, text: &str, patch: &str) -> Result<String, AllocError>
+    requires text { (i : Json) × IsShallowText text.now i }
+    requires patch { (p : Json) × IsShallowText patch.now p }
+    ensures { IfOk result (λ new. (i p : Json) → IsShallowText text.now i → IsShallowText patch.now p
+        → IsChanged text.now (string_bytes new) (MergesInto patch.now [] i p)) }
+{
+    let mut first = Scratch::new(alloc);
+    let mut second = Scratch::new(alloc);
+    let here = match Value::parse(alloc, text, &mut first) {
+        Ok(value) => value,
+        Err(error) => return Err(parse_failure(error)),
+    };
+    let change = match Value::parse(alloc, patch, &mut second) {
+        Ok(value) => value,
+        Err(error) => return Err(parse_failure(error)),
+    };
+    let place = Place {
+        patch,
+        path: PointerBuf::new(),
+    };
+    merge_into(
+        alloc,
+        String::from_str(alloc, text)?,
+        &place,
+        &here,
+        &change,
+    )
+}
+
+/// The text with the merge patch merged in, and every byte kept that the merge doesn't change.
+///
+/// A member of the patch that is null removes the text's member of that name, an object is merged into
+/// an object member by member, and any other value is put in as it is written in the patch, unless the
+/// same stands there. An object that is put in loses its null members. What goes with a new member
+/// follows the style of the one before it. Numbers are compared by their value, exactly.
+///
+/// A text that isn't JSON, or that nests deeper than 128 levels, is refused, the document's before the
+/// patch's. No change is refused.
+///
+/// ```rust
+/// let text = "{\n  \"title\": \"Hello!\",\n  \"price\": 1.50\n}\n";
+/// let patch = r#"{"title": null, "tags": ["new"]}"#;
+/// let new = merge_text(alloc, text, patch)?;
+/// // "{\n  \"price\": 1.50,\n  \"tags\": [\"new\"]\n}\n"
+/// ```
+pub fn merge_text(alloc: Global, text: &str, patch: &str) -> Result<String, MergeTextFault>
+    // What it says.
+    ensures merged { IfOk result (λ new. SaysMerged text.now patch.now (string_bytes new)) }
+    // Where the merge changes nothing, it changes no byte.
+    ensures unchanged { IfOk result (λ new. IsMergedAlready text.now patch.now
+        → string_bytes new ≡ text.now) }
+    // How deep it nests.
+    ensures depth { IfOk result (λ new.
+        nesting (string_bytes new) ≤ max (nesting text.now) (nesting patch.now)) }
+    // Its bytes.
+    ensures kept { IfOk result (λ new. IsMergedText text.now patch.now (string_bytes new)) }
+    // Why there is none.
+    ensures fault { IfErr result (IsMergeTextFault text.now patch.now) }
+{
+    if let Err(fault) = value_text(alloc, text, Pointer::root()) {
+        return Err(document_fault(fault));
+    }
+    if let Err(fault) = value_text(alloc, patch, Pointer::root()) {
+        return Err(patch_fault(fault));
+    }
+    Ok(merged(alloc, text, patch)?)
+}
