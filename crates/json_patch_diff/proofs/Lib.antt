@@ -1,6 +1,7 @@
 pub mod Pushed
 pub mod Leading
 pub mod Members
+pub mod Ascending
 pub mod Objects
 pub mod Lists
 pub mod Results
@@ -8,3 +9,4 @@ pub mod Lengths
 pub mod Guards
 pub mod Least
 pub mod Fitting
+pub mod Placing

@@ -2,6 +2,7 @@
 #![tactic(auto)]
 
 mod alignment;
+mod cursor;
 mod difference;
 mod edits;
 mod guarded;
