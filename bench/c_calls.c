@@ -1,8 +1,9 @@
 /*
  * Times the calls of json_patch.h as bench/driver.rt.txt times those of the crate: its arguments are
  * `MODE COUNT accepted`, its input is `[document,patch]`, and it prints the nanoseconds of one call, or
- * 0 where one is refused. In mode `texts` a call goes from the two texts to the new one; in mode `kept`
- * a document stays open, and a call changes it by the patch's text.
+ * 0 where one is refused. In mode `texts` a call goes from the two texts to the new one; in mode `in_text`
+ * too, and keeps the other bytes of the document's; in mode `kept` a document stays open, and a call
+ * changes it by the patch's text. Mode `copied` copies the document's text, which any call at least does.
  */
 #include <json_patch.h>
 
@@ -42,6 +43,23 @@ static text part(json_patch_document *pair, const char *pointer, size_t room) {
     return found;
 }
 
+static json_patch_status call(const char *mode, json_patch_document *kept, text document, text patch,
+                              char *out, size_t room) {
+    json_patch_report report;
+    if (strcmp(mode, "copied") == 0) {
+        memcpy(out, document.bytes, document.length);
+        __asm__ volatile("" : : "r"(out) : "memory");
+        return JSON_PATCH_OK;
+    }
+    if (strcmp(mode, "kept") == 0)
+        return json_patch_update(kept, patch.bytes, patch.length, out, room, &report);
+    if (strcmp(mode, "in_text") == 0)
+        return json_patch_apply_text(document.bytes, document.length, patch.bytes, patch.length, out,
+                                     room, &report);
+    return json_patch_apply(document.bytes, document.length, patch.bytes, patch.length, out, room,
+                            &report);
+}
+
 int main(int count, char **words) {
     json_patch_document pair = JSON_PATCH_DOCUMENT, kept = JSON_PATCH_DOCUMENT;
     json_patch_report report;
@@ -58,10 +76,7 @@ int main(int count, char **words) {
     json_patch_status refused = 0;
     long long start = now();
     for (long i = 0; i < times; i++)
-        refused |= strcmp(words[1], "kept") == 0
-                       ? json_patch_update(&kept, patch.bytes, patch.length, out, room, &report)
-                       : json_patch_apply(document.bytes, document.length, patch.bytes,
-                                          patch.length, out, room, &report);
+        refused |= call(words[1], &kept, document, patch, out, room);
     printf("%lld\n", refused ? 0 : (now() - start) / times);
     json_patch_close(&kept);
     return 0;

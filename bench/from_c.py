@@ -5,7 +5,9 @@
 
 c/build has to have built the library. A call goes from the texts of a document and a patch to the
 text of the new one; or it changes a document that is kept, by the text of a patch. The other two
-change theirs in place, which leaves a refused patch part-way. What is printed is as in bench.py."""
+change theirs in place, which leaves a refused patch part-way. Where a text is patched in place, so that
+its other bytes are kept, the others read, patch and write; so does "written anew" here, and "the bytes
+copied" is what any call does at least. What is printed is as in bench.py."""
 import argparse
 import os
 import subprocess
@@ -16,19 +18,26 @@ import workloads
 
 HERE = os.path.dirname(os.path.abspath(__file__))
 BUILT = os.path.join(os.path.dirname(HERE), "c", "out")
-MODES = {"texts": "texts", "kept": "kept"}
+OTHERS = {"texts": "texts", "kept": "kept", "in_text": "texts"}
+MODES = {**OTHERS, "in_text": "in_text"}
 
 # name, mode, calls a round, document and patch
 CALLS = [
     ("from text to text: two operations on a tiny list", "texts", 20_000, workloads.TINY),
     ("from text to text: one replace in 100 kB", "texts", 100, workloads.replace_in_the_middle(1_450)),
     ("from text to text: one replace in 10 MB", "texts", 1, workloads.replace_in_the_middle(145_000)),
+    ("in a text of 1 kB: one replace", "in_text", 5_000, workloads.replace_in_the_middle(15)),
+    ("in a text of 100 kB: one replace", "in_text", 100, workloads.replace_in_the_middle(1_450)),
+    ("in a text of 10 MB: one replace", "in_text", 1, workloads.replace_in_the_middle(145_000)),
+    ("in a text of 100 kB: 100 mixed operations", "in_text", 10, (workloads.rows(1_450), workloads.MIXED)),
+    ("in a text of 10 MB: 100 mixed operations", "in_text", 1, (workloads.rows(145_000), workloads.MIXED)),
     ("one replace in a kept document of 100 kB", "kept", 20_000, workloads.replace_in_the_middle(1_450)),
     ("one replace in a kept document of 10 MB", "kept", 20_000, workloads.replace_in_the_middle(145_000)),
 ]
 
 
 def compiled(folder):
+    """The timer of the calls for C."""
     program = os.path.join(folder, "c_calls")
     source = os.path.join(HERE, "c_calls.c")
     library = os.path.join(BUILT, "lib", "libjson_patch.a")
@@ -40,23 +49,30 @@ def compiled(folder):
 
 def sides(folder):
     peer = [bench.PYTHON, os.path.join(HERE, "python_peer.py")]
+    ours = compiled(folder)
     return [
-        bench.Side("here", [compiled(folder)], MODES, None),
+        bench.Side("here", [ours], MODES, None),
+        bench.Side("the bytes copied", [ours], {"in_text": "copied"}, None),
+        bench.Side("here, written anew", [ours], {"in_text": "texts"}, None),
         bench.Side("here from Python", [bench.PYTHON, os.path.join(HERE, "python_c_peer.py")], MODES, None),
-        bench.Side("nlohmann/json", [bench.compiled(folder, os.path.join(HERE, "nlohmann.cpp"))], MODES, None),
-        bench.Side("jsonpatch (Python)", peer, MODES, None),
+        bench.Side("nlohmann/json", [bench.compiled(folder, os.path.join(HERE, "nlohmann.cpp"))], OTHERS, None),
+        bench.Side("jsonpatch (Python)", peer, OTHERS, None),
     ]
 
 
 def main():
     words = argparse.ArgumentParser()
     words.add_argument("--rounds", type=int, default=9)
+    words.add_argument("--rows", nargs="*", help="the rows whose line has one of these texts, and no others")
     asked = words.parse_args()
     with tempfile.TemporaryDirectory() as folder:
         found = sides(folder)
         for name, mode, count, case in CALLS:
+            if not bench.chosen(asked, name):
+                continue
             line = bench.line_of(case)
-            bench.report(name, bench.rounds_of(asked, found, lambda side: bench.call(side, mode, count, line)))
+            able = [side for side in found if mode in side.modes]
+            bench.report(name, bench.rounds_of(asked, able, lambda side: bench.call(side, mode, count, line)))
 
 
 if __name__ == "__main__":

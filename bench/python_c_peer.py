@@ -20,6 +20,8 @@ with json_patch.Document.from_string(document) as kept:
     for _ in range(count):
         if mode == "kept":
             kept.apply(patch)
+        elif mode == "in_text":
+            json_patch.apply_text(document, patch)
         else:
             called(LIBRARY.json_patch_apply_within, document, patch, DEFAULT)
     print((time.perf_counter_ns() - start) // count)

@@ -1,6 +1,7 @@
 /*
  * JSON Patch (RFC 6902) and JSON Merge Patch (RFC 7396), for documents whose numbers are whole ones
- * of 64 bits. Link with -ljson_patch.
+ * of 64 bits, and for texts with numbers of any form, which json_patch_apply_text and
+ * json_patch_merge_text change in place. Link with -ljson_patch.
  *
  *     char out[64];
  *     json_patch_report report;
@@ -40,13 +41,11 @@ enum {
                                    says no document */
     JSON_PATCH_NO_MEMORY = 4,   /* malloc or realloc failed */
     JSON_PATCH_NO_ROOM = 5,     /* out is too short: the text has report->size bytes */
-    /* of a document that is kept */
-    JSON_PATCH_CLOSED = 6,     /* no document is open */
-    JSON_PATCH_NO_POINTER = 7, /* the text is no JSON pointer (RFC 6901) */
-    JSON_PATCH_NOTHING = 8,    /* the pointer leads nowhere in the document, or there is nothing to
-                                  take back */
-    /* of both */
-    JSON_PATCH_OVER = 9 /* report->operation is over the limits, for report->kind */
+    JSON_PATCH_CLOSED = 6,      /* of a document that is kept: none is open */
+    JSON_PATCH_NO_POINTER = 7,  /* the text is no JSON pointer (RFC 6901) */
+    JSON_PATCH_NOTHING = 8,     /* the pointer leads nowhere in the document, or there is nothing to
+                                   take back */
+    JSON_PATCH_OVER = 9         /* report->operation is over the limits, for report->kind */
 };
 
 /* What is at fault. */
@@ -55,8 +54,8 @@ enum {
     JSON_PATCH_KIND_NONE = 0,
     /* of JSON_PATCH_NO_DOCUMENT and JSON_PATCH_NO_PATCH */
     JSON_PATCH_NOT_JSON = 1,  /* no UTF-8, no JSON (RFC 8259), or a number or an escape that the reader
-                                 of JSON refuses: a number past a float's range, such as 1e400, or an
-                                 unpaired surrogate */
+                                 of JSON refuses: an unpaired surrogate, or, where documents have whole
+                                 numbers alone, a number past a float's range, such as 1e400 */
     JSON_PATCH_NOT_WHOLE = 2, /* else a number with a fraction or an exponent, minus zero, or one past
                                  64 bits; in a patch that isn't a merge patch
                                  JSON_PATCH_VALUE_NOT_WHOLE is told */
@@ -177,6 +176,52 @@ json_patch_status json_patch_diff_within(const char *from, size_t from_length, c
    JSON_PATCH_NO_MEMORY. */
 json_patch_status json_patch_check(const char *patch, size_t patch_length,
                                    json_patch_report *report);
+
+/*
+ * A text as it is written. Its numbers, and those of the patch, may have any form, such as 1.50 or
+ * 1e400, and are compared by their values: never JSON_PATCH_NOT_WHOLE or JSON_PATCH_VALUE_NOT_WHOLE.
+ * Of a name that stands twice the last member is meant.
+ *
+ * JSON_PATCH_TOO_DEEP is told of a document's text, JSON or not, in which more arrays and objects than
+ * the limit are open at once, and of a patch's with more than 127, or as of a document's if that is a
+ * merge patch.
+ */
+
+/* Writes the document's text with the patch applied: every byte is kept that no operation changes. What
+   goes with a new member or item, blanks and a comma, is as beside its neighbours.
+
+   Each text that the operations leave, one after another, is within the limits: at most `depth` arrays
+   and objects are open in it at once, and it has at most as many bytes as the document's text, the
+   patch's and `copied` together. The first operation that would leave another is over: JSON_PATCH_OVER.
+   One that is refused leaves no text, and is not over. */
+json_patch_status json_patch_apply_text(const char *document, size_t document_length,
+                                        const char *patch, size_t patch_length, char *out,
+                                        size_t out_length, json_patch_report *report);
+
+json_patch_status json_patch_apply_text_within(const char *document, size_t document_length,
+                                               const char *patch, size_t patch_length,
+                                               const json_patch_limits *limits, char *out,
+                                               size_t out_length, json_patch_report *report);
+
+/* Writes the document's text with the merge patch merged into it: every byte is kept that the merge
+   doesn't change, and all of them where it changes nothing. Of the limits `depth` alone counts. Never
+   JSON_PATCH_REFUSED or JSON_PATCH_OVER. */
+json_patch_status json_patch_merge_text(const char *document, size_t document_length,
+                                        const char *patch, size_t patch_length, char *out,
+                                        size_t out_length, json_patch_report *report);
+
+json_patch_status json_patch_merge_text_within(const char *document, size_t document_length,
+                                               const char *patch, size_t patch_length,
+                                               const json_patch_limits *limits, char *out,
+                                               size_t out_length, json_patch_report *report);
+
+/* Writes the text of the value where the pointer leads, as it stands in the document's text, with none of
+   the blanks around it. JSON_PATCH_OK, JSON_PATCH_NO_DOCUMENT, JSON_PATCH_NO_MEMORY,
+   JSON_PATCH_NO_ROOM, JSON_PATCH_NO_POINTER, and then the document isn't looked at, or
+   JSON_PATCH_NOTHING. */
+json_patch_status json_patch_value_text(const char *document, size_t document_length,
+                                        const char *pointer, size_t pointer_length, char *out,
+                                        size_t out_length, json_patch_report *report);
 
 /*
  * A document that is kept, so that an edit takes the time that the edit wants, and not that of

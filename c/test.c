@@ -4,50 +4,11 @@
  *
  *     test CASES
  */
-#include "rows.h"
+#include "expect.h"
 
 #include "values.h"
 
-enum { GUARD = 8, UNTOUCHED = 0xa5 };
-
-static unsigned long calls, statuses[JSON_PATCH_NO_ROOM + 1], checks[JSON_PATCH_NO_PATCH + 1];
-
-/* ---- a call */
-
-static int is_untouched(const char *from, size_t length) {
-    for (size_t i = 0; i < length; i++)
-        if ((unsigned char)from[i] != UNTOUCHED)
-            return 0;
-    return 1;
-}
-
-/* Makes the call with room for so many bytes, and compares all that it tells and writes. */
-static void expect(const row *row, size_t room) {
-    char *out = malloc(room + GUARD);
-    json_patch_report report = {77, 77, 77};
-    if (!out)
-        fail("no memory");
-    memset(out, UNTOUCHED, room + GUARD);
-    json_patch_status status = row->make(row->document.bytes, row->document.length,
-                                         row->patch.bytes, row->patch.length, out, room, &report);
-    calls++;
-    int is_short = row->status == JSON_PATCH_OK && room < report.size;
-    size_t fits = status <= JSON_PATCH_REFUSED && report.size <= room ? report.size : 0;
-    if (status != (is_short ? JSON_PATCH_NO_ROOM : row->status))
-        fail("status %d for %.*s with %.*s", status, (int)row->document.length,
-             row->document.bytes, (int)row->patch.length,
-             row->patch.bytes);
-    statuses[status]++;
-    if (report.operation != row->operation || report.kind != row->kind)
-        fail("operation %zu, kind %d for %s", report.operation, report.kind, row->patch.bytes);
-    if (row->written.bytes && report.size != row->written.length)
-        fail("size %zu and not %zu for %s", report.size, row->written.length, row->patch.bytes);
-    if (row->written.bytes && memcmp(out, row->written.bytes, fits) != 0)
-        fail("%.*s is written for %s", (int)fits, out, row->patch.bytes);
-    if (!is_untouched(out + fits, room + GUARD - fits))
-        fail("more than the text is written for %s", row->patch.bytes);
-    free(out);
-}
+static unsigned long checks[JSON_PATCH_NO_PATCH + 1];
 
 /* Reads the patch of the row alone, and compares what is told with what that row says of it. */
 static void expect_check(const row *row) {
@@ -66,17 +27,12 @@ static void expect_check(const row *row) {
     checks[status]++;
 }
 
-/* Makes the call with room for each number of bytes, to some past those that it needs. */
-static void expect_at_each_length(const row *row) {
-    size_t most = (row->written.bytes ? row->written.length : 256) + 2;
+static void expect_row(const row *row) {
     expect_check(row);
-    for (size_t room = 0; room <= most; room++)
-        expect(row, room);
+    expect_at_each_length(row);
 }
 
 /* ---- what the tables don't have */
-
-#define TEXT(s) {(char *)(s), sizeof(s) - 1}
 
 static void expect_others(void) {
     const row others[] = {
@@ -105,7 +61,7 @@ static void expect_others(void) {
          TEXT("{\"a\":-7,\"b\":[1,2]}")},
     };
     for (size_t i = 0; i < sizeof others / sizeof *others; i++)
-        expect_at_each_length(&others[i]);
+        expect_row(&others[i]);
 }
 
 /* Each value as a document, in a patch, and as a merge patch. */
@@ -132,7 +88,7 @@ static void expect_values(void) {
 int main(int count, char **words) {
     if (count != 2)
         fail("test CASES");
-    for_each_row(words[1], expect_at_each_length);
+    for_each_row(words[1], expect_row);
     expect_others();
     expect_values();
     for (int status = 0; status <= JSON_PATCH_NO_ROOM; status++)

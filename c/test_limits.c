@@ -121,6 +121,16 @@ static void expect_each(const text *document, const text *patch, const json_patc
     json_patch_close(&kept);
 }
 
+/* The patch in the call on the document's text as it is written. */
+static void expect_in_text(const text *document, const text *patch, const json_patch_limits *limits,
+                           json_patch_status wanted, size_t operation, json_patch_kind kind,
+                           const char *of) {
+    json_patch_report report;
+    expect(json_patch_apply_text_within(document->bytes, document->length, patch->bytes, patch->length,
+                                        limits, out, ROOM, &report),
+           &report, wanted, operation, kind, of);
+}
+
 /* ---- patches that nest */
 
 /* Copies of the document into what stands innermost in it, each of which doubles the levels. */
@@ -141,6 +151,9 @@ static void expect_doubling(const nest *by, size_t longest, const json_patch_lim
         expect_each(&document, &patch, limits, JSON_PATCH_OK, 0, 0, by->token);
     else
         expect_each(&document, &patch, limits, JSON_PATCH_OVER, over, JSON_PATCH_TOO_DEEP, by->token);
+    expect_in_text(&document, &patch, limits, over == SIZE_MAX ? JSON_PATCH_OK : JSON_PATCH_OVER,
+                   over == SIZE_MAX ? 0 : over,
+                   over == SIZE_MAX ? JSON_PATCH_KIND_NONE : JSON_PATCH_TOO_DEEP, by->token);
     free(document.bytes);
     free(patch.bytes);
 }
@@ -159,11 +172,12 @@ static void expect_moves(size_t turns, const json_patch_limits *limits) {
             i - 1, i);
     put(&patch, "]");
     /* before operation k the value that is moved has k + 1 levels, and it goes two tokens deep */
-    if (turns + 2 <= limits->depth)
-        expect_each(&document, &patch, limits, JSON_PATCH_OK, 0, 0, "moves");
-    else
-        expect_each(&document, &patch, limits, JSON_PATCH_OVER, limits->depth - 2,
-                    JSON_PATCH_TOO_DEEP, "moves");
+    int fits = turns + 2 <= limits->depth;
+    json_patch_status wanted = fits ? JSON_PATCH_OK : JSON_PATCH_OVER;
+    size_t over = fits ? 0 : limits->depth - 2;
+    json_patch_kind kind = fits ? JSON_PATCH_KIND_NONE : JSON_PATCH_TOO_DEEP;
+    expect_each(&document, &patch, limits, wanted, over, kind, "moves");
+    expect_in_text(&document, &patch, limits, wanted, over, kind, "moves in a text");
     free(document.bytes);
     free(patch.bytes);
 }
@@ -182,17 +196,15 @@ static void expect_values(size_t levels, const json_patch_limits *limits) {
             put_times(&patch, nests[1].close, levels);
             put(&patch, "}]");
             /* the patch's text nests two levels more than the value */
-            if (levels + 2 > 127)
-                expect_each(&document, &patch, limits, JSON_PATCH_NO_PATCH, 0, JSON_PATCH_TOO_DEEP,
-                            names[i]);
-            else if (i == 2)
-                expect_each(&document, &patch, limits, JSON_PATCH_REFUSED, 0, JSON_PATCH_TEST_FAILED,
-                            names[i]);
-            else if (levels + (size_t)below > limits->depth)
-                expect_each(&document, &patch, limits, JSON_PATCH_OVER, 0, JSON_PATCH_TOO_DEEP,
-                            names[i]);
-            else
-                expect_each(&document, &patch, limits, JSON_PATCH_OK, 0, 0, names[i]);
+            json_patch_status wanted = levels + 2 > 127                         ? JSON_PATCH_NO_PATCH
+                                       : i == 2                                 ? JSON_PATCH_REFUSED
+                                       : levels + (size_t)below > limits->depth ? JSON_PATCH_OVER
+                                                                                : JSON_PATCH_OK;
+            json_patch_kind kind = wanted == JSON_PATCH_OK        ? JSON_PATCH_KIND_NONE
+                                   : wanted == JSON_PATCH_REFUSED ? JSON_PATCH_TEST_FAILED
+                                                                  : JSON_PATCH_TOO_DEEP;
+            expect_each(&document, &patch, limits, wanted, 0, kind, names[i]);
+            expect_in_text(&document, &patch, limits, wanted, 0, kind, names[i]);
             free(patch.bytes);
         }
     }
@@ -201,6 +213,20 @@ static void expect_values(size_t levels, const json_patch_limits *limits) {
 }
 
 /* ---- texts that nest */
+
+/* What stands innermost in a text of so many turns. */
+static void expect_deep_value(const text *deep, const char *token, size_t turns, int fits) {
+    text pointer = {NULL, 0, 0};
+    json_patch_report report;
+    put(&pointer, "%s", "");
+    put_times(&pointer, token, turns);
+    expect(json_patch_value_text(deep->bytes, deep->length, pointer.bytes, pointer.length, out, ROOM, &report),
+           &report, fits ? JSON_PATCH_OK : JSON_PATCH_NO_DOCUMENT, 0,
+           fits ? JSON_PATCH_KIND_NONE : JSON_PATCH_TOO_DEEP, "a deep pointer into a text");
+    if (fits && (report.size != 1 || *out != '0'))
+        fail("%.*s stands %zu turns deep", (int)report.size, out, turns);
+    free(pointer.bytes);
+}
 
 /* A text of so many turns, as a document, a merge patch and a patch. */
 static void expect_text(const nest *by, size_t turns, const json_patch_limits *limits) {
@@ -212,9 +238,19 @@ static void expect_text(const nest *by, size_t turns, const json_patch_limits *l
     expect(json_patch_apply_within(deep.bytes, deep.length, "[]", 2, limits, out, ROOM, &report),
            &report, fits ? JSON_PATCH_OK : JSON_PATCH_NO_DOCUMENT, 0,
            fits ? JSON_PATCH_KIND_NONE : JSON_PATCH_TOO_DEEP, "a deep document");
+    expect(json_patch_apply_text_within(deep.bytes, deep.length, "[]", 2, limits, out, ROOM, &report),
+           &report, fits ? JSON_PATCH_OK : JSON_PATCH_NO_DOCUMENT, 0,
+           fits ? JSON_PATCH_KIND_NONE : JSON_PATCH_TOO_DEEP, "a deep document's text");
     expect(json_patch_merge_within("{}", 2, deep.bytes, deep.length, limits, out, ROOM, &report),
            &report, fits ? JSON_PATCH_OK : JSON_PATCH_NO_PATCH, 0,
            fits ? JSON_PATCH_KIND_NONE : JSON_PATCH_TOO_DEEP, "a deep merge patch");
+    expect(json_patch_merge_text_within("{}", 2, deep.bytes, deep.length, limits, out, ROOM, &report),
+           &report, fits ? JSON_PATCH_OK : JSON_PATCH_NO_PATCH, 0,
+           fits ? JSON_PATCH_KIND_NONE : JSON_PATCH_TOO_DEEP, "a deep merge patch into a text");
+    expect(json_patch_merge_text_within(deep.bytes, deep.length, deep.bytes, deep.length, limits, out, ROOM,
+                                        &report),
+           &report, fits ? JSON_PATCH_OK : JSON_PATCH_NO_DOCUMENT, 0,
+           fits ? JSON_PATCH_KIND_NONE : JSON_PATCH_TOO_DEEP, "a deep merge into a deep text");
     expect(json_patch_check(deep.bytes, deep.length, &report), &report, JSON_PATCH_NO_PATCH, 0,
            levels > 127                            ? JSON_PATCH_TOO_DEEP
            : levels == 0 || by->open[0] != '[' ? JSON_PATCH_NOT_A_LIST
@@ -234,6 +270,7 @@ static void expect_text(const nest *by, size_t turns, const json_patch_limits *l
         free(pointer.bytes);
     }
     json_patch_close(&kept);
+    expect_deep_value(&deep, by->token, turns, levels <= MOST);
     free(deep.bytes);
 }
 
@@ -299,6 +336,14 @@ static void expect_brackets(void) {
            JSON_PATCH_NO_DOCUMENT, 0, JSON_PATCH_NOT_JSON, "127 brackets that never close");
     expect(json_patch_apply(open.bytes, 128, "[]", 2, out, ROOM, &report), &report,
            JSON_PATCH_NO_DOCUMENT, 0, JSON_PATCH_TOO_DEEP, "128 brackets");
+    expect(json_patch_apply_text(open.bytes, MOST, "[]", 2, out, ROOM, &report), &report,
+           JSON_PATCH_NO_DOCUMENT, 0, JSON_PATCH_NOT_JSON, "124 brackets of a text that never close");
+    expect(json_patch_apply_text(open.bytes, open.length, "[]", 2, out, ROOM, &report), &report,
+           JSON_PATCH_NO_DOCUMENT, 0, JSON_PATCH_TOO_DEEP, "a million brackets of a text");
+    expect(json_patch_apply_text("[]", 2, open.bytes, open.length, out, ROOM, &report), &report,
+           JSON_PATCH_NO_PATCH, 0, JSON_PATCH_TOO_DEEP, "a million brackets of a patch");
+    expect(json_patch_value_text(open.bytes, open.length, "/0", 2, out, ROOM, &report), &report,
+           JSON_PATCH_NO_DOCUMENT, 0, JSON_PATCH_TOO_DEEP, "a million brackets and a pointer");
     put(&quoted, "[\"\\\"");
     put_times(&quoted, "[{", 200);
     put(&quoted, "\\\\\",1");
@@ -307,6 +352,8 @@ static void expect_brackets(void) {
     put(&quoted, "]");
     expect(json_patch_apply(quoted.bytes, quoted.length, "[]", 2, out, ROOM, &report), &report,
            JSON_PATCH_OK, 0, 0, "brackets in a string of a document");
+    expect(json_patch_apply_text(quoted.bytes, quoted.length, "[]", 2, out, ROOM, &report), &report,
+           JSON_PATCH_OK, 0, 0, "brackets in a string of a text");
     free(open.bytes);
     free(quoted.bytes);
 }
@@ -328,6 +375,51 @@ static void expect_copies(size_t bytes, size_t copies, const json_patch_limits *
         expect_each(&document, &patch, limits, JSON_PATCH_OK, 0, 0, "copies");
     else
         expect_each(&document, &patch, limits, JSON_PATCH_OVER, most, JSON_PATCH_TOO_MUCH, "copies");
+    free(document.bytes);
+    free(patch.bytes);
+}
+
+/* The same in a text, of n + 4 bytes, where each copy adds a comma, two marks and the bytes: the texts'
+   own bytes count too. */
+static void expect_copies_in_text(size_t bytes, size_t copies, const json_patch_limits *limits) {
+    text document = {NULL, 0, 0}, patch = {NULL, 0, 0};
+    put(&document, "[\"");
+    put_times(&document, "x", bytes);
+    put(&document, "\"]");
+    put(&patch, "[");
+    for (size_t i = 0; i < copies; i++)
+        put(&patch, "%s{\"op\":\"copy\",\"from\":\"/0\",\"path\":\"/-\"}", i ? "," : "");
+    put(&patch, "]");
+    size_t most = (patch.length + limits->copied) / (bytes + 3);
+    int fits = copies <= most;
+    expect_in_text(&document, &patch, limits,
+                   !fits                                         ? JSON_PATCH_OVER
+                   : bytes + 4 + copies * (bytes + 3) <= ROOM ? JSON_PATCH_OK
+                                                                 : JSON_PATCH_NO_ROOM,
+                   fits ? 0 : most, fits ? JSON_PATCH_KIND_NONE : JSON_PATCH_TOO_MUCH, "copies in a text");
+    free(document.bytes);
+    free(patch.bytes);
+}
+
+/* Copies of a list into itself, each of which doubles it, with a comma between: too much long before
+   it is too deep. */
+static void expect_growth(size_t bytes, size_t copies, const json_patch_limits *limits) {
+    text document = {NULL, 0, 0}, patch = {NULL, 0, 0};
+    put(&document, "{\"a\":[\"");
+    put_times(&document, "x", bytes);
+    put(&document, "\"]}");
+    put(&patch, "[");
+    for (size_t i = 0; i < copies; i++)
+        put(&patch, "%s{\"op\":\"copy\",\"from\":\"/a\",\"path\":\"/a/-\"}", i ? "," : "");
+    put(&patch, "]");
+    size_t over = 0, list = bytes + 4, most = document.length + patch.length + limits->copied;
+    while (6 + 2 * list + 1 <= most && over < copies) {
+        list = 2 * list + 1;
+        over++;
+    }
+    if (over == copies)
+        fail("%zu copies are too few", copies);
+    expect_in_text(&document, &patch, limits, JSON_PATCH_OVER, over, JSON_PATCH_TOO_MUCH, "a list that grows");
     free(document.bytes);
     free(patch.bytes);
 }
@@ -406,12 +498,18 @@ static void *made(void *unused) {
         for (size_t levels = 0; levels <= 130; levels++)
             expect_difference(levels, given.depth > MOST ? &given : &limits);
     }
-    const json_patch_limits usual = {MOST, JSON_PATCH_MOST_COPIED}, small = {MOST, 1000};
+    const json_patch_limits usual = {MOST, JSON_PATCH_MOST_COPIED}, small = {MOST, 1000}, larger = {MOST, 200000};
     expect_copies(50000, 1400, &usual);
     expect_copies(9, 100, &small);
     expect_copies(9, 101, &small);
     expect_copies(0, 1000, &small);
     expect_copies(0, 1001, &small);
+    /* the text of one copy has 39 bytes */
+    expect_copies_in_text(1036, 1, &small);
+    expect_copies_in_text(1037, 1, &small);
+    expect_copies_in_text(1000, 250, &larger);
+    expect_growth(10, 100, &small);
+    expect_growth(1000, 100, &usual);
     expect_sizes();
     expect_brackets();
     expect_undo();

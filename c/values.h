@@ -51,7 +51,7 @@ static text adding(size_t value) {
 }
 
 /* What is told where it is the value of an operation. */
-static json_patch_kind kind_in_patch(size_t value) {
+static inline json_patch_kind kind_in_patch(size_t value) {
     return values[value].kind == JSON_PATCH_NOT_WHOLE ? JSON_PATCH_VALUE_NOT_WHOLE
                                                       : JSON_PATCH_NOT_JSON;
 }

@@ -77,6 +77,9 @@ UNUSED_TEXTS(json_patch_apply)
 UNUSED_TEXTS(json_patch_record)
 UNUSED_TEXTS(json_patch_merge)
 UNUSED_TEXTS(json_patch_diff)
+UNUSED_TEXTS(json_patch_apply_text)
+UNUSED_TEXTS(json_patch_merge_text)
+UNUSED_TEXTS(json_patch_value_text)
 
 json_patch_status json_patch_check(const char *patch, size_t patch_length,
                                    json_patch_report *report) {
@@ -128,6 +131,8 @@ WITHIN(json_patch_apply)
 WITHIN(json_patch_record)
 WITHIN(json_patch_merge)
 WITHIN(json_patch_diff)
+WITHIN(json_patch_apply_text)
+WITHIN(json_patch_merge_text)
 
 json_patch_status json_patch_open_within(json_patch_document *document, const char *text,
                                          size_t length, const json_patch_limits *limits,

@@ -1,4 +1,2 @@
 mod Owned
 mod Answered
-mod Nested
-mod Differences

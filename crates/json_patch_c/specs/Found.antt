@@ -1,8 +1,9 @@
 -- For private clauses: what is found where a pointer leads.
 use Rattle.std.specs.Prelude.{ℕ, List, string_bytes}
 use Rattle.serde_json.specs.Data.{Data}
-use Rattle.json_patch_c.specs.Failures.{IsTextOf}
-use Rattle.json_patch_c.specs.Updates.{IsNoPointer, LeadsNowhere, StandsAtText}
+use Rattle.json_patch_bytes.specs.Failures.{IsTextOf}
+use Rattle.json_patch_bytes.specs.Texts.{IsNoPointer}
+use Rattle.json_patch_c.specs.Updates.{LeadsNowhere, StandsAtText}
 use Rattle.json_patch_c.specs.declared.kept.calls.Lookup.{Lookup}
 use Rattle.json_patch_c.specs.declared.kept.calls.Lookup.TheVariants.{Found, NoPointer, Nothing, Memory}
 

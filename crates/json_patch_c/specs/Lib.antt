@@ -1,13 +1,8 @@
-pub mod Kinds
-pub mod Nesting
-pub mod Bounds
-pub mod Texts
-pub mod Reasons
 pub mod Reports
-pub mod Failures
+pub mod Told
 pub mod Documents
 pub mod Updates
-pub mod Differences
+pub mod Reasons
 pub mod Undo
 pub mod Found
 pub mod States

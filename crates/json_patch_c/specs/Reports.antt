@@ -1,13 +1,13 @@
 -- What a call writes, and what it tells beside its status.
-use Rattle.std.specs.Prelude.{◌≡◌, ◌≢◌, ◌≤◌, ◌<◌, ◌⊎◌, ℕ, List, length, take, drop}
+use Rattle.std.specs.Prelude.{◌≡◌, ◌≢◌, ◌≤◌, ◌<◌, ℕ, List, length, take, drop}
 use Rattle.serde_json.specs.Data.{Data}
 use Rattle.serde_json.specs.Written.{compact_text}
 use Rattle.jsonptr.specs.Text.{text_of}
 use Rattle.json_patch.specs.PatchError.{PatchError}
 use Rattle.json_patch.specs.LimitError.{LimitError}
-use Rattle.json_patch_c.specs.Kinds.{limit_kind, refusal_kind}
-use Rattle.json_patch_c.specs.Reasons.{Reasons}
-use Rattle.json_patch_c.specs.Texts.{IsShallowText}
+use Rattle.json_patch_bytes.specs.Kinds.{limit_kind, refusal_kind}
+use Rattle.json_patch_bytes.specs.Reasons.{Reasons}
+use Rattle.json_patch_bytes.specs.Texts.{IsShallowText}
 use Rattle.json_patch_c.specs.declared.report.Report.{Report}
 
 -- the text stands at the start, and the rest is as it was
@@ -33,6 +33,14 @@ pub record IsWritten (levels : ℕ) (P : Data → Type 0) (status : ℕ) (old ne
       × IsShallowText levels (compact_text e) e
   -- 5: there is less room than the text takes
   pub no_room : status ≡ 5 → (e : Data) × P e × (length old < length (compact_text e)) × Tells (length (compact_text e)) 0 0 report
+  pub untouched : status ≡ 5 → new ≡ old
+
+-- what a call says of a text that it makes, for which P holds
+pub record IsTextWritten (P : List ℕ → Type 0) (status : ℕ) (old new : List ℕ) (report : Report) : Type 0 where
+  -- 0: the text stands at the start
+  pub made : status ≡ 0 → (text : List ℕ) × P text × IsPut text old new × Tells (length text) 0 0 report
+  -- 5: there is less room than it takes
+  pub no_room : status ≡ 5 → (text : List ℕ) × P text × (length old < length text) × Tells (length text) 0 0 report
   pub untouched : status ≡ 5 → new ≡ old
 
 -- what a call says where it makes nothing, for one of the reasons

@@ -1,6 +1,6 @@
 -- That a kept patch leads from the kept document to one of no more levels, by what is computed, so that it has one proof at
 -- most and can be a ghost field.
-use Rattle.std.specs.Prelude.{◌≡◌, ◌≤◌, ℕ, List, [], ◌∷◌, Ok, Err}
+use Rattle.std.specs.Prelude.{◌≤◌, ℕ, List, [], ◌∷◌, Ok, Err}
 use mathlib.Core.Path.{refl}
 use Rattle.std.proofs.Props.{props}
 use Rattle.serde_json.specs.Data.{Data, depth}

@@ -1,7 +1,7 @@
 -- What a call makes of the document behind a handle, and what stands there.
-use Rattle.std.specs.Prelude.{◌≡◌, ℕ, List, IsUtf8}
+use Rattle.std.specs.Prelude.{ℕ, List}
 use Rattle.serde_json.specs.Data.{Data}
-use Rattle.jsonptr.specs.Text.{Pointer, text_of, IsNoPointerText}
+use Rattle.jsonptr.specs.Text.{Pointer}
 use Rattle.json_patch.specs.Merged.{IsMerged}
 use Rattle.json_patch.specs.Operation.{Operation}
 use Rattle.json_patch.specs.Inverse.{IsInverse}
@@ -13,7 +13,7 @@ use Rattle.json_patch.specs.LimitError.{LimitError}
 use Rattle.json_patch.specs.Limits.{Limits}
 use Rattle.json_patch.specs.OverLimits.{IsNeverOver, IsOverAt}
 use Rattle.json_patch.specs.PatchError.{PatchError}
-use Rattle.json_patch_c.specs.Texts.{IsPatchText, IsShallowText}
+use Rattle.json_patch_bytes.specs.Texts.{IsPatchText, IsShallowText, IsTextOfPointer}
 
 -- the text says a patch that is accepted on d within the limits, with the end e
 abbrev pub UpdatesTo : Limits → Data → List ℕ → Data → Type 0
@@ -35,18 +35,10 @@ IsOverBy l d patch e = (ops : List Operation) × IsPatchText patch ops × IsOver
 abbrev pub MergesTo : ℕ → Data → List ℕ → Data → Type 0
 MergesTo levels d patch e = (p : Data) × IsShallowText levels patch p × IsMerged d p e
 
--- the bytes are the text of the pointer P
-abbrev pub IsTextOf : List ℕ → Pointer → Type 0
-IsTextOf text P = IsUtf8 text × (text_of P ≡ text)
-
--- the bytes are no pointer's text
-abbrev pub IsNoPointer : List ℕ → Type 0
-IsNoPointer text = IsUtf8 text → IsNoPointerText text
-
 -- v stands in d where the pointer leads
 abbrev pub StandsAtText : Data → List ℕ → Data → Type 0
-StandsAtText d text v = (P : Pointer) × IsTextOf text P × StandsAt d P v
+StandsAtText d text v = (P : Pointer) × IsTextOfPointer text P × StandsAt d P v
 
 -- the pointer leads nowhere in d
 abbrev pub LeadsNowhere : Data → List ℕ → Type 0
-LeadsNowhere d text = (P : Pointer) × IsTextOf text P × Never (StandsAt d P)
+LeadsNowhere d text = (P : Pointer) × IsTextOfPointer text P × Never (StandsAt d P)

@@ -7,20 +7,21 @@ ghost use Rattle.json_patch.specs.Limits.{Limits};
 ghost use Rattle.json_patch.specs.Operation.{Operation, operations_of};
 ghost use Rattle.json_patch.specs.PatchValue.{written_patch};
 ghost use Rattle.json_patch.specs.Run.{IsAccepted};
-ghost use Rattle.json_patch_c.specs.Bounds.{the_limits, within_most};
-ghost use Rattle.json_patch_c.specs.Differences.{LeadsToText};
-ghost use Rattle.json_patch_c.specs.Reasons.{of_diff_to, of_memory, of_open, of_update, of_update_merged};
+ghost use Rattle.json_patch_bytes.specs.Bounds.{the_limits, within_most};
+ghost use Rattle.json_patch_bytes.specs.Differences.{LeadsToText};
+ghost use Rattle.json_patch_bytes.specs.Reasons.{of_open};
+ghost use Rattle.json_patch_bytes.specs.Texts.{IsNoPointer, IsShallowText};
+ghost use Rattle.json_patch_c.specs.Reasons.{of_diff_to, of_memory, of_update, of_update_merged};
 ghost use Rattle.json_patch_c.specs.Reports.{IsTold, IsWritten, Tells};
 ghost use Rattle.json_patch_c.specs.States.{document_in, limits_in, undo_in};
-ghost use Rattle.json_patch_c.specs.Texts.{IsShallowText};
-ghost use Rattle.json_patch_c.specs.Updates.{IsNoPointer, LeadsNowhere, MergesTo, RecordsTo, StandsAtText, UpdatesTo};
+ghost use Rattle.json_patch_c.specs.Updates.{LeadsNowhere, MergesTo, RecordsTo, StandsAtText, UpdatesTo};
 
-use crate::bounds::{default_limits, within_most};
 use crate::document::Document;
 use crate::kept::Kept;
 use crate::kept::calls::Lookup;
 use crate::report::{Report, answer, refuse, tell};
 use json_patch::Limits;
+use json_patch_bytes::bounds::{default_limits, within_most};
 use std::alloc::Global;
 
 /// Opens the document of a text within the limits, and closes the one that was open.

@@ -1,31 +1,29 @@
-//! JSON Patch (RFC 6902) and JSON Merge Patch (RFC 7396) for C: from two texts to a third, and, in
-//! `handle`, on a document that is kept. Every call is within limits.
+//! JSON Patch (RFC 6902) and JSON Merge Patch (RFC 7396) for C: from two texts to a third, in `texts` on
+//! a text as it is written, and in `handle` on a document that is kept. Every call is within limits.
 //!
 //! `c/json_patch.h` declares these functions, and says what their caller owes. Each but
 //! `json_patch_close` returns a status, and fills a report. What a status says that several calls
-//! return stands once, in `IsWritten` and `IsTold`.
+//! return stands once, in `IsWritten`, `IsTextWritten` and `IsTold`.
 #![tactic(auto)]
 
 ghost use Rattle.std.specs.Prelude.{◌≡◌, ◌≤◌, ◌⊎◌, [], List};
 ghost use Rattle.json_patch.specs.Operation.{Operation};
-ghost use Rattle.json_patch_c.specs.Bounds.{the_limits, within_most};
-ghost use Rattle.json_patch_c.specs.Differences.{LeadsBetween};
-ghost use Rattle.json_patch_c.specs.Reasons.{of_apply, of_check, of_diff, of_merge};
+ghost use Rattle.json_patch_bytes.specs.Bounds.{the_limits, within_most};
+ghost use Rattle.json_patch_bytes.specs.Differences.{LeadsBetween};
+ghost use Rattle.json_patch_bytes.specs.Reasons.{of_apply, of_check, of_diff, of_merge};
+ghost use Rattle.json_patch_bytes.specs.Texts.{IsPatchText, Makes, MakesBoth, Merges};
 ghost use Rattle.json_patch_c.specs.Reports.{IsTold, IsWritten, Tells};
-ghost use Rattle.json_patch_c.specs.Texts.{IsPatchText, Makes, MakesBoth, Merges};
 
-mod bounds;
-mod calls;
 mod document;
-mod failure;
 mod handle;
 mod kept;
-mod nesting;
 mod parts;
 mod report;
+mod texts;
 
-use bounds::{default_limits, within_most};
 use json_patch::Limits;
+use json_patch_bytes::bounds::{default_limits, within_most};
+use json_patch_bytes::calls;
 use report::{Report, answer, refuse, tell};
 use std::alloc::Global;
 

@@ -3,13 +3,13 @@
 ghost use Rattle.std.specs.Prelude.{◌≡◌, ◌≢◌, ◌≤◌, ◌<◌, ◌⊎◌, ◌↔◌, IfErr, IfOk, IsTrue, length, string_bytes};
 ghost use Rattle.json_patch.specs.LimitError.{LimitError};
 ghost use Rattle.json_patch.specs.PatchError.{PatchError};
-ghost use Rattle.json_patch_c.specs.Failures.{IsPutOut, IsReported};
-ghost use Rattle.json_patch_c.specs.Kinds.{limit_kind};
+ghost use Rattle.json_patch_bytes.specs.Kinds.{limit_kind};
+ghost use Rattle.json_patch_bytes.specs.declared.failure.Failure.TheVariants.{NoDocument, NoPatch, Over, Refused};
 ghost use Rattle.json_patch_c.specs.Reports.{IsPut, Tells, TellsRefusal};
-ghost use Rattle.json_patch_c.specs.declared.failure.Failure.TheVariants.{NoDocument, NoPatch, Over, Refused};
+ghost use Rattle.json_patch_c.specs.Told.{IsPutOut, IsReported};
 
-use crate::failure::{Failure, kind_of_limit, kind_of_refusal};
 use json_patch::PatchError;
+use json_patch_bytes::failure::{Failure, kind_of_limit, kind_of_refusal};
 
 /// What a call tells beside its status: what doesn't belong to the status is 0.
 #[repr(C)]
@@ -48,7 +48,7 @@ pub(crate) fn answer(made: Result<String, Failure>, out: &mut [u8], report: &mut
 }
 
 /// Writes a text that was made: status 0, or 5 where `out` is shorter than it.
-fn write(text: &[u8], out: &mut [u8], report: &mut Report) -> u8
+pub(crate) fn write(text: &[u8], out: &mut [u8], report: &mut Report) -> u8
     ensures made { result ≡ 0 → IsPut text.now out.old out.new }
     ensures no_room { result ≡ 5 → length out.old < length text.now }
     ensures told { Tells (length text.now) 0 0 report.new }

@@ -6,20 +6,21 @@ ghost use Rattle.serde_json.specs.View.{view};
 ghost use Rattle.json_patch.specs.Operation.{operations_of};
 ghost use Rattle.json_patch.specs.PatchValue.{written_patch};
 ghost use Rattle.json_patch.specs.Run.{IsAccepted};
-ghost use Rattle.json_patch_c.specs.Differences.{LeadsToText};
-ghost use Rattle.json_patch_c.specs.Failures.{IsFailure, IsTextOf};
+ghost use Rattle.json_patch_bytes.specs.Differences.{LeadsToText};
+ghost use Rattle.json_patch_bytes.specs.Failures.{IsFailure, IsTextOf};
+ghost use Rattle.json_patch_bytes.specs.Reasons.{of_open};
+ghost use Rattle.json_patch_bytes.specs.Texts.{IsShallowText};
 ghost use Rattle.json_patch_c.specs.Found.{IsLookup};
-ghost use Rattle.json_patch_c.specs.Reasons.{of_diff_to, of_memory, of_open, of_update, of_update_merged};
-ghost use Rattle.json_patch_c.specs.Texts.{IsShallowText};
+ghost use Rattle.json_patch_c.specs.Reasons.{of_diff_to, of_memory, of_update, of_update_merged};
 ghost use Rattle.json_patch_c.specs.Updates.{MergesTo, RecordsTo, UpdatesTo};
 
-use crate::calls::{difference, document_of, patch_of, second_document_of, text_of};
-use crate::failure::Failure;
 use crate::kept::Kept;
 use json_patch::jsonptr::Pointer;
 use json_patch::{
     Limits, Patch, PatchFault, apply_patches_within, laws, lookup, merge, patch, patch_within,
 };
+use json_patch_bytes::calls::{difference, document_of, patch_of, second_document_of, text_of};
+use json_patch_bytes::failure::Failure;
 use std::alloc::Global;
 
 /// What a look for a pointer's text finds.
@@ -155,7 +156,7 @@ impl Kept {
     }
 
     /// The text of the patch that leads from the document to that of a text.
-    #[tactic(auto, using(crate::proofs::Differences::leads_to_text))]
+    #[tactic(auto, using(crate::proofs::Answered::leads_to_text))]
     pub(crate) fn diff_to(&self, alloc: Global, text: &[u8]) -> Result<String, Failure>
         ensures text { IfOk result (λ s. (w : Data)
             × LeadsToText self.now.limits.depth (view self.now.document) text.now w

@@ -1,0 +1,7 @@
+pub mod Kinds
+pub mod Nesting
+pub mod Bounds
+pub mod Texts
+pub mod Reasons
+pub mod Failures
+pub mod Differences

@@ -1,0 +1,56 @@
+-- For private clauses: the failure for a fault, and why a pointer leads to no value's text.
+use Rattle.std.specs.Prelude.{ℕ, List, unwrap_or}
+use Rattle.json_merge_text.specs.declared.fault.MergeTextFault.{MergeTextFault}
+use Rattle.json_merge_text.specs.declared.fault.MergeTextFault.TheVariants as merge
+use Rattle.json_patch.specs.LimitKind.TheVariants as limit
+use Rattle.json_text.specs.declared.fault.TextFault.{TextFault}
+use Rattle.json_text.specs.declared.fault.TextFault.TheVariants as text
+use Rattle.json_patch_text.specs.declared.fault.PatchTextFault.TheVariants as run
+use Rattle.json_patch_text.specs.declared.fault.TextLimitFault.{TextLimitFault}
+use Rattle.json_patch_text.specs.declared.fault.TextLimitFault.TheVariants as within
+use Rattle.json_patch_bytes.specs.Failures.{IsFailure}
+use Rattle.json_patch_bytes.specs.Kinds.{reading_kind}
+use Rattle.json_patch_bytes.specs.Texts.{IsNoPointer}
+use Rattle.json_patch_bytes.specs.declared.failure.Failure.{Failure}
+use Rattle.json_patch_bytes.specs.declared.failure.Failure.TheVariants.{NoDocument, NoPatch, Refused, Over, Memory}
+use Rattle.json_patch_text_bytes.specs.Reasons.{of_text}
+use Rattle.json_patch_text_bytes.specs.Texts.{IsNothingAt}
+use Rattle.json_patch_text_bytes.specs.declared.lookup.LookupFault.{LookupFault}
+use Rattle.json_patch_text_bytes.specs.declared.lookup.LookupFault.TheVariants as lookup
+
+-- ---- the failure
+
+-- for a fault of the document's text
+abbrev pub as_document : TextFault → Failure
+as_document text.NotJson = NoDocument 1
+as_document text.TooDeep = NoDocument 7
+as_document (text.Memory m) = Memory
+
+-- for one of the patch's text
+abbrev pub as_patch : TextFault → Failure
+as_patch text.NotJson = NoPatch 0 1
+as_patch text.TooDeep = NoPatch 0 7
+as_patch (text.Memory m) = Memory
+
+-- for that of a run within limits
+abbrev pub of_fault : TextLimitFault → Failure
+of_fault (within.Over e) = Over e
+of_fault (within.Patch (run.Document f)) = as_document f
+of_fault (within.Patch (run.Patch f)) = as_patch f
+of_fault (within.Patch (run.Unreadable e)) = NoPatch (unwrap_or e.operation 0) (reading_kind e.kind)
+of_fault (within.Patch (run.Refused e)) = Refused e
+of_fault (within.Patch (run.TooDeep k)) = Over (record { operation = k; kind = limit.TooDeep })
+of_fault (within.Patch (run.Memory m)) = Memory
+
+-- for that of a merge
+abbrev pub of_merge_fault : MergeTextFault → Failure
+of_merge_fault (merge.Document f) = as_document f
+of_merge_fault (merge.Patch f) = as_patch f
+of_merge_fault (merge.Memory m) = Memory
+
+-- ---- a value's text
+
+abbrev pub IsLookupFault : ℕ → List ℕ → List ℕ → LookupFault → Type 0
+IsLookupFault levels document pointer (lookup.Document f) = IsFailure (of_text levels document) f
+IsLookupFault levels document pointer lookup.NoPointer = IsNoPointer pointer
+IsLookupFault levels document pointer lookup.Nothing = IsNothingAt levels document pointer

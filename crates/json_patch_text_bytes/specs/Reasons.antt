@@ -1,0 +1,28 @@
+-- Why a call on a JSON text makes nothing. What can't come to be in a call is ⊥.
+use Rattle.std.specs.Prelude.{◌≡◌, ℕ, List}
+use Rattle.json_patch.specs.Limits.{Limits}
+use Rattle.json_patch_text.specs.Within.{NamesFirstOver}
+use Rattle.json_patch_bytes.specs.Reasons.{Reasons}
+use Rattle.json_patch_text_bytes.specs.Texts.{IsJsonText, IsNoJsonText, IsNoTextPatch, IsRefusedIn}
+
+-- of a document's text that is read
+abbrev pub of_text : ℕ → List ℕ → Reasons
+of_text levels document = record { no_document = IsNoJsonText levels document; no_patch = λ operation kind. ⊥; refused = λ e. ⊥; over = λ e. ⊥ }
+
+-- of a document's text that is patched in place: the patch is looked at where that is JSON
+abbrev pub of_patch : Limits → List ℕ → List ℕ → Reasons
+of_patch l document patch = record {
+  no_document = IsNoJsonText l.depth document;
+  no_patch = λ operation kind. IsJsonText l.depth document × IsNoTextPatch patch operation kind;
+  refused = IsRefusedIn l document patch;
+  over = NamesFirstOver l document patch;
+}
+
+-- of a document's text into which a merge patch's is merged
+abbrev pub of_merge : ℕ → List ℕ → List ℕ → Reasons
+of_merge levels document patch = record {
+  no_document = IsNoJsonText levels document;
+  no_patch = λ operation kind. IsJsonText levels document × (operation ≡ 0) × IsNoJsonText levels patch kind;
+  refused = λ e. ⊥;
+  over = λ e. ⊥;
+}

@@ -1,0 +1,69 @@
+-- What bytes say as a JSON text, whatever its numbers, and what a call makes of it.
+use Rattle.std.specs.Prelude.{◌≡◌, ◌≤◌, ◌<◌, ◌⊎◌, ℕ, List, Option, None, IsUtf8, unwrap_or}
+use Rattle.json.specs.Json.{Json}
+use Rattle.jsonptr.specs.Text.{Pointer}
+use Rattle.json_text.specs.Faults.{nesting}
+use Rattle.json_text.specs.Pointed.{IsWrittenAt, tree_at}
+use Rattle.json_text.specs.Spelled.{Says}
+use Rattle.json_merge_text.specs.Merged.{IsMergedAlready, IsMergedText, SaysMerged}
+use Rattle.json_patch.specs.Limits.{Limits}
+use Rattle.json_patch.specs.PatchError.{PatchError}
+use Rattle.json_patch.specs.ReadKind.{ReadKind}
+use Rattle.json_patch_text.specs.Operations.{SaysNoOperations, SaysOperations, TreeOperation}
+use Rattle.json_patch_text.specs.Patched.{AcceptsPatch, IsPatchedText}
+use Rattle.json_patch_text.specs.Stopped.{NamesFirstIn}
+use Rattle.json_patch_text.specs.Within.{IsPatchedWithin, ReachesWithin}
+use Rattle.json_patch_bytes.specs.Kinds.{reading_kind}
+use Rattle.json_patch_bytes.specs.Texts.{IsTextOfPointer}
+
+-- the bytes are UTF-8 and JSON (RFC 8259), and at most so many objects and arrays are open in them at once
+abbrev pub IsJsonText : ℕ → List ℕ → Type 0
+IsJsonText levels text = IsUtf8 text × ((j : Json) × Says text j) × (nesting text ≤ levels)
+
+-- the bytes are no such text: 7 is told where more are open, and else 1
+abbrev pub IsNoJsonText : ℕ → List ℕ → ℕ → Type 0
+IsNoJsonText levels text kind = ((kind ≡ 7) × IsUtf8 text × (levels < nesting text))
+    ⊎ ((kind ≡ 1) × (IsUtf8 text → (nesting text ≤ levels) × ((j : Json) → ¬ Says text j)))
+
+-- for private clauses: the bytes are no UTF-8 (1), or more are open in them (7)
+abbrev pub IsNoFlatText : ℕ → List ℕ → ℕ → Type 0
+IsNoFlatText levels text kind = ((kind ≡ 7) × IsUtf8 text × (levels < nesting text)) ⊎ ((kind ≡ 1) × ¬ IsUtf8 text)
+
+-- the bytes say no patch: they are no JSON text, or are read as none, whatever its numbers are read as
+abbrev pub IsNoTextPatch : List ℕ → ℕ → ℕ → Type 0
+IsNoTextPatch text operation kind = ((operation ≡ 0) × IsNoJsonText 127 text kind)
+    ⊎ ((k : Option ℕ) × (why : ReadKind) × IsUtf8 text × SaysNoOperations text k why × (operation ≡ unwrap_or k 0) × (kind ≡ reading_kind why))
+
+-- new is the document's text patched, every byte kept that no operation changes, with each text on the way within the limits
+pub record IsPatched (l : Limits) (document patch new : List ℕ) : Type 0 where
+  pub text : IsJsonText l.depth document
+  pub accepted : AcceptsPatch document patch new
+  pub kept : IsPatchedText document patch new
+  pub within : IsPatchedWithin l document patch new
+  -- so it can be handed in again
+  pub again : IsJsonText l.depth new
+
+-- the patch is refused on the document's text, the operations before are made within the limits, and e is which and why
+abbrev pub IsRefusedIn : Limits → List ℕ → List ℕ → PatchError → Type 0
+IsRefusedIn l document patch e = ((ops : List TreeOperation) × SaysOperations patch ops × NamesFirstIn document ops e)
+    × ReachesWithin l document patch e.operation
+
+-- new is the document's text with the merge patch merged into it, every byte kept that the merge doesn't change
+pub record IsMergedInto (levels : ℕ) (document patch new : List ℕ) : Type 0 where
+  pub text : IsJsonText levels document
+  pub merged : SaysMerged document patch new
+  -- it is the document's own where the merge changes nothing of what that says
+  pub unchanged : IsMergedAlready document patch → new ≡ document
+  pub kept : IsMergedText document patch new
+  -- so it can be handed in again
+  pub again : IsJsonText levels new
+
+-- s is the value's text in the document's where the pointer leads
+abbrev pub IsValueAt : ℕ → List ℕ → List ℕ → List ℕ → Type 0
+IsValueAt levels document pointer s = (j : Json) × (P : Pointer) × IsJsonText levels document × Says document j
+    × IsTextOfPointer pointer P × IsWrittenAt document j P s
+
+-- the pointer leads nowhere in what the document's text says
+abbrev pub IsNothingAt : ℕ → List ℕ → List ℕ → Type 0
+IsNothingAt levels document pointer = (j : Json) × (P : Pointer) × IsJsonText levels document × Says document j
+    × IsTextOfPointer pointer P × (tree_at P j ≡ None)

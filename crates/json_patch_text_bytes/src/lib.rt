@@ -1,0 +1,14 @@
+//! JSON texts as they are written, from bytes to bytes, within limits, or why not: a text patched in
+//! place (RFC 6902), and the value's text where a pointer leads (RFC 6901), for calls that get bytes and
+//! hand out text, as those for C.
+//!
+//! Bytes that are no UTF-8 are no JSON. Numbers may be any that JSON has.
+//!
+//! - [`calls`]: what is made of the bytes
+//! - [`lookup`]: why a pointer leads to no value's text
+#![tactic(auto)]
+
+pub mod calls;
+mod failures;
+pub mod lookup;
+mod texts;
