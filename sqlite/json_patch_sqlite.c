@@ -10,9 +10,10 @@
  *
  * The first four also take two limits, depth and copied, as json_patch.h has them. A NULL among the
  * arguments gives NULL. What isn't a text, or says no document or patch, and a patch that is refused
- * or over the limits are errors of the statement. A result depends on the arguments alone, and no call
- * reads or writes anything else; so the functions may stand in indexes, generated columns, CHECKs and
- * triggers.
+ * or over the limits are errors of the statement. json_patch_apply and json_patch_merge keep the text
+ * where they don't change it, and take any numbers; elsewhere these are 64-bit integers. A result depends
+ * on the arguments alone, and no call reads or writes anything else; so the functions may stand in
+ * indexes, generated columns, CHECKs and triggers.
  *
  * In the folder of the archive, with sqlite3ext.h (Debian: libsqlite3-dev):
  *
@@ -61,15 +62,15 @@ typedef struct {
 static json_patch_status write_applied(const arguments *given, char *out, size_t room,
                                        json_patch_report *report)
 {
-    return json_patch_apply_within(given->first.bytes, given->first.length, given->second.bytes,
-                                   given->second.length, &given->limits, out, room, report);
+    return json_patch_apply_text_within(given->first.bytes, given->first.length, given->second.bytes,
+                                        given->second.length, &given->limits, out, room, report);
 }
 
 static json_patch_status write_merged(const arguments *given, char *out, size_t room,
                                       json_patch_report *report)
 {
-    return json_patch_merge_within(given->first.bytes, given->first.length, given->second.bytes,
-                                   given->second.length, &given->limits, out, room, report);
+    return json_patch_merge_text_within(given->first.bytes, given->first.length, given->second.bytes,
+                                        given->second.length, &given->limits, out, room, report);
 }
 
 static json_patch_status write_difference(const arguments *given, char *out, size_t room,

@@ -28,6 +28,8 @@ DIFF = "json_patch_diff"
 CHANGES = 10_000
 ROWS, WRONG_ROW = 100_000, 50_000
 THREADS, EACH = 4, 200
+# of c/cases.json: a number of the document, or of a patch's value, isn't whole
+NOT_WHOLE, VALUE_NOT_WHOLE = 2, 23
 
 
 def opened(path=":memory:"):
@@ -59,10 +61,10 @@ class Calls(Sql):
     def test_cases_of_the_tables(self):
         """Each accepted case, each refusal with its operation and path, and each text that is no patch."""
         counts = {}
-        for call, document, patch, status, operation, _kind, written in json.loads((TOP / "c/cases.json").read_text()):
+        for call, document, patch, status, operation, kind, written in json.loads((TOP / "c/cases.json").read_text()):
             counts[call, status] = counts.get((call, status), 0) + 1
             name = {"apply": APPLY, "merge": MERGE, "record": INVERSE}.get(call)
-            if name is None:
+            if name is None or (name != INVERSE and kind in (NOT_WHOLE, VALUE_NOT_WHOLE)):
                 continue
             if status == 0:
                 if written is not None:
@@ -88,7 +90,7 @@ class Calls(Sql):
 
     def test_what_is_no_document_or_patch(self):
         self.assertFails("document is not JSON", APPLY, "{", "[]")
-        self.assertFails("document holds a number that is not whole", APPLY, "[1.5]", "[]")
+        self.assertFails("document holds a number that is not whole", INVERSE, "[1.5]", "[]")
         self.assertFails("document nests too deep", APPLY, "[" * 125 + "]" * 125, "[]")
         self.assertFails("patch is not JSON", APPLY, "{}", "[")
         self.assertFails("patch is not a list", APPLY, "{}", "{}")
@@ -139,11 +141,28 @@ class Calls(Sql):
         found = self.database.execute("SELECT json_patch_apply(d, '[]') FROM t").fetchone()[0]
         self.assertEqual(found, '["\u00e9\U0001F600"]')
 
+    def test_apply_keeps_the_text(self):
+        self.assertEqual(
+            self.of(APPLY, '{ "price": 1.50, "tags": ["new"],\n  "a": "\\u00e9" }', '[{"op":"add","path":"/tags/-","value": 1e400}]'),
+            '{ "price": 1.50, "tags": ["new",1e400],\n  "a": "\\u00e9" }')
+        self.assertEqual(self.of(APPLY, ' {"b": 1.0, "a": 2}\n', '[{"op":"test","path":"/b","value":1},{"op":"remove","path":"/a"}]'), ' {"b": 1.0}\n')
+        self.assertFails("operation 0 failed at path '/b': value did not match", APPLY, '{"b": 1.5}', '[{"op":"test","path":"/b","value":1}]')
+
+    def test_merge_keeps_the_text(self):
+        self.assertEqual(self.of(MERGE, '{ "price": 1.50, "old": 1 }\n', '{"old":null,"stock":1e1}'), '{ "price": 1.50, "stock": 1e1 }\n')
+        self.assertEqual(self.of(MERGE, ' {"b": 1.0, "a": 2}', '{"b":1}'), ' {"b": 1.0, "a": 2}')
+
     def test_limits(self):
         nest = '[{"op":"copy","from":"","path":"/0"}]'
         self.assertEqual(self.of(APPLY, "[]", nest, 2, 1), "[[]]")
         self.assertFails("operation 0 is over the limits: it nests too deep", APPLY, "[]", nest, 1, 1)
-        self.assertFails("operation 0 is over the limits: it copies too much", APPLY, "[]", nest, 2, 0)
+        # the text has 104 bytes, the patch 39, and the copy leaves 104 + 103 = 207
+        long, twice = json.dumps(["x" * 100]), '[{"op":"copy","from":"/0","path":"/0"}]'
+        self.assertEqual(self.of(APPLY, long, twice, 124, 64), '["' + "x" * 100 + '","' + "x" * 100 + '"]')
+        self.assertFails("operation 0 is over the limits: it copies too much", APPLY, long, twice, 124, 63)
+        # there each value and each byte of a string counts
+        self.assertSays(["x"], self.of(APPLY, '["x","x"]', self.of(INVERSE, '["x"]', twice, 1, 2)))
+        self.assertFails("operation 0 is over the limits: it copies too much", INVERSE, '["x"]', twice, 1, 1)
         self.assertFails("document nests too deep", APPLY, "[[]]", "[]", 1, 1)
         self.assertFails("depth is not a whole number from 0 on", APPLY, "[]", "[]", -1, 1)
         self.assertFails("copied is not a whole number from 0 on", APPLY, "[]", "[]", 1, "1")
@@ -156,7 +175,10 @@ class Calls(Sql):
         self.assertFails("operation 6 is over the limits: it nests too deep", APPLY, '{"a":0}', nest)
         double = json.dumps([{"op": "copy", "from": "", "path": f"/{number}"} for number in range(60)])
         # before the 24th, counted from 0, 33,570,775 are copied, its names among them; it copies 33,570,814
-        self.assertFails("operation 24 is over the limits: it copies too much", APPLY, "{}", double)
+        self.assertFails("operation 24 is over the limits: it copies too much", INVERSE, "{}", double)
+        # a text of n bytes comes to 2n + 4, and one more for a comma; before the 23rd it has 54,534,138,
+        # with the longer names; twice that is more than 67,108,864, the 2,570 of the patch and 2
+        self.assertFails("operation 23 is over the limits: it copies too much", APPLY, "{}", double)
         self.assertFails("document nests too deep", APPLY, "[" * 1_000_000, "[]")
 
     def test_a_text_larger_than_first_room(self):

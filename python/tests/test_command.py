@@ -17,7 +17,8 @@ MODULE = f"'{sys.executable}' -m json_patch"
 COMMAND = shutil.which("json-patch") or MODULE
 DOCUMENT = '{ "b": [1, 2], "a": "\\u00e9" }'
 PATCH = '[{"op": "move", "from": "/b/0", "path": "/c"}]'
-PATCHED = '{"a":"\u00e9","b":[2],"c":1}\n'
+PATCHED = '{ "b": [2], "a": "\\u00e9", "c": 1 }'
+COMPACT = '{"a":"\u00e9","b":[2],"c":1}\n'
 INVERSE = [{"op": "remove", "path": "/c"}, {"op": "add", "path": "/b/0", "value": 1}]
 
 
@@ -56,16 +57,32 @@ class Command(unittest.TestCase):
         self.assertDoes("cat d.json | json-patch apply - p.json", PATCHED)
         self.assertDoes("json-patch apply -u d.json p.json", PATCHED)
         self.assertDoes(f"{MODULE} apply d.json p.json", PATCHED)
-        self.assertDoes("json-patch apply --indent 2 d.json p.json", json.dumps(json.loads(PATCHED), indent=2, ensure_ascii=False) + "\n")
+        self.assertDoes("json-patch apply --indent 2 d.json p.json", json.dumps(json.loads(COMPACT), indent=2, ensure_ascii=False) + "\n")
+
+    def test_any_numbers(self):
+        """Where the text is kept."""
+        self.write("half.json", '{\n  "a": 1.50,\n  "b": 1e400\n}\n')
+        self.write("p.json", '[{"op": "test", "path": "/a", "value": 1.5}, {"op": "copy", "from": "/a", "path": "/c"}, {"op": "remove", "path": "/b"}]')
+        self.assertDoes("json-patch apply half.json p.json", '{\n  "a": 1.50,\n  "c": 1.50\n}\n')
+        self.assertDoes("json-patch get half.json /b", "1e400\n")
+        self.assertEnds(2, "half.json: NotJson", "json-patch apply --indent 1 half.json p.json")
+        self.write("half.json", '{"a": 1.50}')
+        for arguments in ("apply --indent 1 half.json p.json", "record half.json p.json i", "get --indent 1 half.json /a", "merge --indent 1 half.json d.json"):
+            self.assertEnds(2, "half.json: NotWhole", f"json-patch {arguments}")
+        self.write("m.json", '{"b": 1e400, "a": 15e-1}')
+        self.assertDoes("json-patch merge half.json m.json", '{"a": 1.50,"b": 1e400}')
 
     def test_merge(self):
         self.write("m.json", '{"a": null, "d": {"e": null}}')
-        self.assertDoes("json-patch merge d.json m.json", '{"b":[1,2],"d":{}}\n')
+        self.assertDoes("json-patch merge d.json m.json", '{ "b": [1, 2], "d": {} }')
+        self.assertDoes("json-patch merge --indent 0 d.json m.json | tr -d ' \\n'; echo", '{"b":[1,2],"d":{}}\n')
 
     def test_record(self):
         self.assertDoes("json-patch record d.json p.json inverse.json", PATCHED)
         self.assertEqual(json.loads(self.text("inverse.json")), INVERSE)
-        self.assertDoes("json-patch record -i d.json p.json inverse.json && json-patch apply d.json inverse.json", '{"a":"\u00e9","b":[1,2]}\n')
+        self.assertDoes("json-patch record -i d.json p.json inverse.json && json-patch apply d.json inverse.json", '{ "b": [1,2], "a": "\\u00e9" }')
+        self.write("d.json", DOCUMENT)
+        self.assertDoes("json-patch record --indent 0 d.json p.json i | tr -d ' \\n'; echo", COMPACT)
 
     def test_diff(self):
         self.write("to.json", '{"a": "\u00e9", "b": [1, 2, 3]}')
@@ -76,8 +93,8 @@ class Command(unittest.TestCase):
         self.assertDoes("json-patch diff - to.json < d.json", made)
         self.assertDoes("json-patch diff -u --limit-depth 2 d.json to.json", made)
         self.assertDoes("json-patch diff --indent 1 d.json to.json", json.dumps(json.loads(made), indent=1) + "\n")
-        self.assertDoes("json-patch diff d.json to.json | json-patch apply d.json", '{"a":"\u00e9","b":[1,2,3]}\n')
-        self.assertDoes("json-patch diff to.json d.json | json-patch apply to.json", '{"a":"\u00e9","b":[1,2]}\n')
+        self.assertDoes("json-patch diff d.json to.json | json-patch apply d.json", '{ "b": [1, 2, 3], "a": "\\u00e9" }')
+        self.assertDoes("json-patch diff to.json d.json | json-patch apply to.json", '{"a": "\u00e9", "b": [1, 2]}')
         self.assertDoes("json-patch diff d.json d.json", "[]\n")
         self.assertEqual(self.text("d.json"), DOCUMENT)
 
@@ -96,8 +113,9 @@ class Command(unittest.TestCase):
             self.assertEqual((written, status), ("", 64), arguments)
 
     def test_get(self):
-        self.assertDoes("json-patch get d.json /b", "[1,2]\n")
-        self.assertDoes("json-patch get - '' < d.json", '{"a":"\u00e9","b":[1,2]}\n')
+        self.assertDoes("json-patch get d.json /b", "[1, 2]\n")
+        self.assertDoes("json-patch get - '' < d.json", DOCUMENT + "\n")
+        self.assertDoes("json-patch get --indent 0 d.json /b | tr -d '\\n'; echo", "[1,2]\n")
         self.assertEnds(1, 'd.json: path "/b/2": Nothing', "json-patch get d.json /b/2")
         self.assertEnds(2, 'd.json: path "b": NoPointer', "json-patch get d.json b")
 
@@ -134,27 +152,31 @@ class Command(unittest.TestCase):
         self.write("line\nfeed", "7")
         for told, arguments in (
             ("none: No such file or directory", "apply none p.json"), (".: Is a directory", "apply d.json ."),
-            ("bad: NotJson", "apply bad p.json"), ("half: NotWhole", "apply half p.json"),
+            ("bad: NotJson", "apply bad p.json"), ("half: NotWhole", "record half p.json i"),
             ("bad: NotJson", "apply d.json bad"), ("half: operation 0: NotAnObject", "apply d.json half"),
-            ("'line\\nfeed': NotAList", "apply d.json line*"), ("half: NotWhole", "merge d.json half"),
+            ("'line\\nfeed': NotAList", "apply d.json line*"), ("half: NotWhole", "merge --indent 1 d.json half"),
             ("d.json: NotAList", "record d.json d.json i"), ("bad: NotJson", "get bad /a"), ("half: operation 0: NotAnObject", "check half"),
         ):
             self.assertEnds(2, told, f"json-patch {arguments}")
 
     def test_limits(self):
         self.write("p.json", '[{"op": "test", "path": "/b/0", "value": 1}, {"op": "copy", "from": "/b", "path": "/b/-"}]')
-        made = '{"a":"\u00e9","b":[1,2,[1,2]]}\n'
+        made = '{ "b": [1, 2, [1, 2]], "a": "\\u00e9" }'
         # the copy reaches two tokens and a level, and counts its list and two numbers
         self.assertDoes("json-patch apply --limit-depth 3 --limit-copies 3 d.json p.json", made)
         self.assertDoes("json-patch record --limit-depth=3 --limit-copies=3 d.json p.json i", made)
         for options in ("", "-i", "-ib"):
             self.assertEnds(1, 'p.json: operation 1: path "/b/-": TooDeep', f"json-patch apply {options} --limit-depth 2 d.json p.json")
-            self.assertEnds(1, 'p.json: operation 1: path "/b/-": TooMuch', f"json-patch apply {options} --limit-copies 2 d.json p.json")
         (self.folder / "i").unlink()
         self.assertEnds(1, 'p.json: operation 1: path "/b/-": TooMuch', "json-patch record -i --limit-copies 2 d.json p.json i")
         self.assertFalse((self.folder / "i").exists())
+        # the document has 104 bytes, the patch 39, and the copy leaves 207
+        self.write("long.json", json.dumps(["x" * 100]))
+        self.write("p.json", '[{"op":"copy","from":"/0","path":"/0"}]')
+        self.assertDoes("json-patch apply --limit-copies 64 long.json p.json | wc -c", "207\n")
+        self.assertEnds(1, 'p.json: operation 0: path "/0": TooMuch', "json-patch apply --limit-copies 63 long.json p.json")
         self.write("m.json", '{"b": {"c": [1]}}')
-        self.assertDoes("json-patch merge --limit-depth 3 d.json m.json", '{"a":"\u00e9","b":{"c":[1]}}\n')
+        self.assertDoes("json-patch merge --limit-depth 3 d.json m.json", '{ "b": {"c": [1]}, "a": "\\u00e9" }')
         self.assertEnds(2, "m.json: TooDeep", "json-patch merge --limit-depth 2 d.json m.json")
         for command in ("apply", "merge"):
             self.assertEnds(2, "d.json: TooDeep", f"json-patch {command} --limit-depth 1 d.json m.json")
@@ -165,12 +187,13 @@ class Command(unittest.TestCase):
             for command in ("apply", "merge"):
                 self.assertEnds(2, f"{name}: TooDeep", f"json-patch {command} {name} p.json")
             self.assertEnds(2, f"{name}: TooDeep", f"json-patch record -i {name} p.json i")
-            self.assertEnds(2, f"{name}: TooDeep", f"json-patch get {name} ''")
             self.assertEnds(2, f"{name}: TooDeep", f"json-patch merge -i d.json {name}")
         self.assertEnds(2, "brackets: TooDeep", "json-patch apply -i d.json brackets")
         self.assertEnds(2, "brackets: TooDeep", "json-patch check brackets")
+        self.assertEnds(2, "brackets: TooDeep", "json-patch get brackets ''")
         self.write("124", "[" * 124 + "]" * 124)
         self.assertDoes("json-patch apply --indent 1 124 <<< '[]' | tr -d ' \\n'; echo", "[" * 124 + "]" * 124 + "\n")
+        self.assertDoes("json-patch apply 124 <<< '[]'", "[" * 124 + "]" * 124)
         # on a small stack: number n finds 2 * 2**n levels, and puts them as many deep
         self.write("d.json", '{"b":[]}')
         self.write("p.json", json.dumps([{"op": "copy", "from": "", "path": "/b/0" * 2**n} for n in range(16)]))
@@ -201,7 +224,7 @@ class Command(unittest.TestCase):
     def test_memory(self):
         self.write("d.json", "[1]")
         self.write("p.json", json.dumps([{"op": "copy", "from": "", "path": "/-"}] * 40))
-        written, told, status = self.run_lines("ulimit -v 200000; json-patch apply -i d.json p.json")
+        written, told, status = self.run_lines("ulimit -v 200000; json-patch apply -i --limit-copies 9999999999 d.json p.json")
         self.assertEqual((written, told, status), ("", "json-patch: out of memory\n", 3))
         self.assertEqual(self.text("d.json"), "[1]")
 

@@ -29,6 +29,11 @@ Of two documents the patch is made that leads from the one to the other:
 >>> make_patch({"name": "a", "rows": [1, 2, 3]}, {"name": "a", "rows": [1, 3]})
 JsonPatch([{'op': 'remove', 'path': '/rows/1'}])
 
+A JSON text, such as a file's, is patched with every other byte kept, whatever numbers it has:
+
+>>> apply_text('{ "price": 1.50, "rows": [1, 2] }', [{"op": "remove", "path": "/rows/0"}])
+'{ "price": 1.50, "rows": [2] }'
+
 A large document that is changed again and again is kept by the library:
 
 >>> with Document({"rows": [1, 2]}) as document:
@@ -75,6 +80,7 @@ from .errors import (
 from .limits import Limits
 from .patch import JsonPatch, apply_patch, make_patch, merge_patch, record_patch
 from .pointer import EndOfList, JsonPointer, resolve_pointer, set_pointer
+from .texts import apply_text, merge_text, resolve_text
 
 __all__ = [
     "Document",
@@ -93,9 +99,12 @@ __all__ = [
     "TooDeep",
     "__version__",
     "apply_patch",
+    "apply_text",
     "make_patch",
     "merge_patch",
+    "merge_text",
     "record_patch",
     "resolve_pointer",
+    "resolve_text",
     "set_pointer",
 ]

@@ -3,10 +3,14 @@ from __future__ import annotations
 
 import ctypes
 import json
-from typing import Any, Callable, Optional
+from typing import Any, Callable, Dict, Optional
 
-from ._library import CLOSED, LIBRARY, NO_DOCUMENT, NO_MEMORY, NO_PATCH, NO_ROOM, OK, OVER, REFUSED, Report, bounds
-from .errors import KINDS, NOT_A_LIST, JsonPatchException, NumberNotWhole, OverLimit, TooDeep, _LeadsNowhere, _TestsNothing
+from ._library import (
+    CLOSED, LIBRARY, NO_DOCUMENT, NO_MEMORY, NO_PATCH, NO_POINTER, NO_ROOM, NOTHING, OK, OVER, REFUSED, Report, bounds,
+)
+from .errors import (
+    KINDS, NOT_A_LIST, JsonPatchException, JsonPointerException, NumberNotWhole, OverLimit, TooDeep, _LeadsNowhere, _TestsNothing,
+)
 from .limits import Limits
 
 
@@ -15,8 +19,14 @@ def _of_document(kind: str, error: type) -> Exception:
     return made(f"document: {kind}", kind=kind)
 
 
+def _operation(patch: bytes, number: int) -> Dict[str, Any]:
+    """The operation of this number. Its numbers may be any, and stay as they are written."""
+    operation: Dict[str, Any] = json.loads(patch, parse_int=str, parse_float=str)[number]
+    return operation
+
+
 def _over(operation: int, kind: str, patch: bytes) -> Exception:
-    path = json.loads(patch)[operation]["path"]
+    path = _operation(patch, operation)["path"]
     told = f"operation {operation} is over the limits at path {path!r}: {kind}"
     return OverLimit(told, operation=operation, kind=kind, path=path)
 
@@ -33,7 +43,7 @@ def fault(status: int, report: Report, path: Optional[str] = None, patch: bytes 
     if status == OVER:
         return _over(report.operation, kind, patch)
     if status == REFUSED:
-        if error is _LeadsNowhere and json.loads(patch)[report.operation]["op"] == "test":
+        if error is _LeadsNowhere and _operation(patch, report.operation)["op"] == "test":
             error = _TestsNothing
         told = f"operation {report.operation} failed at path {path!r}: {kind}"
         return error(told, operation=report.operation, kind=kind, path=path)
@@ -62,6 +72,19 @@ def written(call: Callable[..., int], room: int, patch: bytes = b"") -> bytes:
             room = report.size
             continue
         raise fault(status, report, ctypes.string_at(out, report.size).decode(), patch)
+
+
+def found(call: Callable[..., int], pointer: str) -> bytes:
+    """What a call writes that goes where a pointer leads."""
+
+    def led(*out: Any) -> int:
+        status = call(*out)
+        if status in (NO_POINTER, NOTHING):
+            kind = "NoPointer" if status == NO_POINTER else "Nothing"
+            raise JsonPointerException(f"pointer {pointer!r}: {kind}", kind=kind, path=pointer)
+        return status
+
+    return written(led, 256)
 
 
 def difference(call: Callable[..., int], to: bytes) -> bytes:

@@ -14,16 +14,22 @@ from ._calls import expect_patch
 from ._texts import indented, value_of
 from ._version import __version__
 from .document import Document
-from .errors import JsonPatchConflict, JsonPatchException, JsonPatchTestFailed, JsonPointerException, OverLimit
+from .errors import (
+    InvalidJsonPatch, JsonPatchConflict, JsonPatchException, JsonPatchTestFailed, JsonPointerException, OverLimit,
+)
 from .limits import MOST_COPIED, MOST_LEVELS, Limits
+from .texts import _merged, apply_text, resolve_text
 
 REFUSED, UNREADABLE, NO_MEMORY, UNWRITABLE, USAGE = 1, 2, 3, 4, 64
 
 _EPILOG = """\
-DOCUMENT, PATCH, FROM and TO are names of files, or - for standard input. The result goes to standard output, as
-one line of compact JSON in UTF-8, or indented; with --in-place it takes the place of DOCUMENT, by a new
-file that is written beside it and renamed over it, so that DOCUMENT has the old content or the new one
-whenever the command is stopped.
+DOCUMENT, PATCH, FROM and TO are names of files, or - for standard input. The result goes to standard output;
+with --in-place it takes the place of DOCUMENT, by a new file that is written beside it and renamed over
+it, so that DOCUMENT has the old content or the new one whenever the command is stopped.
+
+apply, merge, record and get keep the text: blanks, the order of members, and the way in which numbers and
+strings are written; what is added follows its neighbours. With --indent, and by diff, the result is written
+anew. Numbers are 64-bit integers alone, but for apply, merge and get without --indent, which take any.
 
 exit status:
   0   done
@@ -93,7 +99,7 @@ def _parser() -> argparse.ArgumentParser:
 
 
 def _add_output(parser: argparse.ArgumentParser) -> None:
-    parser.add_argument("--indent", type=_spaces, metavar="N", help="write each item on a line, indented by N spaces")
+    parser.add_argument("--indent", type=_spaces, metavar="N", help="write anew, each item on a line, indented by N spaces")
     parser.add_argument("-u", "--preserve-unicode", action="store_true", help="as it always is: no character is escaped")
 
 
@@ -152,12 +158,15 @@ def _writing(name: str, write: Callable[[], None]) -> None:
 
 
 @contextmanager
-def _at_fault(name: str) -> Iterator[None]:
-    """What is raised in the block is told of this file, in one line."""
+def _at_fault(name: str, document: Optional[str] = None) -> Iterator[None]:
+    """What is raised in the block is told of this file, in one line; where the block reads a document and a
+    patch, what is wrong with the document is told of that."""
     try:
         yield
     except (JsonPatchException, JsonPointerException) as error:
         refused = isinstance(error, (JsonPatchConflict, JsonPatchTestFailed, OverLimit)) or error.kind == "Nothing"
+        if document is not None and not refused and not isinstance(error, InvalidJsonPatch):
+            name = document
         raise _Failure(REFUSED if refused else UNREADABLE, _one_line(error, name)) from error
 
 
@@ -172,23 +181,25 @@ def _one_line(error: Union[JsonPatchException, JsonPointerException], name: str)
 
 
 def _as_asked(text: bytes, asked: argparse.Namespace) -> bytes:
-    """A text of the library's as it is to be written: a line, or indented."""
+    """A text that is written anew as it is to be: a line, or indented."""
     if asked.indent is None:
         return text + b"\n"
     with _at_fault(asked.document):
         return indented(value_of(text), asked.indent) + b"\n"
 
 
-def _opened(asked: argparse.Namespace) -> Document:
-    """The document, within the limits where the command has them."""
-    text, given = _read(asked.document), vars(asked)
-    limits = Limits(given.get("limit_depth", MOST_LEVELS), given.get("limit_copies", MOST_COPIED))
+def _opened(text: bytes, asked: argparse.Namespace) -> Document:
+    """The document of the text, within the limits where the command has them."""
     with _at_fault(asked.document):
-        return Document.from_string(text, limits=limits)
+        return Document.from_string(text, limits=_limits(asked))
 
 
-def _put(kept: Document, asked: argparse.Namespace) -> None:
-    content = _as_asked(kept.to_string().encode(), asked)
+def _limits(asked: argparse.Namespace) -> Limits:
+    given = vars(asked)
+    return Limits(given.get("limit_depth", MOST_LEVELS), given.get("limit_copies", MOST_COPIED))
+
+
+def _put(content: bytes, asked: argparse.Namespace) -> None:
     if asked.in_place:
         _writing(_shown(asked.document), lambda: _files.replace(asked.document, content, asked.backup))
     else:
@@ -200,33 +211,47 @@ def _show(content: bytes) -> None:
 
 
 def _apply(asked: argparse.Namespace) -> None:
-    with _opened(asked) as kept:
-        patch = _read(asked.patch)
-        with _at_fault(asked.patch):
-            kept.apply(patch)
-        _put(kept, asked)
+    _put(_kept(_applied, asked) if asked.indent is None else _written_anew(Document.apply, asked), asked)
 
 
 def _merge(asked: argparse.Namespace) -> None:
-    with _opened(asked) as kept:
+    _put(_kept(_merged, asked) if asked.indent is None else _written_anew(Document._merge_text, asked), asked)
+
+
+def _applied(text: bytes, patch: bytes, limits: Limits) -> bytes:
+    return apply_text(text, patch, limits=limits)
+
+
+def _kept(change: Callable[[bytes, bytes, Limits], bytes], asked: argparse.Namespace) -> bytes:
+    """The document's text changed in place by the text of a patch."""
+    text, patch = _read(asked.document), _read(asked.patch)
+    with _at_fault(asked.patch, asked.document):
+        return change(text, patch, _limits(asked))
+
+
+def _written_anew(change: Callable[[Document, bytes], None], asked: argparse.Namespace) -> bytes:
+    with _opened(_read(asked.document), asked) as kept:
         patch = _read(asked.patch)
         with _at_fault(asked.patch):
-            kept._merge_text(patch)
-        _put(kept, asked)
+            change(kept, patch)
+        return _as_asked(kept.to_string().encode(), asked)
 
 
 def _record(asked: argparse.Namespace) -> None:
     """The inverse is written first: where that fails, the document stays."""
-    with _opened(asked) as kept:
+    text = _read(asked.document)
+    with _opened(text, asked) as kept:
         patch = _read(asked.patch)
         with _at_fault(asked.patch):
             inverse = kept._record_text(patch)
-        _writing(_shown(asked.inverse), lambda: _files.replace(asked.inverse, inverse + b"\n"))
-        _put(kept, asked)
+            anew = asked.indent is not None
+            content = _as_asked(kept.to_string().encode(), asked) if anew else _applied(text, patch, _limits(asked))
+    _writing(_shown(asked.inverse), lambda: _files.replace(asked.inverse, inverse + b"\n"))
+    _put(content, asked)
 
 
 def _diff(asked: argparse.Namespace) -> None:
-    with _opened(asked) as kept:
+    with _opened(_read(asked.document), asked) as kept:
         text = _read(asked.goal)
         with _at_fault(asked.goal):
             made = kept._diff_text(text)
@@ -234,10 +259,14 @@ def _diff(asked: argparse.Namespace) -> None:
 
 
 def _get(asked: argparse.Namespace) -> None:
-    with _opened(asked) as kept:
+    text = _read(asked.document)
+    if asked.indent is None:
         with _at_fault(asked.document):
-            found = kept._text_at(asked.pointer)
-        _show(_as_asked(found, asked))
+            found = resolve_text(text, asked.pointer) + b"\n"
+    else:
+        with _opened(text, asked) as kept, _at_fault(asked.document):
+            found = _as_asked(kept._text_at(asked.pointer), asked)
+    _show(found)
 
 
 def _check(asked: argparse.Namespace) -> None:

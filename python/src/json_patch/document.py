@@ -6,12 +6,12 @@ import warnings
 from types import TracebackType
 from typing import Any, Callable, Optional, Type, TypeVar, Union
 
-from ._calls import difference, fault, succeed, written
-from ._library import LIBRARY, NO_POINTER, NOTHING, OK, Handle, Report, bounds
-from ._texts import as_bytes, document_text, merge_patch_text, patch_text, value_of
-from .errors import JsonPointerException, NothingToUndo
+from ._calls import difference, fault, found, succeed, written
+from ._library import LIBRARY, NOTHING, OK, Handle, Report, bounds
+from ._texts import as_bytes, document_text, merge_patch_text, value_of
+from .errors import NothingToUndo
 from .limits import DEFAULT, Limits
-from .patch import JsonPatch, Patch
+from .patch import JsonPatch, Patch, text_of
 
 
 _Inverse = TypeVar("_Inverse")
@@ -67,10 +67,7 @@ class Document:
         return self._opened
 
     def _updated(self, call: Callable[..., int], patch: Patch) -> None:
-        if isinstance(patch, (str, bytes)):
-            text = as_bytes(patch)
-        else:
-            text = patch_text(patch.patch if isinstance(patch, JsonPatch) else patch)
+        text = text_of(patch)
         written(lambda *out: call(self._handle, text, len(text), *out), len(text) + 64, text)
         self._handle.is_recorded = False
 
@@ -142,15 +139,7 @@ class Document:
 
     def _text_at(self, pointer: str) -> bytes:
         text = as_bytes(pointer)
-
-        def call(*out: Any) -> int:
-            status: int = LIBRARY.json_patch_text_at(self._handle, text, len(text), *out)
-            if status in (NO_POINTER, NOTHING):
-                kind = "NoPointer" if status == NO_POINTER else "Nothing"
-                raise JsonPointerException(f"pointer {pointer!r}: {kind}", kind=kind, path=pointer)
-            return status
-
-        return written(call, 256)
+        return found(lambda *out: LIBRARY.json_patch_text_at(self._handle, text, len(text), *out), pointer)
 
     def to_string(self) -> str:
         """The document as a JSON text."""

@@ -145,6 +145,13 @@ def _as_patch(patch: Patch) -> JsonPatch:
     return JsonPatch.from_string(patch) if isinstance(patch, (str, bytes)) else JsonPatch(patch)
 
 
+def text_of(patch: Patch) -> bytes:
+    """The text of a patch, as it is written where it is a text."""
+    if isinstance(patch, (str, bytes)):
+        return as_bytes(patch)
+    return patch_text(patch.patch if isinstance(patch, JsonPatch) else patch)
+
+
 def apply_patch(doc: Any, patch: Patch, in_place: bool = False, *, limits: Limits = DEFAULT) -> Any:
     """What a patch, as a list of operations, a JSON text or a JsonPatch, leaves of a document, within
     limits."""

@@ -1,0 +1,65 @@
+"""Patches on JSON texts, of which every byte is kept that no operation changes."""
+from __future__ import annotations
+
+from typing import Any, TypeVar
+
+from ._calls import called, found
+from ._library import LIBRARY
+from ._texts import as_bytes, merge_patch_text
+from .limits import DEFAULT, Limits
+from .patch import Patch, text_of
+
+# what comes back is what was handed in
+_Text = TypeVar("_Text", str, bytes)
+
+
+def apply_text(text: _Text, patch: Patch, *, limits: Limits = DEFAULT) -> _Text:
+    """What a patch, as a list of operations, a JSON text or a JsonPatch, leaves of a JSON text. Blanks, the
+    order of members and the way in which numbers and strings are written stay, and what is added follows
+    its neighbours. Numbers may be any, and are compared exactly.
+
+    >>> print(apply_text('''{
+    ...   "price": 1.50,
+    ...   "tags": [ "new" ]
+    ... }''', [{"op": "copy", "from": "/price", "path": "/was"}, {"op": "add", "path": "/tags/-", "value": "red"}]))
+    {
+      "price": 1.50,
+      "tags": [ "new", "red" ],
+      "was": 1.50
+    }
+
+    It is refused as by apply_patch, and then nothing is changed. The limits are those of texts here: no text
+    on the way nests deeper than `depth`, or is longer than the text, the patch and `copied` bytes together.
+    """
+    made = called(LIBRARY.json_patch_apply_text_within, as_bytes(text), text_of(patch), limits)
+    return _like(text, made)
+
+
+def merge_text(text: _Text, patch: Any, *, limits: Limits = DEFAULT) -> _Text:
+    """A JSON text with a merge patch (RFC 7396) merged into it, which is any object and no text of one. What the
+    merge doesn't change is kept, and all of the text where it changes nothing.
+
+    >>> merge_text('{ "price": 1.50, "tags": ["new"], "old": 1 }', {"old": None, "tags": ["new"], "stock": 5})
+    '{ "price": 1.50, "tags": ["new"], "stock": 5 }'
+    """
+    return _like(text, _merged(as_bytes(text), merge_patch_text(patch), limits))
+
+
+def _merged(text: bytes, patch: bytes, limits: Limits) -> bytes:
+    return called(LIBRARY.json_patch_merge_text_within, text, patch, limits)
+
+
+def resolve_text(text: _Text, pointer: str) -> _Text:
+    """The text of the value where a JSON pointer (RFC 6901) leads in a JSON text, as it is written there;
+    JsonPointerException, where nothing does.
+
+    >>> resolve_text('{"price": 1.50, "tags": [ "new" ]}', "/price")
+    '1.50'
+    """
+    given, path = as_bytes(text), as_bytes(pointer)
+    taken = given, len(given), path, len(path)
+    return _like(text, found(lambda *out: LIBRARY.json_patch_value_text(*taken, *out), pointer))
+
+
+def _like(text: _Text, made: bytes) -> _Text:
+    return made.decode() if isinstance(text, str) else made
