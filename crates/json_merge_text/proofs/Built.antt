@@ -21,8 +21,8 @@ use Rattle.json_reading.specs.Trees.{data_of}
 use Rattle.json_reading.proofs.Documents.{IsDocument-data_of}
 use Rattle.json_reading.proofs.Trees.{same_exactly}
 use Rattle.json_text.specs.Removed.{IsRemoved}
-use Rattle.json_text.specs.Spelled.{IsShallowText}
-use Rattle.json_text.proofs.Nests.{read_is}
+use Rattle.json_lexemes.specs.Spelled.{IsShallowText}
+use Rattle.json_lexemes.proofs.Nests.{read_is}
 
 -- ---- what a value isn't
 

@@ -22,10 +22,10 @@ use Rattle.json_patch_text.proofs.Made.{add_left}
 use Rattle.json_patch_text.proofs.Members.{add_here, add_other, put_here, put_other, remove_here, remove_other}
 use Rattle.json_reading.specs.Same.{SameTree}
 use Rattle.json_text.specs.Pointed.{put_at, put_member, tree_at}
-use Rattle.json_text.specs.Spelled.{Says}
+use Rattle.json_lexemes.specs.Spelled.{Says}
 use Rattle.json_text.specs.Replaced.{IsReplaced}
-use Rattle.json_text.specs.Faults.{nesting}
-use Rattle.json_text.proofs.Nests.{nests, one_tree}
+use Rattle.json_lexemes.specs.Skipped.{nesting}
+use Rattle.json_lexemes.proofs.Nests.{nests, one_tree}
 
 -- ---- names
 

@@ -24,16 +24,17 @@ use Rattle.json_text.proofs.Depths.{part_inside, put_nests}
 use Rattle.json_patch_text.proofs.Made.{add_left}
 use Rattle.json_patch_text.proofs.Members.{add_here}
 use Rattle.json_text.specs.Added.{IsAddFault}
-use Rattle.json_text.specs.Faults.{IsTextFault, nesting}
+use Rattle.json_text.specs.Faults.{IsTextFault}
+use Rattle.json_lexemes.specs.Skipped.{nesting}
 use Rattle.json_text.specs.Pointed.{put_at, tree_at}
 use Rattle.json_text.specs.Removed.{IsRemoveFault}
 use Rattle.json_text.specs.Replaced.{IsReplaceFault}
-use Rattle.json_text.specs.Spelled.{IsShallowText}
+use Rattle.json_lexemes.specs.Spelled.{IsShallowText}
 use Rattle.json_text.specs.declared.fault.ChangeFault.{ChangeFault}
 use Rattle.json_text.specs.declared.fault.ChangeFault.TheVariants as change
 use Rattle.json_text.specs.declared.fault.TextFault.{TextFault}
 use Rattle.json_text.specs.declared.fault.TextFault.TheVariants.{NotJson, TooDeep, Memory}
-use Rattle.json_text.proofs.Nests.{nests, one_tree, read_is}
+use Rattle.json_lexemes.proofs.Nests.{nests, one_tree, read_is}
 use Rattle.json_reading.proofs.Matching.{next_member}
 
 -- ---- no fault but want of memory

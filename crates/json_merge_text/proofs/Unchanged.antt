@@ -23,7 +23,7 @@ use Rattle.json_reading.specs.Trees.{data_of}
 use Rattle.json_reading.proofs.Documents.{IsDocument-data_of, found}
 use Rattle.json_reading.proofs.Told.{some_reading}
 use Rattle.json_reading.proofs.Trees.{same_exactly}
-use Rattle.json_text.proofs.Nests.{one_tree}
+use Rattle.json_lexemes.proofs.Nests.{one_tree}
 
 -- ---- documents
 

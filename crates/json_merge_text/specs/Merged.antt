@@ -8,7 +8,7 @@ use Rattle.json_patch_merge.specs.Merged.{IsMerged}
 use Rattle.json_patch_text.specs.Made.{IsNoText}
 use Rattle.json_reading.specs.Reading.{Reading}
 use Rattle.json_reading.specs.Trees.{data_of}
-use Rattle.json_text.specs.Spelled.{Says}
+use Rattle.json_lexemes.specs.Spelled.{Says}
 
 -- under each reading the document of j is that of i with the merge patch p merged into it
 abbrev pub IsMergedTree : Json → Json → Json → Type 0

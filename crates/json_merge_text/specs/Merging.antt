@@ -6,7 +6,7 @@ use Rattle.jsonptr.specs.Text.{Pointer}
 use Rattle.json_merge_text.specs.Changes.{AreMade, TextChange, add, remove, replace}
 use Rattle.json_reading.specs.Same.{SameTree}
 use Rattle.json_text.specs.Pointed.{IsWrittenAt}
-use Rattle.json_text.specs.Spelled.{Says}
+use Rattle.json_lexemes.specs.Spelled.{Says}
 
 -- s is what the patch's text has at P, as it is written there
 abbrev pub IsWrittenIn : List ℕ → Pointer → List ℕ → Type 0

@@ -8,7 +8,7 @@ use Rattle.json_merge_text.specs.Merging.{IsWrittenIn, MergesObject}
 use Rattle.json_merge_text.specs.declared.fault.MergeTextFault.{MergeTextFault}
 use Rattle.json_merge_text.specs.declared.fault.MergeTextFault.TheVariants as merge
 use Rattle.json_text.specs.Pointed.{tree_at}
-use Rattle.json_text.specs.Spelled.{IsShallowText}
+use Rattle.json_lexemes.specs.Spelled.{IsShallowText}
 use Rattle.json_text.specs.declared.fault.ChangeFault.{ChangeFault}
 use Rattle.json_text.specs.declared.fault.ChangeFault.TheVariants as change
 use Rattle.json_text.specs.declared.fault.TextFault.{TextFault}

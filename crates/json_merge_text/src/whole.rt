@@ -7,8 +7,8 @@ ghost use Rattle.json.specs.declared.error.Error.TheVariants as Error;
 ghost use Rattle.json_merge_text.specs.Merged.{IsMergeTextFault, IsMergedAlready, IsMergedText, SaysMerged};
 ghost use Rattle.json_merge_text.specs.Merging.{IsChanged, MergesInto};
 ghost use Rattle.json_merge_text.specs.Steps.{as_document, as_patch};
-ghost use Rattle.json_text.specs.Faults.{nesting};
-ghost use Rattle.json_text.specs.Spelled.{IsShallowText};
+ghost use Rattle.json_lexemes.specs.Skipped.{nesting};
+ghost use Rattle.json_lexemes.specs.Spelled.{IsShallowText};
 
 use crate::fault::MergeTextFault;
 use crate::merging::merge_into;

@@ -10,13 +10,13 @@ use Rattle.json_patch_document.specs.ChangeComputed.{front_of, last_of, slot_in}
 use Rattle.json_patch_text.specs.Changed.{count, insert_item, append_member, add_child, remove_child, remove_item, without, take_child, changed, added, removed, replaced}
 use Rattle.json_text.specs.Changed as text
 use Rattle.json_text.specs.Added.{HasNoPlace}
-use Rattle.json_text.specs.Faults.{nesting}
+use Rattle.json_lexemes.specs.Skipped.{nesting}
 use Rattle.json_text.specs.Pointed.{child, if_some, put_at, put_member, tree_at}
 use Rattle.json_text.specs.Removed.{AreCutOut, HasNothingToRemove, IsRemoved}
 use Rattle.json_text.specs.Replaced.{LeadsNowhere}
-use Rattle.json_text.specs.Spelled.{Says}
+use Rattle.json_lexemes.specs.Spelled.{Says}
 use Rattle.json_text.proofs.Deeper.{removed_nests}
-use Rattle.json_text.proofs.Nests.{nests, one_tree}
+use Rattle.json_lexemes.proofs.Nests.{nests, one_tree}
 
 -- ---- add
 

@@ -23,9 +23,9 @@ use Rattle.json_patch_text.specs.declared.fault.PatchTextFault.TheVariants.{Docu
 use Rattle.json_patch_text.specs.declared.fault.StepFault.{StepFault}
 use Rattle.json_patch_text.specs.declared.operation.TextOperation.{TextOperation}
 use Rattle.json_patch_text.proofs.Reached.{IsAt, accepted_first, reached_more, reported_fault, written_at}
-use Rattle.json_text.specs.Faults.{nesting}
-use Rattle.json_text.specs.Spelled.{IsShallowText, Says}
-use Rattle.json_text.proofs.Nests.{nests}
+use Rattle.json_lexemes.specs.Skipped.{nesting}
+use Rattle.json_lexemes.specs.Spelled.{IsShallowText, Says}
+use Rattle.json_lexemes.proofs.Nests.{nests}
 
 -- ---- within the limits
 

@@ -24,11 +24,11 @@ use Rattle.json_patch_text.proofs.Runs.{not_refused}
 use Rattle.json_reading.specs.Reading.{Reading}
 use Rattle.json_reading.specs.Trees.{data_of}
 use Rattle.json_text.specs.Added.{IsAdded}
-use Rattle.json_text.specs.Faults.{nesting}
+use Rattle.json_lexemes.specs.Skipped.{nesting}
 use Rattle.json_text.specs.Pointed.{IsWrittenAt, put_at, tree_at}
 use Rattle.json_text.specs.Removed.{IsRemoved}
-use Rattle.json_text.specs.Spelled.{Says}
-use Rattle.json_text.proofs.Nests.{nests, one_tree}
+use Rattle.json_lexemes.specs.Spelled.{Says}
+use Rattle.json_lexemes.proofs.Nests.{nests, one_tree}
 
 -- ---- one tree
 

@@ -21,8 +21,8 @@ use Rattle.json_text.specs.Added.{HasNoPlace, IsAdded}
 use Rattle.json_text.specs.Pointed.{tree_at, put_at, IsWrittenAt}
 use Rattle.json_text.specs.Removed.{HasNothingToRemove, IsRemoved}
 use Rattle.json_text.specs.Replaced.{IsReplaced, LeadsNowhere}
-use Rattle.json_text.specs.Spelled.{IsShallowText, Says}
-use Rattle.json_text.proofs.Nests.{one_tree, read_is}
+use Rattle.json_lexemes.specs.Spelled.{IsShallowText, Says}
+use Rattle.json_lexemes.proofs.Nests.{one_tree, read_is}
 use Rattle.json_text.proofs.Readable.{part_shallow}
 
 -- ---- add

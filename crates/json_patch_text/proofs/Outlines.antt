@@ -38,7 +38,7 @@ use Rattle.json_reading.proofs.Documents.{IsDocument-data_of, at_name}
 use Rattle.json_text.specs.Listing.{Texts, AreTextsOfMembers}
 use Rattle.json_text.specs.Pointed.{IsTight}
 use Rattle.json.specs.Json.{Json, null, boolean, number, string, array, object, document}
-use Rattle.json_text.specs.Spelled.{IsShallowText, Says}
+use Rattle.json_lexemes.specs.Spelled.{IsShallowText, Says}
 
 pub string_said : (text said : List ℕ) (j : Json) (r : Result (String Global) AllocError) → ((text : List ℕ) (j : Json) → (document text ≡ Some j) ↔ IsShallowText text j) → document text ≡ Some j → Some said ≡ as_str j → IfOk r (λ s. string_bytes s ≡ said)
     → IfOk r (λ s. IsShallowText text (string (string_bytes s)))

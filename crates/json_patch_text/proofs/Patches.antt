@@ -20,7 +20,7 @@ use Rattle.json_reading.specs.Reading.{Reading}
 use Rattle.json_reading.specs.Trees.{data_of, items_of}
 use Rattle.json_reading.proofs.Documents.{IsDocument-data_of, at_name}
 use Rattle.json_reading.proofs.Told.{some_reading}
-use Rattle.json_text.proofs.Nests.{one_tree}
+use Rattle.json_lexemes.proofs.Nests.{one_tree}
 
 -- ---- from the tree to its document
 

@@ -19,7 +19,7 @@ use Rattle.json_patch_text.specs.declared.operation.TextOperation.{TextOperation
 use Rattle.json_patch_text.specs.declared.operation.TextOperation.TheVariants.{Add, Remove, Replace, Move, Copy, Test}
 use Rattle.json_patch_text.proofs.Runs.{accepts_next, refuses_here, refuses_next}
 use Rattle.json_reading.specs.Trees.{data_of}
-use Rattle.json_text.specs.Spelled.{IsShallowText, Says}
+use Rattle.json_lexemes.specs.Spelled.{IsShallowText, Says}
 
 -- o is the operation at k
 abbrev pub IsAt : List TextOperation → ℕ → TextOperation → Type 0

@@ -16,7 +16,7 @@ use Rattle.json_patch_text.proofs.Patches.{operation_read}
 use Rattle.json_reading.specs.Reading.{Reading}
 use Rattle.json_reading.specs.Trees.{data_of, items_of}
 use Rattle.json_text.specs.Listing.{Texts, AreTextsOfItems}
-use Rattle.json_text.specs.Spelled.{IsShallowText}
+use Rattle.json_lexemes.specs.Spelled.{IsShallowText}
 
 pub begins : (js : Items) (es : List Texts) → AreTextsOfItems es js → items_depth js ≤ json.max_depth → IsRead js es [] 0
 begins js es h low = record { rest = js; texts = h; shallow = low; done = []; written = tt; reads = λ more r. r; refuses = λ r k kind f. let e : k ≡ 0 + k = omega arith in subst (λ m. RefusesItem (items_of r js) m kind) e f }

@@ -14,7 +14,7 @@ use Rattle.json_patch_text.proofs.Made.{add_comes, add_stops, remove_comes, remo
 use Rattle.json_text.specs.Added.{HasNoPlace, IsAdded}
 use Rattle.json_text.specs.Removed.{HasNothingToRemove, IsRemoved}
 use Rattle.json_text.specs.Replaced.{IsReplaced, LeadsNowhere}
-use Rattle.json_text.specs.Spelled.{Says}
+use Rattle.json_lexemes.specs.Spelled.{Says}
 
 pub stepped_err : (i : Json) (op : TreeOperation) (r : Result (Option NewText) StepFault) (g : StepFault) → IsErrAnd r (λ f. f ≡ g) → IsStopped i op g → IsStepped i op r
 stepped_err i op (Ok x) g e h = absurd e

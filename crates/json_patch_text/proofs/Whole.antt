@@ -5,8 +5,8 @@ use Rattle.json.specs.Json.{Json, array, object, no_items, no_members}
 use Rattle.json.specs.Lex.{Class, quote, backslash, operator, space, other, class, between, lex, lex_byte}
 use Rattle.json.specs.Word.{is_operator, is_space}
 use Rattle.json_text.specs.Pointed.{IsTight, IsWrittenAt}
-use Rattle.json_text.specs.Spelled.{Says}
-use Rattle.json_text.proofs.FirstBytes.{kind, byte_by_kind}
+use Rattle.json_lexemes.specs.Spelled.{Says}
+use Rattle.json_lexemes.proofs.FirstBytes.{kind, byte_by_kind}
 
 -- ---- blanks
 

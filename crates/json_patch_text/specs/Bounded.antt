@@ -13,7 +13,7 @@ use Rattle.json_patch_text.specs.declared.fault.PatchTextFault.TheVariants.{Docu
 use Rattle.json_patch_text.specs.declared.fault.TextLimitFault.{TextLimitFault}
 use Rattle.json_patch_text.specs.declared.fault.TextLimitFault.TheVariants as within
 use Rattle.json_patch_text.specs.declared.operation.TextOperation.{TextOperation}
-use Rattle.json_text.specs.Faults.{nesting}
+use Rattle.json_lexemes.specs.Skipped.{nesting}
 
 -- how deep a text nests at the most on which an operation works
 abbrev pub levels_of : Option Bounds → ℕ

@@ -12,11 +12,11 @@ use Rattle.json_patch_text.specs.declared.operation.TextOperation.{TextOperation
 use Rattle.json_patch_text.specs.declared.operation.TextOperation.TheVariants.{Add, Remove, Replace, Move, Copy, Test}
 use Rattle.json_patch_text.specs.declared.step.NewText.{NewText}
 use Rattle.json_text.specs.Added.{IsAdded}
-use Rattle.json_text.specs.Faults.{nesting}
+use Rattle.json_lexemes.specs.Skipped.{nesting}
 use Rattle.json_text.specs.Pointed.{IsWrittenAt}
 use Rattle.json_text.specs.Removed.{IsRemoved}
 use Rattle.json_text.specs.Replaced.{IsReplaced}
-use Rattle.json_text.specs.Spelled.{Says}
+use Rattle.json_lexemes.specs.Spelled.{Says}
 use Rattle.json_text.specs.declared.fault.TextFault.{TextFault}
 use Rattle.json_text.specs.declared.fault.TextFault.TheVariants.{NotJson, TooDeep, Memory}
 

@@ -9,7 +9,7 @@ use Rattle.json_patch_operation.specs.PatchValue.{RefusesPatch}
 use Rattle.json_patch_operation.specs.declared.read_error.ReadKind.{ReadKind}
 use Rattle.json_reading.specs.Reading.{Reading}
 use Rattle.json_reading.specs.Trees.{data_of}
-use Rattle.json_text.specs.Spelled.{Says}
+use Rattle.json_lexemes.specs.Spelled.{Says}
 
 pub data TreeOperation : Type 0 where
   add : Pointer → Json → TreeOperation

@@ -6,7 +6,7 @@ use Rattle.json_patch_text.specs.Operations.{TreeOperation}
 use Rattle.json_patch_text.specs.Step.{ComesTo}
 use Rattle.json_patch_text.specs.TextOperations.{AreWrittenAs}
 use Rattle.json_patch_text.specs.declared.operation.TextOperation.{TextOperation}
-use Rattle.json_text.specs.Spelled.{Says}
+use Rattle.json_lexemes.specs.Spelled.{Says}
 
 -- the operations come to j, one after another
 abbrev pub Reaches : Json → List TreeOperation → Json → Type 0

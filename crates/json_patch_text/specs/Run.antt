@@ -6,7 +6,7 @@ use Rattle.json_patch_operation.specs.declared.error.PatchErrorKind.{PatchErrorK
 use Rattle.json_patch_text.specs.Operations.{TreeOperation, all_under}
 use Rattle.json_reading.specs.Reading.{Reading}
 use Rattle.json_reading.specs.Trees.{data_of}
-use Rattle.json_text.specs.Spelled.{Says}
+use Rattle.json_lexemes.specs.Spelled.{Says}
 
 -- under each reading the operations are accepted on the document of i, and lead to the document of j
 abbrev pub AcceptsTree : Json → List TreeOperation → Json → Type 0

@@ -3,7 +3,7 @@ use Rattle.std.specs.Prelude.{◌≡◌, List, [], ◌∷◌, ⊤, ℕ}
 use Rattle.json.specs.Json.{Json}
 use Rattle.jsonptr.specs.Text.{Pointer}
 use Rattle.json_text.specs.Pointed.{IsTight}
-use Rattle.json_text.specs.Spelled.{IsShallowText}
+use Rattle.json_lexemes.specs.Spelled.{IsShallowText}
 use Rattle.json_patch_operation.specs.Operation as document
 use Rattle.json_patch_operation.specs.Operation.{Operation}
 use Rattle.json_patch_text.specs.Operations.{TreeOperation, add, remove, replace, move, copy, test}

@@ -15,8 +15,8 @@ use Rattle.json_patch_text.specs.declared.fault.PatchTextFault.TheVariants.{Docu
 use Rattle.json_patch_text.specs.declared.fault.TextLimitFault.{TextLimitFault}
 use Rattle.json_patch_text.specs.declared.fault.TextLimitFault.TheVariants as within
 use Rattle.json_patch_text.specs.declared.operation.TextOperation.{TextOperation}
-use Rattle.json_text.specs.Faults.{nesting}
-use Rattle.json_text.specs.Spelled.{Says}
+use Rattle.json_lexemes.specs.Skipped.{nesting}
+use Rattle.json_lexemes.specs.Spelled.{Says}
 use Rattle.json_text.specs.declared.fault.TextFault.{TextFault}
 use Rattle.json_text.specs.declared.fault.TextFault.TheVariants as fault
 

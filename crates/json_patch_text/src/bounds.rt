@@ -4,7 +4,7 @@ ghost use Rattle.std.specs.Prelude.{◌≡◌, ◌≤◌, false, MatchOption};
 ghost use Rattle.std.specs.String.{string_bytes};
 ghost use Rattle.json_patch_text.specs.Bounded.{IsUnder, OverBy, levels_of, most_of};
 ghost use Rattle.json_patch_text.specs.Within.{IsTextOver, IsTextWithin};
-ghost use Rattle.json_text.specs.Faults.{nesting};
+ghost use Rattle.json_lexemes.specs.Skipped.{nesting};
 
 use crate::step::NewText;
 use json::MAX_DEPTH;

@@ -10,7 +10,7 @@ ghost use Rattle.json_patch_text.specs.Outline.{IsOutlined, at_number, outline};
 ghost use Rattle.json_patch_text.specs.TextOperations.{AreWrittenAs, IsTexted, IsWrittenAs};
 ghost use Rattle.json_reading.specs.Reading.{Reading};
 ghost use Rattle.json_reading.specs.Trees.{data_of};
-ghost use Rattle.json_text.specs.Spelled.{IsShallowText};
+ghost use Rattle.json_lexemes.specs.Spelled.{IsShallowText};
 
 use crate::operation::TextOperation;
 use json::Scratch;

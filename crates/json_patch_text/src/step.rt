@@ -13,10 +13,10 @@ ghost use Rattle.json_patch_text.specs.TextOperations.{IsWrittenAs};
 ghost use Rattle.json_reading.specs.Same.{SameTree};
 ghost use Rattle.json_text.specs.Added.{HasNoPlace, IsAdded};
 ghost use Rattle.json_text.specs.Checked.{text_in};
-ghost use Rattle.json_text.specs.Faults.{nesting};
+ghost use Rattle.json_lexemes.specs.Skipped.{nesting};
 ghost use Rattle.json_text.specs.Removed.{HasNothingToRemove, IsRemoved};
 ghost use Rattle.json_text.specs.Replaced.{IsReplaced, LeadsNowhere};
-ghost use Rattle.json_text.specs.Spelled.{IsShallowText, Says};
+ghost use Rattle.json_lexemes.specs.Spelled.{IsShallowText, Says};
 
 use crate::fault::StepFault;
 use crate::operation::TextOperation;

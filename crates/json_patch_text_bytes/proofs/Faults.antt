@@ -2,7 +2,7 @@
 use Rattle.std.proofs.Common.{◌≡◌, ◌≤◌, inl, inr, ℕ, List, arith, refl, subst, sym}
 use Rattle.std.specs.Prelude.{IsUtf8, max}
 use Rattle.std.proofs.Math.Nat.{max-le}
-use Rattle.json_text.specs.Faults.{nesting}
+use Rattle.json_lexemes.specs.Skipped.{nesting}
 use Rattle.json_text.specs.declared.fault.TextFault.TheVariants as text
 use Rattle.json_merge_text.specs.Merged.{IsMergedAlready, IsMergedText, IsMergeTextFault, SaysMerged}
 use Rattle.json_merge_text.specs.declared.fault.MergeTextFault.{MergeTextFault}

@@ -2,9 +2,9 @@
 use Rattle.std.specs.Prelude.{◌≡◌, ◌≤◌, ◌<◌, ◌⊎◌, ℕ, List, Option, None, IsUtf8, unwrap_or}
 use Rattle.json.specs.Json.{Json}
 use Rattle.jsonptr.specs.Text.{Pointer}
-use Rattle.json_text.specs.Faults.{nesting}
+use Rattle.json_lexemes.specs.Skipped.{nesting}
 use Rattle.json_text.specs.Pointed.{IsWrittenAt, tree_at}
-use Rattle.json_text.specs.Spelled.{Says}
+use Rattle.json_lexemes.specs.Spelled.{Says}
 use Rattle.json_merge_text.specs.Merged.{IsMergedAlready, IsMergedText, SaysMerged}
 use Rattle.json_patch.specs.Limits.{Limits}
 use Rattle.json_patch.specs.PatchError.{PatchError}

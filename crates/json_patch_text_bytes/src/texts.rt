@@ -1,7 +1,7 @@
 //! The JSON text that bytes are.
 
 ghost use Rattle.std.specs.Prelude.{◌≡◌, ◌≤◌, IfErr, IfOk, IsUtf8};
-ghost use Rattle.json_text.specs.Faults.{nesting};
+ghost use Rattle.json_lexemes.specs.Skipped.{nesting};
 ghost use Rattle.json_patch_bytes.specs.Failures.{IsFailure};
 ghost use Rattle.json_patch_text_bytes.specs.Reasons.{of_text};
 ghost use Rattle.json_patch_text_bytes.specs.Texts.{IsJsonText, IsNoFlatText};

@@ -4,10 +4,10 @@ use Rattle.std.proofs.lemmas.Bool.{cases_lt}
 use Rattle.std.specs.Str.{IsUtf8, IsCharBoundary}
 use Rattle.json.specs.Json.{Json}
 use Rattle.jsonptr.specs.Text.{Pointer}
-use Rattle.json_text.specs.Found.{IsWithin}
+use Rattle.json_lexemes.specs.Found.{IsWithin}
 use Rattle.json_text.specs.Pointed.{child, if_some, tree_at, put_child, put_at, IsStretch, IsTight}
-use Rattle.json_text.specs.Spelled.{Says}
-use Rattle.json_text.specs.declared.span.Span.{Span}
+use Rattle.json_lexemes.specs.Spelled.{Says}
+use Rattle.json_lexemes.specs.declared.span.Span.{Span}
 use Rattle.json_text.specs.Rows.{slice}
 use Rattle.json_text.proofs.Stretches.{two_parts}
 

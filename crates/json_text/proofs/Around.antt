@@ -7,10 +7,10 @@ use Rattle.json.specs.Json.{Json, array, object, Items, no_items, item, Members,
 use Rattle.json.specs.Find.{get_member, get_item, later_or}
 use Rattle.json.specs.Token as t
 use Rattle.json.specs.Lex.{Lexeme, token, comma, colon}
-use Rattle.json_text.specs.Found.{Placed, or_else, named, numbered}
+use Rattle.json_lexemes.specs.Found.{Placed, or_else, named, numbered}
 use Rattle.json_text.specs.Pointed.{if_some, put_item, put_member}
-use Rattle.json_text.specs.Spelled.{spelled, first_items, more_items, first_members, more_members}
-use Rattle.json_text.proofs.Steps.{follows}
+use Rattle.json_lexemes.specs.Spelled.{spelled, first_items, more_items, first_members, more_members}
+use Rattle.json_lexemes.proofs.Steps.{follows}
 
 pub record Around (v : Json) (behind whole : List Lexeme) (put : Json → List Lexeme) : Type 0 where
   pub before : List Lexeme

@@ -5,13 +5,13 @@ use Rattle.json.specs.Tree.{depth}
 use Rattle.jsonptr.specs.Text.{Pointer}
 use Rattle.json_text.specs.Added.{IsAdded}
 use Rattle.json_text.specs.Changed.{remove_at}
-use Rattle.json_text.specs.Faults.{nesting}
+use Rattle.json_lexemes.specs.Skipped.{nesting}
 use Rattle.json_text.specs.Pointed.{IsWrittenAt, put_at}
 use Rattle.json_text.specs.Removed.{IsRemoved}
 use Rattle.json_text.specs.Replaced.{IsReplaced}
-use Rattle.json_text.specs.Spelled.{Says}
+use Rattle.json_lexemes.specs.Spelled.{Says}
 use Rattle.json_text.proofs.Depths.{add_nests, part_inside, put_nests, remove_nests}
-use Rattle.json_text.proofs.Nests.{nests}
+use Rattle.json_lexemes.proofs.Nests.{nests}
 
 pub written_inside : (text s : List ℕ) (j : Json) (P : Pointer) → Says text j → IsWrittenAt text j P s → length P + nesting s ≤ nesting text
 written_inside text s j P said (before, behind, whole, (v, at, stretch)) =

@@ -7,9 +7,9 @@ use Rattle.jsonptr.specs.Text.{Pointer}
 use Rattle.json_text.specs.Changed.{remove_at}
 use Rattle.json_text.specs.Pointed.{StandsBetween, tree_at}
 use Rattle.json_text.specs.Removed.{IsRemoved}
-use Rattle.json_text.specs.Spelled.{IsShallowText}
+use Rattle.json_lexemes.specs.Spelled.{IsShallowText}
 use Rattle.json_text.proofs.Depths.{part_inside, remove_nests}
-use Rattle.json_text.proofs.Nests.{read_is}
+use Rattle.json_lexemes.proofs.Nests.{read_is}
 
 pub readable : (text : List ℕ) → (j : Json) × IsShallowText text j → IsSome (document text)
 readable text (j, s) = subst IsSome (sym ((read_is text j).1 s)) refl

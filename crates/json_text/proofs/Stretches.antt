@@ -8,18 +8,18 @@ use Rattle.json.specs.Word.{is_space, ends_word}
 use Rattle.json.specs.Lex.{Lexeme, Mode, between, in_word, in_string, in_escape, lex}
 use Rattle.json.proofs.Printed.Numbers.{in_word-ended}
 use Rattle.jsonptr.specs.Text.{Pointer}
-use Rattle.json_text.specs.Lexing.{after, Fits, Outside}
-use Rattle.json_text.specs.Found.{IsCut, IsWithin}
-use Rattle.json_text.specs.Places.{mode_at, left_at, HasEnd, IsEnd, IsOpen}
+use Rattle.json_lexemes.specs.Lexing.{after, Fits, Outside}
+use Rattle.json_lexemes.specs.Found.{IsCut, IsWithin}
+use Rattle.json_lexemes.specs.Places.{mode_at, left_at, HasEnd, IsEnd, IsOpen}
 use Rattle.json_text.specs.Pointed.{IsStretch, IsTight, IsWrittenAt, StandsBetween}
 use Rattle.json_text.specs.Rows.{slice}
-use Rattle.json_text.specs.Spelled.{spelled, Says}
-use Rattle.json_text.specs.declared.span.Span.{Span}
+use Rattle.json_lexemes.specs.Spelled.{spelled, Says}
+use Rattle.json_lexemes.specs.declared.span.Span.{Span}
 use Rattle.json_text.proofs.Around.{Around}
-use Rattle.json_text.proofs.Closed.{closed-Says}
-use Rattle.json_text.proofs.Counted.{some_lexeme}
-use Rattle.json_text.proofs.Lexing.{lex-append}
-use Rattle.json_text.proofs.Steps.{after-append, follows, ends-follows}
+use Rattle.json_lexemes.proofs.Closed.{closed-Says}
+use Rattle.json_lexemes.proofs.Counted.{some_lexeme}
+use Rattle.json_lexemes.proofs.Lexing.{lex-append}
+use Rattle.json_lexemes.proofs.Steps.{after-append, follows, ends-follows}
 
 -- ---- two texts, one after the other
 

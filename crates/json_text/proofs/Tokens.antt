@@ -9,15 +9,15 @@ use Rattle.json.specs.Lex.{Lexeme, between, operator_lexeme}
 use Rattle.jsonptr.specs.Indexes.{IsNoIndexText}
 use Rattle.jsonptr.specs.PlaceLaws.{next_is_no_place}
 use Rattle.jsonptr.specs.Places.{place_of, next_token}
-use Rattle.json_text.specs.Found.{IsCut, IsWithin, Placed, Stands, named, numbered}
-use Rattle.json_text.specs.Places.{mode_at, left_at}
+use Rattle.json_lexemes.specs.Found.{IsCut, IsWithin, Placed, Stands, named, numbered}
+use Rattle.json_lexemes.specs.Places.{mode_at, left_at}
 use Rattle.json_text.specs.Pointed.{child, if_some, put_child, put_item, put_member, IsStretch}
-use Rattle.json_text.specs.Spelled.{spelled, first_items, first_members, Says}
-use Rattle.json_text.specs.declared.span.Span.{Span}
+use Rattle.json_lexemes.specs.Spelled.{spelled, first_items, first_members, Says}
+use Rattle.json_lexemes.specs.declared.span.Span.{Span}
 use Rattle.json_text.proofs.Around.{Around, alone, item_around, item_follows, member_around, member_follows, named_is, numbered_is}
-use Rattle.json_text.proofs.Counted.{item_within}
-use Rattle.json_text.proofs.FirstBytes.{kind, byte_by_kind}
-use Rattle.json_text.proofs.Steps.{follows, operator_left, operator_end}
+use Rattle.json_lexemes.proofs.Counted.{item_within}
+use Rattle.json_lexemes.proofs.FirstBytes.{kind, byte_by_kind}
+use Rattle.json_lexemes.proofs.Steps.{follows, operator_left, operator_end}
 use Rattle.json_text.specs.Rows.{slice}
 use Rattle.json_text.proofs.Stretches.{stretch}
 

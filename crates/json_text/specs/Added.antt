@@ -10,7 +10,7 @@ use Rattle.json_text.specs.Faults.{IsTextFault}
 use Rattle.json_text.specs.Pointed.{IsTight, IsWrittenAt, ParentStands}
 use Rattle.json_text.specs.Removed.{IsTightEnd, IsTightFront}
 use Rattle.json_text.specs.Replaced.{IsReplaced}
-use Rattle.json_text.specs.Spelled.{IsShallowText, Says}
+use Rattle.json_lexemes.specs.Spelled.{IsShallowText, Says}
 use Rattle.json_text.specs.declared.fault.ChangeFault.{ChangeFault}
 use Rattle.json_text.specs.declared.fault.ChangeFault.TheVariants.{Text, Value, NoTarget, Memory}
 

@@ -5,7 +5,7 @@ use Rattle.jsonptr.specs.Places.{place_of}
 use Rattle.json_text.specs.Changed.{remove_child, without}
 use Rattle.json_text.specs.Removed.{AreCutOut, IsCutOut}
 use Rattle.json_text.specs.Rows.{Child, IsInside, last_named, tree_in}
-use Rattle.json_text.specs.Spelled.{Says}
+use Rattle.json_lexemes.specs.Spelled.{Says}
 use Rattle.json_text.specs.declared.parts.Row.{Row}
 
 -- t names the child of this number, if there is one

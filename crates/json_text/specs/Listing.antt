@@ -2,12 +2,12 @@
 use Rattle.std.specs.Prelude.{◌≡◌, ◌++◌, ℕ, List, [], ◌∷◌, Bool, true, false, ⊤}
 use Rattle.std.specs.Borrow.{Bor}
 use Rattle.json.specs.Json.{Json, null, boolean, number, string, array, object, Items, no_items, item, Members, no_members, member}
-use Rattle.json_text.specs.Places.{left_at}
+use Rattle.json_lexemes.specs.Places.{left_at}
 use Rattle.json_text.specs.Pointed.{IsTight}
 use Rattle.json_text.specs.Rows.{Child, inside, others}
-use Rattle.json_text.specs.declared.span.Span.{Span}
+use Rattle.json_lexemes.specs.declared.span.Span.{Span}
 use Rattle.json.specs.Lex.{colon}
-use Rattle.json_text.specs.Spelled.{Says, spelled}
+use Rattle.json_lexemes.specs.Spelled.{Says, spelled}
 use Rattle.json_text.specs.declared.listing.Shape.{Shape}
 use Rattle.json_text.specs.declared.listing.Shape.TheVariants.{Object, List as ListShape, String, Atom}
 

@@ -6,7 +6,7 @@ use Rattle.json.specs.Find.{get_member, get_item}
 use Rattle.json.specs.Word.{is_space}
 use Rattle.jsonptr.specs.Places.{place_of}
 use Rattle.jsonptr.specs.Text.{Pointer}
-use Rattle.json_text.specs.Spelled.{Says}
+use Rattle.json_lexemes.specs.Spelled.{Says}
 
 -- ---- in the tree
 

@@ -9,7 +9,7 @@ use Rattle.json_text.specs.Changed.{remove_at}
 use Rattle.json_text.specs.Faults.{IsTextFault}
 use Rattle.json_text.specs.Pointed.{ParentStands, StandsBetween}
 use Rattle.json_text.specs.Replaced.{LeadsNowhere}
-use Rattle.json_text.specs.Spelled.{IsShallowText, Says}
+use Rattle.json_lexemes.specs.Spelled.{IsShallowText, Says}
 use Rattle.json_text.specs.declared.fault.ChangeFault.{ChangeFault}
 use Rattle.json_text.specs.declared.fault.ChangeFault.TheVariants.{Text, Value, NoTarget, Memory}
 

@@ -4,7 +4,7 @@ use Rattle.json.specs.Json.{Json}
 use Rattle.jsonptr.specs.Text.{Pointer}
 use Rattle.json_text.specs.Faults.{IsTextFault}
 use Rattle.json_text.specs.Pointed.{tree_at, put_at, IsWrittenAt, StandsBetween}
-use Rattle.json_text.specs.Spelled.{IsShallowText, Says}
+use Rattle.json_lexemes.specs.Spelled.{IsShallowText, Says}
 use Rattle.json_text.specs.declared.fault.ChangeFault.{ChangeFault}
 use Rattle.json_text.specs.declared.fault.ChangeFault.TheVariants.{Text, Value, NoTarget, Memory}
 

@@ -7,12 +7,12 @@ use Rattle.json.specs.Text.{content, plain}
 use Rattle.json.specs.Print.{quoted}
 use Rattle.json.specs.Lex.{Lexeme, token, comma, colon, between}
 use Rattle.json.specs.Word.{is_space}
-use Rattle.json_text.specs.Spelled.{spelled, Says}
-use Rattle.json_text.specs.Places.{mode_at, left_at, HasEnd, IsEnd}
-use Rattle.json_text.specs.Found.{IsCut, IsWithin, or_else}
+use Rattle.json_lexemes.specs.Spelled.{spelled, Says}
+use Rattle.json_lexemes.specs.Places.{mode_at, left_at, HasEnd, IsEnd}
+use Rattle.json_lexemes.specs.Found.{IsCut, IsWithin, or_else}
 use Rattle.json_text.specs.declared.parts.Numbered.{Numbered}
 use Rattle.json_text.specs.declared.parts.Part.{Part}
-use Rattle.json_text.specs.declared.span.Span.{Span}
+use Rattle.json_lexemes.specs.declared.span.Span.{Span}
 
 -- a member's name, empty for an item, and its value
 abbrev pub Child : Type 0

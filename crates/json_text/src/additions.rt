@@ -5,18 +5,18 @@ ghost use Rattle.std.specs.String.{string_bytes};
 ghost use Rattle.json.specs.Json.{Json};
 ghost use Rattle.jsonptr.specs.Pointers.{tokens_of};
 ghost use Rattle.json_text.specs.Added.{IsAdded, IsAddFault};
-ghost use Rattle.json_text.specs.Found.{IsWithin};
+ghost use Rattle.json_lexemes.specs.Found.{IsWithin};
 ghost use Rattle.json_text.specs.Less.{IsObject};
 ghost use Rattle.json_text.specs.Pointed.{tree_at, StandsBetween};
-ghost use Rattle.json_text.specs.Spelled.{Says};
+ghost use Rattle.json_lexemes.specs.Spelled.{Says};
 
 use crate::changes::exchanged;
 use crate::children::whole;
 use crate::growing::with_child;
 use crate::parts::is_object;
 use crate::reading::find;
-use crate::span::Span;
 use crate::{ChangeFault, CheckedText};
+use json_lexemes::Span;
 use jsonptr::Pointer;
 use std::alloc::{AllocError, Global};
 

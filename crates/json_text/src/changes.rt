@@ -3,15 +3,15 @@
 ghost use Rattle.std.specs.Prelude.{◌≡◌, ◌++◌, IfOk, IfErr, drop, take};
 ghost use Rattle.std.specs.String.{string_bytes};
 ghost use Rattle.jsonptr.specs.Pointers.{tokens_of};
-ghost use Rattle.json_text.specs.Found.{IsWithin};
+ghost use Rattle.json_lexemes.specs.Found.{IsWithin};
 ghost use Rattle.json_text.specs.Removed.{IsRemoved, IsRemoveFault};
 ghost use Rattle.json_text.specs.Replaced.{IsReplaced, IsReplaceFault};
 
 use crate::children::whole;
 use crate::cutting::without;
 use crate::reading::find;
-use crate::span::Span;
 use crate::{ChangeFault, CheckedText};
+use json_lexemes::Span;
 use jsonptr::Pointer;
 use std::alloc::{AllocError, Global};
 

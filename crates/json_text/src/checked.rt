@@ -24,7 +24,7 @@ impl<'a> CheckedText<'a> {
     ghost use Rattle.json_text.specs.Checked.{text_in};
     ghost use Rattle.json_text.specs.Faults.{IsTextFault};
     ghost use Rattle.json_text.specs.Pointed.{tree_at, IsWrittenAt};
-    ghost use Rattle.json_text.specs.Spelled.{IsShallowText};
+    ghost use Rattle.json_lexemes.specs.Spelled.{IsShallowText};
 
     /// The text, once it is checked.
     ///

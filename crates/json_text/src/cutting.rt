@@ -4,16 +4,15 @@ ghost use Rattle.std.specs.Prelude.{◌≡◌, ◌<◌, ◌≤◌, ◌+◌, ◌+
 ghost use Rattle.std.specs.String.{string_bytes};
 ghost use Rattle.std.specs.Str.{IsUtf8, IsCharBoundary};
 ghost use Rattle.json.specs.Json.{Json};
-ghost use Rattle.json_text.specs.Found.{IsWithin};
+ghost use Rattle.json_lexemes.specs.Found.{IsWithin};
 ghost use Rattle.json_text.specs.Less.{IsLessText, IsWithout};
 ghost use Rattle.json_text.specs.Pointed.{child};
 ghost use Rattle.json_text.specs.Rows.{AreEdges, AreInOrder, CutNone};
-ghost use Rattle.json_text.specs.Spelled.{Says};
+ghost use Rattle.json_lexemes.specs.Spelled.{Says};
 
 use crate::changes::exchanged;
-use crate::lexemes::blank_end;
 use crate::parts::{Numbered, is_object, number_of, part_at, row_in};
-use crate::span::Span;
+use json_lexemes::{Span, blank_end};
 use std::alloc::{AllocError, Global};
 
 /// What goes with a member or an item, so that no comma is left: up to the next one; from the one

@@ -9,13 +9,13 @@ ghost use Rattle.json_text.specs.Added.{IsPutInto};
 ghost use Rattle.json_text.specs.Changed.{add_child};
 ghost use Rattle.json_text.specs.Less.{IsObject};
 ghost use Rattle.json_text.specs.Pointed.{child};
-ghost use Rattle.json_text.specs.Spelled.{Says};
+ghost use Rattle.json_lexemes.specs.Spelled.{Says};
 ghost use Rattle.json_text.specs.Rows.{AreInOrder, CutNone, Child, HasRow, IsChild, IsComma, IsGap, IsInside};
 ghost use Rattle.json_text.specs.Rows.{IsMember, IsMemberAhead, IsNumbered, IsTrail};
 
-use crate::lexemes::{blank_end, string_end};
 use crate::parts::{Numbered, last_part, part_at, row_in};
 use json::Writer;
+use json_lexemes::{blank_end, string_end};
 use jsonptr::index::Index;
 use std::alloc::{AllocError, Global};
 

@@ -5,11 +5,11 @@ ghost use Rattle.json.specs.Json.{Json, document};
 ghost use Rattle.json.specs.Tree.{depth};
 ghost use Rattle.jsonptr.specs.Text.{Pointer};
 ghost use Rattle.json_text.specs.Added.{IsAdded};
-ghost use Rattle.json_text.specs.Faults.{nesting};
+ghost use Rattle.json_lexemes.specs.Skipped.{nesting};
 ghost use Rattle.json_text.specs.Pointed.{IsWrittenAt};
 ghost use Rattle.json_text.specs.Removed.{IsRemoved};
 ghost use Rattle.json_text.specs.Replaced.{IsReplaced};
-ghost use Rattle.json_text.specs.Spelled.{IsShallowText, Says};
+ghost use Rattle.json_lexemes.specs.Spelled.{IsShallowText, Says};
 
 /// A text says one tree at most; its brackets nest as deep as the tree; and the toolchain's reader of
 /// JSON accepts it exactly where it says a tree of at most 128 levels, and reads that tree.

@@ -25,12 +25,9 @@ mod cutting;
 mod fault;
 mod growing;
 pub mod laws;
-mod lexemes;
 mod listing;
-mod names;
 mod parts;
 mod reading;
-mod span;
 #[cfg(test)]
 mod tests;
 

@@ -4,16 +4,14 @@ ghost use Rattle.std.specs.Prelude.{◌≡◌, ◌≤◌, true, length, IfOk, If
 ghost use Rattle.std.specs.Str.{IsUtf8, IsCharBoundary};
 ghost use Rattle.json.specs.Json.{Json};
 ghost use Rattle.json.specs.Lex.{between, colon};
-ghost use Rattle.json_text.specs.Found.{IsCut, IsWithin};
+ghost use Rattle.json_lexemes.specs.Found.{IsCut, IsWithin};
 ghost use Rattle.json_text.specs.Listing.{AreTextsIn, AreListed, NamesAt, shape_of};
-ghost use Rattle.json_text.specs.Places.{mode_at, left_at};
+ghost use Rattle.json_lexemes.specs.Places.{mode_at, left_at};
 ghost use Rattle.json_text.specs.Rows.{Child, IsSolid, inside};
-ghost use Rattle.json_text.specs.Spelled.{Says};
+ghost use Rattle.json_lexemes.specs.Spelled.{Says};
 
-use crate::children::byte_at;
-use crate::lexemes::{blank_end, string_end};
 use crate::parts::{part_from, row_in};
-use crate::span::Span;
+use json_lexemes::{Span, blank_end, byte_at, string_end};
 use std::alloc::{AllocError, Global};
 
 /// What a value is, by its first byte.

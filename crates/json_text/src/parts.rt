@@ -6,16 +6,13 @@ ghost use Rattle.std.specs.Str.{IsUtf8, IsCharBoundary};
 ghost use Rattle.json.specs.Json.{Json};
 ghost use Rattle.json.specs.Lex.{between};
 ghost use Rattle.json_text.specs.Less.{HasInside, IsLeaf, IsNumberOf, IsObject};
-ghost use Rattle.json_text.specs.Places.{mode_at, left_at};
+ghost use Rattle.json_lexemes.specs.Places.{mode_at, left_at};
 ghost use Rattle.json_text.specs.Pointed.{child};
 ghost use Rattle.json_text.specs.Rows.{ArePlaces, AreInOrder, Child, CutNone, FindsPart, FindsValue};
 ghost use Rattle.json_text.specs.Rows.{IsInside, IsLast, IsNumbered, IsSolid, inside, last_named, tree_in};
-ghost use Rattle.json_text.specs.Spelled.{Says};
+ghost use Rattle.json_lexemes.specs.Spelled.{Says};
 
-use crate::children::{after, byte_at, value_from};
-use crate::lexemes::{blank_end, string_end};
-use crate::names::is_name;
-use crate::span::Span;
+use json_lexemes::{Span, after, blank_end, byte_at, is_name, string_end, value_from};
 use jsonptr::index::Index;
 
 /// A member or an item.

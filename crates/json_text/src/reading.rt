@@ -4,14 +4,15 @@ ghost use Rattle.std.specs.Prelude.{◌≡◌, ◌<◌, ◌-◌, None, IfOk, IfE
 ghost use Rattle.std.specs.Bool.{Decides};
 ghost use Rattle.json.specs.Json.{Json};
 ghost use Rattle.jsonptr.specs.Pointers.{tokens_of};
-ghost use Rattle.json_text.specs.Faults.{IsTextFault, nesting};
-ghost use Rattle.json_text.specs.Found.{IsWithin};
+ghost use Rattle.json_text.specs.Faults.{IsTextFault};
+ghost use Rattle.json_lexemes.specs.Skipped.{nesting};
+ghost use Rattle.json_lexemes.specs.Found.{IsWithin};
 ghost use Rattle.json_text.specs.Pointed.{tree_at, IsWrittenAt, StandsBetween};
-ghost use Rattle.json_text.specs.Spelled.{IsShallowText, Says};
+ghost use Rattle.json_lexemes.specs.Spelled.{IsShallowText, Says};
 
 use crate::children::{child, whole};
-use crate::span::Span;
-use crate::{CheckedText, TextFault, lexemes};
+use crate::{CheckedText, TextFault};
+use json_lexemes::Span;
 use jsonptr::Pointer;
 use std::alloc::{AllocError, Global};
 
@@ -25,7 +26,7 @@ use std::alloc::{AllocError, Global};
 pub fn is_deeper(text: &str, most: usize) -> bool
     ensures { Decides result (most < nesting text.now) }
 {
-    lexemes::is_deeper(text.as_bytes(), most)
+    json_lexemes::is_deeper(text.as_bytes(), most)
 }
 
 /// Where the stretch stands to which the pointer leads, in a text that is JSON.

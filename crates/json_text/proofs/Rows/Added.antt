@@ -9,9 +9,9 @@ use Rattle.jsonptr.specs.declared.index.Index.{Index}
 use Rattle.json_text.specs.Changed.{add_child, slot_in}
 use Rattle.json_text.specs.Pointed.{child}
 use Rattle.json_text.specs.Rows.{AreInOrder, Child, HasRow, IsComma, IsInside, IsLast, IsMember, IsMemberAhead, IsNumbered, IsTrail, tree_in}
-use Rattle.json_text.specs.Spelled.{Says}
+use Rattle.json_lexemes.specs.Spelled.{Says}
 use Rattle.json_text.specs.declared.parts.Numbered.{Numbered}
-use Rattle.json_text.proofs.Nests.{one_tree}
+use Rattle.json_lexemes.proofs.Nests.{one_tree}
 use Rattle.json_text.proofs.Rows.Befores.{count_within, item_before, last_count, no_slot, no_slot_past, nothing_added, slot_by}
 use Rattle.json_text.proofs.Rows.Grows.{first_item, first_member, item_behind, member_behind}
 

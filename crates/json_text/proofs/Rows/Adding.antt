@@ -6,15 +6,15 @@ use Rattle.json.specs.Json.{Json, null, boolean, number, string, array, object}
 use Rattle.jsonptr.specs.Text.{Pointer}
 use Rattle.json_text.specs.Added.{HasNoPlace, IsAdded, IsPutInto}
 use Rattle.json_text.specs.Changed.{add_at, add_child, push_member}
-use Rattle.json_text.specs.Found.{IsWithin}
+use Rattle.json_lexemes.specs.Found.{IsWithin}
 use Rattle.json_text.specs.Less.{IsObject}
 use Rattle.json_text.specs.Pointed.{child, if_some, put_at, put_child, put_member, tree_at, IsStretch, StandsBetween}
 use Rattle.json_text.specs.Replaced.{IsReplaced}
 use Rattle.json_text.specs.Rows.{slice}
-use Rattle.json_text.specs.Spelled.{IsShallowText, Says}
-use Rattle.json_text.specs.declared.span.Span.{Span}
+use Rattle.json_lexemes.specs.Spelled.{IsShallowText, Says}
+use Rattle.json_lexemes.specs.declared.span.Span.{Span}
 use Rattle.json_text.proofs.Along.{put_step}
-use Rattle.json_text.proofs.Nests.{one_tree}
+use Rattle.json_lexemes.proofs.Nests.{one_tree}
 use Rattle.json_text.proofs.Replacing.{IsWhole, replaced}
 use Rattle.json_text.proofs.Stretches.{cut_out, two_parts}
 use Rattle.json_text.proofs.Rows.Removing.{front_is, last_is, tree_below}

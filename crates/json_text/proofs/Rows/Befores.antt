@@ -15,12 +15,12 @@ use Rattle.jsonptr.specs.declared.index.Index.TheVariants.{Num, Next}
 use Rattle.json_text.specs.Removed.{IsTightFront}
 use Rattle.json_text.specs.Added.{HasOne, IsBeforeItem, IsPutInto, IsStyled}
 use Rattle.json_text.specs.Changed.{add_child, insert_item, items_len, slot_in}
-use Rattle.json_text.specs.Places.{left_at}
+use Rattle.json_lexemes.specs.Places.{left_at}
 use Rattle.json_text.specs.Rows.{AreInOrder, Child, inside, IsComma, IsInside, IsLast, IsNumbered, IsTrail, items_in, opening, others, slice, tree_in}
-use Rattle.json_text.specs.Spelled.{spelled, first_items, more_items, Says}
+use Rattle.json_lexemes.specs.Spelled.{spelled, first_items, more_items, Says}
 use Rattle.json_text.specs.declared.parts.Numbered.{Numbered}
-use Rattle.json_text.proofs.Counted.{lexemes, some_lexeme}
-use Rattle.json_text.proofs.Steps.{follows}
+use Rattle.json_lexemes.proofs.Counted.{lexemes, some_lexeme}
+use Rattle.json_lexemes.proofs.Steps.{follows}
 use Rattle.json_text.proofs.Stretches.{two_parts}
 use Rattle.json_text.proofs.Rows.Cuts.{fronts, inside_there, no_comma}
 use Rattle.json_text.proofs.Rows.Grows.{items_count, new_item}

@@ -3,15 +3,15 @@ use Rattle.std.proofs.Common.{◌≡◌, ◌⊎◌, ℕ, zero, suc, ◌<◌, ◌
 use Rattle.std.proofs.lemmas.Bool.{cases_eq}
 use Rattle.std.specs.Prelude.{IfSome, IfNone, MatchOption}
 use Rattle.json.specs.Lex.{Lexeme, comma, between, lex}
-use Rattle.json_text.specs.Places.{mode_at, left_at, IsEnd}
+use Rattle.json_lexemes.specs.Places.{mode_at, left_at, IsEnd}
 use Rattle.json_text.specs.Removed.{IsNaming, IsPiece, IsTightFront}
 use Rattle.json_text.specs.Rows.{AreEdges, AreInOrder, Child, inside, IsNumbered, IsSolid, naming, opening, others, tree_in, slice}
-use Rattle.json_text.specs.Spelled.{spelled, Says}
+use Rattle.json_lexemes.specs.Spelled.{spelled, Says}
 use Rattle.json_text.specs.declared.parts.Numbered.{Numbered}
-use Rattle.json_text.specs.declared.span.Span.{Span}
-use Rattle.json_text.proofs.Counted.{some_lexeme}
-use Rattle.json_text.proofs.FirstBytes.{kind}
-use Rattle.json_text.proofs.Steps.{follows}
+use Rattle.json_lexemes.specs.declared.span.Span.{Span}
+use Rattle.json_lexemes.proofs.Counted.{some_lexeme}
+use Rattle.json_lexemes.proofs.FirstBytes.{kind}
+use Rattle.json_lexemes.proofs.Steps.{follows}
 use Rattle.json_text.proofs.Rows.Reached.{apart}
 use Rattle.json_text.proofs.Rows.Splices.{beside, empty_slice, respliced, slice_lexes, something_there, tight_behind, tight_end, tight_front}
 use Rattle.json_text.proofs.Rows.Trees.{spelled_in}

@@ -2,11 +2,11 @@
 use Rattle.std.proofs.Common.{◌≡◌, ℕ, ◌+◌, ◌<◌, ◌≤◌, List, ◌∷◌, length, drop, get_or, refl, sym, ap, ◌∙◌, inl, arith}
 use Rattle.json.specs.Word.{is_operator}
 use Rattle.json.specs.Lex.{comma}
-use Rattle.json_text.specs.Places.{left_at, IsEnd}
+use Rattle.json_lexemes.specs.Places.{left_at, IsEnd}
 use Rattle.json_text.specs.Rows.{IsChild, IsGap, IsSolid, inside, others}
 use Rattle.json_text.specs.declared.parts.Numbered.{Numbered}
-use Rattle.json_text.proofs.FirstBytes.{operator_by_kind}
-use Rattle.json_text.proofs.Steps.{operator_end, operator_left}
+use Rattle.json_lexemes.proofs.FirstBytes.{operator_by_kind}
+use Rattle.json_lexemes.proofs.Steps.{operator_end, operator_left}
 use Rattle.json_text.proofs.Rows.Cuts.{inside_positive}
 use Rattle.json_text.proofs.Rows.Parts.{tail}
 use Rattle.json_text.proofs.Rows.Splices.{ordered}

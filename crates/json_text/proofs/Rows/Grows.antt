@@ -10,14 +10,14 @@ use Rattle.json.specs.Print.{quoted}
 use Rattle.json.specs.Token as tokens
 use Rattle.json_text.specs.Added.{HasNoComma, IsBehindItem, IsBehindMember, IsPutInto, IsStyled}
 use Rattle.json_text.specs.Changed.{add_child, insert_item, items_len, push_member, slot_in}
-use Rattle.json_text.specs.Found.{IsCut}
-use Rattle.json_text.specs.Places.{left_at}
+use Rattle.json_lexemes.specs.Found.{IsCut}
+use Rattle.json_lexemes.specs.Places.{left_at}
 use Rattle.json_text.specs.Pointed.{child, if_some, put_member, IsTight}
 use Rattle.json_text.specs.Rows.{AreInOrder, Child, inside, IsComma, IsInside, IsLast, IsMemberAhead, items_in, members_in, naming, opening, others, slice, tree_in}
-use Rattle.json_text.specs.Spelled.{spelled, Says}
+use Rattle.json_lexemes.specs.Spelled.{spelled, Says}
 use Rattle.json_text.specs.declared.parts.Numbered.{Numbered}
-use Rattle.json_text.specs.declared.span.Span.{Span}
-use Rattle.json_text.proofs.Steps.{follows}
+use Rattle.json_lexemes.specs.declared.span.Span.{Span}
+use Rattle.json_lexemes.proofs.Steps.{follows}
 use Rattle.json_text.proofs.Stretches.{tight}
 use Rattle.json_text.proofs.Rows.Cuts.{alls, inside_positive, no_comma, others_follow}
 use Rattle.json_text.proofs.Rows.Leads.{colon_lead, comma_lead, Lead, leads, quoted_lead, slice_lead, value_before}

@@ -3,12 +3,12 @@ use Rattle.std.proofs.Common.{◌≡◌, ℕ, ◌+◌, ◌<◌, ◌≤◌, true,
 use Rattle.json.specs.Word.{is_space}
 use Rattle.json.specs.Lex.{token, colon, string_token, in_string, lex}
 use Rattle.json.specs.Text.{content, plain}
-use Rattle.json_text.specs.Places.{mode_at, left_at, Closes}
+use Rattle.json_lexemes.specs.Places.{mode_at, left_at, Closes}
 use Rattle.json_text.specs.Rows.{AreInOrder, EndsName, inside, IsMember, tree_in}
 use Rattle.json_text.specs.declared.parts.Numbered.{Numbered}
-use Rattle.json_text.proofs.FirstBytes.{kind, byte_by_kind}
-use Rattle.json_text.proofs.Members.{quote_left}
-use Rattle.json_text.proofs.Steps.{quote_opens}
+use Rattle.json_lexemes.proofs.FirstBytes.{kind, byte_by_kind}
+use Rattle.json_lexemes.proofs.Members.{quote_left}
+use Rattle.json_lexemes.proofs.Steps.{quote_opens}
 use Rattle.json_text.proofs.Stretches.{not_open}
 use Rattle.json_text.proofs.Rows.Parts.{tail}
 use Rattle.json_text.proofs.Rows.Splices.{ordered}

@@ -5,12 +5,12 @@ use Rattle.json.specs.Json.{Json}
 use Rattle.json.specs.Lex.{Lexeme, token, comma, colon, string_token, between, lex}
 use Rattle.json.specs.Print.{escape, quoted}
 use Rattle.json.specs.Token as t
-use Rattle.json_text.specs.Lexing.{after, Fits}
-use Rattle.json_text.specs.Places.{mode_at, left_at}
+use Rattle.json_lexemes.specs.Lexing.{after, Fits}
+use Rattle.json_lexemes.specs.Places.{mode_at, left_at}
 use Rattle.json_text.specs.Rows.{slice}
-use Rattle.json_text.specs.Spelled.{spelled, Says}
-use Rattle.json_text.proofs.Closed.{closed-Says}
-use Rattle.json_text.proofs.Steps.{follows, ends-follows}
+use Rattle.json_lexemes.specs.Spelled.{spelled, Says}
+use Rattle.json_lexemes.proofs.Closed.{closed-Says}
+use Rattle.json_lexemes.proofs.Steps.{follows, ends-follows}
 use Rattle.json_text.proofs.Stretches.{fits, lex-join, mode_between}
 use Rattle.json_text.proofs.Rows.Splices.{slice_lexes}
 

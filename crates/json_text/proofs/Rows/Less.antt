@@ -4,16 +4,16 @@ use Rattle.std.specs.Prelude.{option_map}
 use Rattle.json.specs.Json.{Json, array}
 use Rattle.json.specs.Find.{get_item}
 use Rattle.json_text.specs.Changed.{remove_item, without}
-use Rattle.json_text.specs.Found.{named}
+use Rattle.json_lexemes.specs.Found.{named}
 use Rattle.json_text.specs.Less.{IsLess, IsLessText, IsNumberOf}
 use Rattle.json_text.specs.Pointed.{child, if_some, put_child, put_item, tree_at, IsStretch, StandsBetween}
 use Rattle.json_text.specs.Rows.{AreEdges, AreInOrder, Child, IsNumbered, items_in, members_in, others, tree_in, slice}
-use Rattle.json_text.specs.Spelled.{spelled, Says}
+use Rattle.json_lexemes.specs.Spelled.{spelled, Says}
 use Rattle.json_text.specs.declared.parts.Numbered.{Numbered}
-use Rattle.json_text.specs.declared.span.Span.{Span}
+use Rattle.json_lexemes.specs.declared.span.Span.{Span}
 use Rattle.json_text.proofs.Along.{put_step}
 use Rattle.json_text.proofs.Around.{Around, item_around, item_follows, member_around, member_follows, named_is, numbered_is}
-use Rattle.json_text.proofs.Steps.{follows}
+use Rattle.json_lexemes.proofs.Steps.{follows}
 use Rattle.json_text.proofs.Stretches.{stretch, two_parts}
 use Rattle.json_text.proofs.Rows.Cuts.{cut}
 use Rattle.json_text.proofs.Rows.Splices.{before_slice}

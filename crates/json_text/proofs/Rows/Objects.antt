@@ -10,12 +10,12 @@ use Rattle.json.specs.Json.{Json, null, boolean, number, string, array, object, 
 use Rattle.json.specs.Word.{is_space}
 use Rattle.json_text.specs.Changed.{add_child, remove_child, without}
 use Rattle.json_text.specs.Less.{AreLess, IsLess, IsLeaf, IsLessText, IsObject, IsWithout}
-use Rattle.json_text.specs.Places.{left_at}
+use Rattle.json_lexemes.specs.Places.{left_at}
 use Rattle.json_text.specs.Pointed.{child}
 use Rattle.json_text.specs.Removed.{IsCutOut}
 use Rattle.json_text.specs.Rows.{IsSolid}
-use Rattle.json_text.specs.Spelled.{Says}
-use Rattle.json_text.proofs.FirstBytes.{kind, byte_by_kind}
+use Rattle.json_lexemes.specs.Spelled.{Says}
+use Rattle.json_lexemes.proofs.FirstBytes.{kind, byte_by_kind}
 use Rattle.json_text.proofs.Tokens as tokens
 
 pub is_object : (t : List ℕ) (v : Json) (o : ℕ) → o < length t → get_or t o 32 ≡ 123 → left_at t o ≡ left_at t 0 → Says t v → IsObject v

@@ -5,16 +5,16 @@ use Rattle.std.proofs.lemmas.List.{get_or_default}
 use Rattle.std.specs.Prelude.{IfSome, IfNone, MatchOption}
 use Rattle.json.specs.Text.{content, plain}
 use Rattle.json.specs.Lex.{Lexeme, token, comma, colon, string_token, in_string, lex}
-use Rattle.json_text.specs.Places.{left_at}
+use Rattle.json_lexemes.specs.Places.{left_at}
 use Rattle.json_text.specs.Rows.{Begins, Child, FindsValue, IsPart, IsSolid, inside, others}
-use Rattle.json_text.specs.Skipped.{skip}
+use Rattle.json_lexemes.specs.Skipped.{skip}
 use Rattle.json_text.specs.declared.parts.Part.{Part}
-use Rattle.json_text.specs.declared.span.Span.{Span}
-use Rattle.json_text.proofs.FirstBytes.{kind, byte_by_kind}
-use Rattle.json_text.proofs.Listed as listed
-use Rattle.json_text.proofs.Members as members
-use Rattle.json_text.proofs.Skipping.{skip-value}
-use Rattle.json_text.proofs.Steps.{operator_left}
+use Rattle.json_lexemes.specs.declared.span.Span.{Span}
+use Rattle.json_lexemes.proofs.FirstBytes.{kind, byte_by_kind}
+use Rattle.json_lexemes.proofs.Listed as listed
+use Rattle.json_lexemes.proofs.Members as members
+use Rattle.json_lexemes.proofs.Skipping.{skip-value}
+use Rattle.json_lexemes.proofs.Steps.{operator_left}
 
 abbrev pub tail : List Lexeme → List Lexeme
 tail [] = []

@@ -10,14 +10,14 @@ use Rattle.std.specs.Str.{bytes_eq}
 use Rattle.json.specs.Lex.{Lexeme, comma, between}
 use Rattle.json.specs.Json.{Json}
 use Rattle.json.specs.Text.{content, plain}
-use Rattle.json_text.specs.Found.{IsCut, or_else}
-use Rattle.json_text.specs.Places.{mode_at, left_at, HasEnd}
+use Rattle.json_lexemes.specs.Found.{IsCut, or_else}
+use Rattle.json_lexemes.specs.Places.{mode_at, left_at, HasEnd}
 use Rattle.json_text.specs.Rows.{ArePlaces, Child, IsInside, IsLast, IsNumbered, IsPart, IsReached, inside, last_named, others}
-use Rattle.json_text.specs.Spelled.{spelled}
+use Rattle.json_lexemes.specs.Spelled.{spelled}
 use Rattle.json_text.specs.declared.parts.Part.{Part}
-use Rattle.json_text.specs.declared.span.Span.{Span}
-use Rattle.json_text.proofs.Counted.{some_lexeme}
-use Rattle.json_text.proofs.FirstBytes.{kind}
+use Rattle.json_lexemes.specs.declared.span.Span.{Span}
+use Rattle.json_lexemes.proofs.Counted.{some_lexeme}
+use Rattle.json_lexemes.proofs.FirstBytes.{kind}
 
 pub behind_child : {A : Type 0} (n : ℕ) (cs : List A) (c : A) (more : List A) → drop n cs ≡ c ∷ more → drop (n + 1) cs ≡ more
 behind_child n cs c more e = sym (drop-drop 1 n cs) ∙ ap (drop 1) e

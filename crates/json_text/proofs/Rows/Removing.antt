@@ -4,12 +4,12 @@ use Rattle.std.proofs.lemmas.Option.{same_Some}
 use Rattle.json.specs.Json.{Json}
 use Rattle.jsonptr.specs.Text.{Pointer}
 use Rattle.json_text.specs.Changed.{front_of, last_of, remove_at, remove_child}
-use Rattle.json_text.specs.Found.{IsWithin}
+use Rattle.json_lexemes.specs.Found.{IsWithin}
 use Rattle.json_text.specs.Less.{IsWithout}
 use Rattle.json_text.specs.Pointed.{child, if_some, put_at, tree_at, StandsBetween}
 use Rattle.json_text.specs.Removed.{HasNothingToRemove, IsRemoved}
-use Rattle.json_text.specs.Spelled.{IsShallowText, Says}
-use Rattle.json_text.specs.declared.span.Span.{Span}
+use Rattle.json_lexemes.specs.Spelled.{IsShallowText, Says}
+use Rattle.json_lexemes.specs.declared.span.Span.{Span}
 use Rattle.json_text.specs.Rows.{slice}
 use Rattle.json_text.proofs.Stretches.{two_parts}
 

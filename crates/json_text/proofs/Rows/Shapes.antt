@@ -4,16 +4,16 @@ use Rattle.std.proofs.lemmas.List.{get_or_default}
 use Rattle.json.specs.Json.{Json, null, boolean, number, string, array, object}
 use Rattle.json.specs.Lex.{Lexeme, token, between, in_string, string_token, lex}
 use Rattle.json.specs.Text.{content, plain}
-use Rattle.json_text.specs.Found.{IsCut}
+use Rattle.json_lexemes.specs.Found.{IsCut}
 use Rattle.json_text.specs.Listing.{NamesAt, shape_of}
-use Rattle.json_text.specs.Places.{mode_at, left_at, Closes}
+use Rattle.json_lexemes.specs.Places.{mode_at, left_at, Closes}
 use Rattle.json_text.specs.Rows.{Child, IsSolid, inside}
-use Rattle.json_text.specs.Spelled.{spelled, Says}
+use Rattle.json_lexemes.specs.Spelled.{spelled, Says}
 use Rattle.json_text.specs.declared.listing.Shape.TheVariants.{Object, List as ListShape, String, Atom}
-use Rattle.json_text.specs.declared.span.Span.{Span}
-use Rattle.json_text.proofs.FirstBytes.{kind, byte_by_kind}
-use Rattle.json_text.proofs.Members.{quote_left}
-use Rattle.json_text.proofs.Steps.{quote_opens, string_has_end}
+use Rattle.json_lexemes.specs.declared.span.Span.{Span}
+use Rattle.json_lexemes.proofs.FirstBytes.{kind, byte_by_kind}
+use Rattle.json_lexemes.proofs.Members.{quote_left}
+use Rattle.json_lexemes.proofs.Steps.{quote_opens, string_has_end}
 use Rattle.json_text.proofs.Tokens.{object_opens, list_opens}
 
 abbrev tail : List Lexeme → List Lexeme

@@ -6,13 +6,13 @@ use Rattle.std.proofs.Math.Seq.{take-length}
 use Rattle.json.specs.Json.{Json}
 use Rattle.json.specs.Word.{is_operator, is_space, ends_word}
 use Rattle.json.specs.Lex.{Lexeme, Mode, between, in_word, lex}
-use Rattle.json_text.specs.Lexing.{after, Fits, Outside}
-use Rattle.json_text.specs.Places.{mode_at, left_at, HasEnd, IsEnd}
+use Rattle.json_lexemes.specs.Lexing.{after, Fits, Outside}
+use Rattle.json_lexemes.specs.Places.{mode_at, left_at, HasEnd, IsEnd}
 use Rattle.json_text.specs.Removed.{IsTightEnd, IsTightFront}
 use Rattle.json_text.specs.Rows.{IsSolid, slice}
-use Rattle.json_text.specs.Spelled.{spelled, Says}
-use Rattle.json_text.proofs.Closed.{closed-Says}
-use Rattle.json_text.proofs.Steps.{after-append, each_operator, follows, ends-follows}
+use Rattle.json_lexemes.specs.Spelled.{spelled, Says}
+use Rattle.json_lexemes.proofs.Closed.{closed-Says}
+use Rattle.json_lexemes.proofs.Steps.{after-append, each_operator, follows, ends-follows}
 use Rattle.json_text.proofs.Stretches.{fits, lex-join, not_open, two_parts}
 
 -- ---- where a word has ended, the lexer goes on as between lexemes

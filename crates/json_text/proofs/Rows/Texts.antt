@@ -3,14 +3,14 @@ use Rattle.std.proofs.Common.{◌≡◌, ◌≤◌, ℕ, ◌∷◌, ◌++◌, Bo
 use Rattle.std.specs.Prelude.{MatchOption}
 use Rattle.json.specs.Json.{Json, null, boolean, number, string, array, object}
 use Rattle.json.specs.Lex.{Lexeme, colon, comma}
-use Rattle.json_text.specs.Found.{IsCut, IsWithin}
+use Rattle.json_lexemes.specs.Found.{IsCut, IsWithin}
 use Rattle.json_text.specs.Less.{IsLeaf}
 use Rattle.json_text.specs.Listing.{AreTextsIn, AreTextsOf, IsNameOf, IsTextOf, NamesAt, Texts}
-use Rattle.json_text.specs.Places.{left_at}
+use Rattle.json_lexemes.specs.Places.{left_at}
 use Rattle.json_text.specs.Rows.{Child, IsPart, inside, others, tree_in}
-use Rattle.json_text.specs.Spelled.{spelled, Says}
+use Rattle.json_lexemes.specs.Spelled.{spelled, Says}
 use Rattle.json_text.specs.declared.parts.Part.{Part}
-use Rattle.json_text.specs.declared.span.Span.{Span}
+use Rattle.json_lexemes.specs.declared.span.Span.{Span}
 use Rattle.json_text.specs.Rows.{slice}
 use Rattle.json_text.proofs.Stretches.{slice_says, not_empty, tight}
 

@@ -12,14 +12,14 @@ use Rattle.jsonptr.specs.Indexes.{IsNoIndexText}
 use Rattle.jsonptr.specs.PlaceLaws.{next_is_no_place}
 use Rattle.jsonptr.specs.Places.{place_of, next_token}
 use Rattle.json_text.specs.Changed.{remove_item, without}
-use Rattle.json_text.specs.Found.{named, numbered, or_else}
+use Rattle.json_lexemes.specs.Found.{named, numbered, or_else}
 use Rattle.json_text.specs.Less.{HasInside}
-use Rattle.json_text.specs.Places.{mode_at, HasEnd}
+use Rattle.json_lexemes.specs.Places.{mode_at, HasEnd}
 use Rattle.json_text.specs.Pointed.{child}
 use Rattle.json_text.specs.Rows.{Child, inside, items_in, last_named, members_in, opening, others, tree_in}
-use Rattle.json_text.specs.Spelled.{spelled, first_items, more_items, first_members, more_members, Says}
+use Rattle.json_lexemes.specs.Spelled.{spelled, first_items, more_items, first_members, more_members, Says}
 use Rattle.json_text.proofs.Around.{named_is}
-use Rattle.json_text.proofs.Counted.{item_within}
+use Rattle.json_lexemes.proofs.Counted.{item_within}
 use Rattle.json_text.proofs.Tokens.{IsList, IsObject}
 
 -- ---- spelled

@@ -1,7 +1,7 @@
 use Rattle.std.proofs.Common.{drop, option_map}
 use Rattle.json.specs.Json.{Json}
 use Rattle.serde_json.specs.View.{members_view}
-use Rattle.json_text.specs.Spelled.{IsShallowText}
+use Rattle.json_lexemes.specs.Spelled.{IsShallowText}
 use Rattle.json_patch_text.specs.Outline.{IsAhead}
 use Rattle.json_patch_text.proofs.reading.outline_of.Given as goal
 

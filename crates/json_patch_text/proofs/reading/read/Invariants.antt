@@ -1,6 +1,6 @@
 use Rattle.std.proofs.Common.{drop}
 use Rattle.json.specs.Json.{Json}
-use Rattle.json_text.specs.Spelled.{IsShallowText}
+use Rattle.json_lexemes.specs.Spelled.{IsShallowText}
 use Rattle.json_patch_text.specs.Outline.{IsReadPatch}
 use Rattle.json_patch_text.proofs.reading.read.Given as goal
 

@@ -3,7 +3,7 @@ use Rattle.std.specs.Bool.{Decides}
 use Rattle.std.specs.String.{string_bytes}
 use Rattle.json.specs.Json.{max_depth}
 use Rattle.json_patch_text.specs.Bounded.{IsReachedUnder}
-use Rattle.json_text.specs.Faults.{nesting}
+use Rattle.json_lexemes.specs.Skipped.{nesting}
 use Rattle.json_patch_text.proofs.run.run.Given as goal
 
 abbrev pub invariant-loop-number : goal.invariant-loop-number

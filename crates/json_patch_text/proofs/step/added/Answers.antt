@@ -3,7 +3,7 @@ use Rattle.std.specs.String.{string_bytes}
 use Rattle.jsonptr.specs.Pointers.{tokens_of}
 use Rattle.json_patch_text.proofs.Nested.{reaches_within}
 use Rattle.json_text.specs.Checked.{text_in}
-use Rattle.json_text.specs.Faults.{nesting}
+use Rattle.json_lexemes.specs.Skipped.{nesting}
 use Rattle.json_text.proofs.Deeper.{added_nests}
 use Rattle.json_patch_text.proofs.step.added.Goals as goal
 

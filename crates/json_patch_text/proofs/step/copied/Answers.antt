@@ -9,7 +9,7 @@ use Rattle.json_patch_text.specs.declared.step.NewText.{NewText}
 use Rattle.json_patch_text.proofs.Made.{copy_none, copy_comes, copy_stops}
 use Rattle.json_text.specs.Added.{HasNoPlace, IsAdded}
 use Rattle.json_text.specs.Checked.{text_in}
-use Rattle.json_text.specs.Spelled.{Says}
+use Rattle.json_lexemes.specs.Spelled.{Says}
 use Rattle.json_patch_text.proofs.step.copied.Goals as goal
 
 pub returns-in_default-clause-stopped : goal.returns-in_default-clause-stopped

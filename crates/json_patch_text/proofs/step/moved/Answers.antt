@@ -13,7 +13,7 @@ use Rattle.json_patch_text.proofs.Nested.{moved_no_deeper}
 use Rattle.json_text.specs.Added.{HasNoPlace, IsAdded}
 use Rattle.json_text.specs.Checked.{text_in}
 use Rattle.json_text.specs.Removed.{IsRemoved}
-use Rattle.json_text.specs.Spelled.{Says}
+use Rattle.json_lexemes.specs.Spelled.{Says}
 use Rattle.json_text.proofs.Readable.{less_says}
 use Rattle.json_patch_text.proofs.step.moved.Goals as goal
 

@@ -2,7 +2,7 @@ use Rattle.std.proofs.Common.{arith, ◌≡◌, ◌<◌, length, get_or, sym, �
 use Rattle.std.proofs.lemmas.List.{get_or_default}
 use Rattle.std.proofs.lemmas.Str.{IsCharBoundary-after_ascii}
 use Rattle.jsonptr.specs.Indexes.{IsIndexText}
-use Rattle.json_text.specs.Found.{Stands, named}
+use Rattle.json_lexemes.specs.Found.{Stands, named}
 use Rattle.json_text.proofs.Tokens.{item_found, list_opens, member_found, next_is_no_child, no_child, no_place_no_child, object_opens, opens_between}
 use Rattle.json_text.proofs.children.child.Goals as goal
 

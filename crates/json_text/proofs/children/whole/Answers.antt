@@ -1,7 +1,7 @@
 use Rattle.std.proofs.Common.{refl}
 use Rattle.std.proofs.lemmas.Str.{IsCharBoundary-start}
 use Rattle.json_text.proofs.Tokens.{whole_found}
-use Rattle.json_text.proofs.Trimmed.{trimmed_back, trimmed_end}
+use Rattle.json_lexemes.proofs.Trimmed.{trimmed_back, trimmed_end}
 use Rattle.json_text.proofs.children.whole.Goals as goal
 
 pub returns-clause-whole : goal.returns-clause-whole

@@ -2,7 +2,7 @@ use Rattle.std.proofs.Common.{◌≡◌, ◌++◌, None, take, drop, sym, subst}
 use Rattle.std.specs.Prelude.{MatchOption}
 use Rattle.json_text.specs.Less.{IsLessText}
 use Rattle.json_text.specs.Pointed.{child}
-use Rattle.json_text.specs.Spelled.{Says}
+use Rattle.json_lexemes.specs.Spelled.{Says}
 use Rattle.json_text.proofs.Rows.Objects.{leaf_child}
 use Rattle.json_text.proofs.Rows.Less.{less_text, none_chosen}
 use Rattle.json_text.proofs.cutting.piece.Goals as goal

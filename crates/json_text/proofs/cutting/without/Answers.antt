@@ -1,7 +1,7 @@
 use Rattle.std.proofs.Common.{◌<◌, length, sym, subst}
 use Rattle.std.specs.String.{string_bytes}
 use Rattle.json_text.specs.Less.{IsLessText, IsObject}
-use Rattle.json_text.specs.Spelled.{Says}
+use Rattle.json_lexemes.specs.Spelled.{Says}
 use Rattle.json_text.proofs.Rows.Objects.{all_gone, first_less, next_less, one_gone, shorter}
 use Rattle.json_text.proofs.cutting.without.Goals as goal
 

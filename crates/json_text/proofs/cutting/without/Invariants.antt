@@ -2,7 +2,7 @@ use Rattle.std.proofs.Common.{length}
 use Rattle.std.specs.String.{string_bytes}
 use Rattle.json.specs.Json.{Json}
 use Rattle.json_text.specs.Less.{AreLess}
-use Rattle.json_text.specs.Spelled.{Says}
+use Rattle.json_lexemes.specs.Spelled.{Says}
 use Rattle.json_text.proofs.cutting.without.Given as goal
 
 abbrev pub invariant-loop-new : goal.invariant-loop-new

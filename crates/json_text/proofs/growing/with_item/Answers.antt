@@ -4,7 +4,7 @@ use Rattle.std.specs.Str.{IsCharBoundary}
 use Rattle.json.specs.Json.{Json}
 use Rattle.json_text.specs.Added.{IsPutInto}
 use Rattle.json_text.specs.Rows.{AreInOrder, Child, CutNone, IsComma, IsInside, IsLast, IsNumbered, IsTrail}
-use Rattle.json_text.specs.Spelled.{Says}
+use Rattle.json_lexemes.specs.Spelled.{Says}
 use Rattle.json_text.proofs.Rows.Added.{alone_put, before_put, behind_put, chosen_slot, counted_by, no_index, past_end, same_last}
 use Rattle.json_text.proofs.growing.with_item.Goals as goal
 

@@ -3,7 +3,7 @@ use Rattle.std.specs.String.{string_bytes}
 use Rattle.json.specs.Json.{Json}
 use Rattle.json_text.specs.Added.{IsPutInto}
 use Rattle.json_text.specs.Rows.{AreInOrder, IsInside, IsMemberAhead}
-use Rattle.json_text.specs.Spelled.{Says}
+use Rattle.json_lexemes.specs.Spelled.{Says}
 use Rattle.json_text.proofs.Rows.Added.{at_end, at_start, if_put, last_member, same_last}
 use Rattle.json_text.proofs.growing.with_member.Goals as goal
 

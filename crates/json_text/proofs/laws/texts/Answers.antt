@@ -1,4 +1,4 @@
-use Rattle.json_text.proofs.Nests.{nests, one_tree, read_is}
+use Rattle.json_lexemes.proofs.Nests.{nests, one_tree, read_is}
 use Rattle.json_text.proofs.laws.texts.Goals as goal
 
 pub returns-clause-one_tree : goal.returns-clause-one_tree

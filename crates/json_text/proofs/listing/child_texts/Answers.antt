@@ -1,6 +1,6 @@
 use Rattle.std.proofs.Common.{sym, ap, ◌∙◌, subst}
 use Rattle.json_text.specs.Listing.{AreTextsIn}
-use Rattle.json_text.specs.Spelled.{Says}
+use Rattle.json_lexemes.specs.Spelled.{Says}
 use Rattle.json_text.specs.Rows.{slice}
 use Rattle.json_text.proofs.Rows.Texts.{one_listed, last_one, next_one, all_listed, as_tree, none_within}
 use Rattle.json_text.proofs.listing.child_texts.Goals as goal

@@ -2,9 +2,9 @@ use Rattle.std.proofs.Common.{◌≡◌, ◌≤◌, length, ◌-◌, List}
 use Rattle.std.specs.Str.{IsUtf8, IsCharBoundary}
 use Rattle.json.specs.Lex.{between}
 use Rattle.json.specs.Json.{Json}
-use Rattle.json_text.specs.Spelled.{Says}
+use Rattle.json_lexemes.specs.Spelled.{Says}
 use Rattle.json_text.specs.Listing.{AreListed}
-use Rattle.json_text.specs.Places.{mode_at}
+use Rattle.json_lexemes.specs.Places.{mode_at}
 use Rattle.json_text.specs.Rows.{Child, IsInside, IsSolid}
 use Rattle.json_text.proofs.listing.child_texts.Given as goal
 

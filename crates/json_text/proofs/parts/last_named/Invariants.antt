@@ -1,5 +1,5 @@
 use Rattle.std.proofs.Common.{◌≡◌, ◌≤◌, length, ◌-◌, List, true}
-use Rattle.json_text.specs.Places.{left_at}
+use Rattle.json_lexemes.specs.Places.{left_at}
 use Rattle.json_text.specs.Rows.{Child, IsSolid, inside}
 use Rattle.json_text.proofs.Rows.Reached.{AreNamed}
 use Rattle.json_text.proofs.parts.last_named.Given as goal

@@ -4,10 +4,10 @@ use Rattle.std.specs.Prelude.{IfNone, IfSome}
 use Rattle.jsonptr.specs.Indexes.{IsIndexText}
 use Rattle.jsonptr.specs.Places.{next_token}
 use Rattle.json_text.specs.Less.{IsNumberOf}
-use Rattle.json_text.specs.Places.{left_at}
+use Rattle.json_lexemes.specs.Places.{left_at}
 use Rattle.json_text.specs.Pointed.{child}
 use Rattle.json_text.specs.Rows.{Child, inside, last_named, tree_in}
-use Rattle.json_text.specs.Spelled.{Says}
+use Rattle.json_lexemes.specs.Spelled.{Says}
 use Rattle.json_text.proofs.Rows.Trees.{next_is_no_item, no_index_no_item, no_member}
 use Rattle.json_text.proofs.parts.number_of.Goals as goal
 

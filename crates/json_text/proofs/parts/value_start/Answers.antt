@@ -1,7 +1,7 @@
 use Rattle.std.proofs.Common.{◌≡◌, ◌<◌, length, get_or, sym, ◌∙◌, arith}
 use Rattle.json.specs.Lex.{between}
-use Rattle.json_text.specs.Places.{mode_at}
-use Rattle.json_text.proofs.Members.{string_ends}
+use Rattle.json_lexemes.specs.Places.{mode_at}
+use Rattle.json_lexemes.proofs.Members.{string_ends}
 use Rattle.json_text.proofs.Rows.Parts.{item_begins, member_begins, none_at_bracket, none_with_no_quote, some_if}
 use Rattle.json_text.proofs.parts.value_start.Goals as goal
 

@@ -1,7 +1,7 @@
 use Rattle.json.specs.Json.{Json}
 use Rattle.jsonptr.specs.Pointers.{tokens_of, tokens_left}
-use Rattle.json_text.specs.Found.{IsWithin}
-use Rattle.json_text.specs.Spelled.{Says}
+use Rattle.json_lexemes.specs.Found.{IsWithin}
+use Rattle.json_lexemes.specs.Spelled.{Says}
 use Rattle.json_text.proofs.Along.{IsAtPlace}
 use Rattle.json_text.proofs.reading.find.Given as goal
 

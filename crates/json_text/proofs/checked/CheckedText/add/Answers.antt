@@ -1,5 +1,5 @@
 use Rattle.std.proofs.Common.{sym, ◌∙◌, subst}
-use Rattle.json_text.specs.Spelled.{Says}
+use Rattle.json_lexemes.specs.Spelled.{Says}
 use Rattle.json_text.proofs.Rows.Adding.{added_child_by, added_member, no_member_there, no_parent, no_place_there}
 use Rattle.json_text.proofs.checked.CheckedText.add.Goals as goal
 

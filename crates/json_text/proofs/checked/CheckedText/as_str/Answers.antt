@@ -1,4 +1,4 @@
-use Rattle.json_text.proofs.Nests.{accepted}
+use Rattle.json_lexemes.proofs.Nests.{accepted}
 use Rattle.json_text.proofs.checked.CheckedText.as_str.Goals as goal
 
 pub returns-clause-shallow : goal.returns-clause-shallow

@@ -1,6 +1,6 @@
 use Rattle.std.proofs.Common.{sym, ◌∙◌}
 use Rattle.std.proofs.lemmas.Bool.{false≢true}
-use Rattle.json_text.proofs.Nests.{accepted, refused}
+use Rattle.json_lexemes.proofs.Nests.{accepted, refused}
 use Rattle.json_text.proofs.checked.CheckedText.new.Goals as goal
 
 pub returns-clause-fault : goal.returns-clause-fault

@@ -1,5 +1,5 @@
 use Rattle.std.proofs.Common.{sym, ◌∙◌, subst}
-use Rattle.json_text.specs.Spelled.{Says}
+use Rattle.json_lexemes.specs.Spelled.{Says}
 use Rattle.json_text.proofs.Rows.Removing.{none_below, nothing_by, removed_by}
 use Rattle.json_text.proofs.checked.CheckedText.remove.Goals as goal
 

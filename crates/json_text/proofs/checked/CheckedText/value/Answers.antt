@@ -1,5 +1,5 @@
 use Rattle.std.proofs.Common.{sym, ◌∙◌}
-use Rattle.json_text.proofs.Nests.{accepted}
+use Rattle.json_lexemes.proofs.Nests.{accepted}
 use Rattle.json_text.proofs.Readable.{part_says}
 use Rattle.json_text.proofs.Stretches.{cut_out}
 use Rattle.json_text.proofs.checked.CheckedText.value.Goals as goal

@@ -1,5 +1,5 @@
 use Rattle.std.proofs.Common.{◌<◌, length, sym, ◌∙◌, arith, subst}
-use Rattle.json_text.specs.Spelled.{Says}
+use Rattle.json_lexemes.specs.Spelled.{Says}
 use Rattle.json_text.proofs.Rows.Shapes.{is_object, is_list, is_string, is_atom}
 use Rattle.json_text.proofs.listing.Shape.of.Goals as goal
 

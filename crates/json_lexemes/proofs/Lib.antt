@@ -1,0 +1,17 @@
+mod Words
+mod Inside
+mod Contents
+pub mod Lexing
+pub mod Skipping
+pub mod Read
+pub mod Steps
+mod Ascii
+pub mod Closed
+pub mod FirstBytes
+pub mod Members
+pub mod Listed
+pub mod Counted
+pub mod Trimmed
+pub mod Respelled
+pub mod Parsed
+pub mod Nests

@@ -1,0 +1,219 @@
+//! Lexemes of a JSON text, by their places. Nothing here is recursive.
+
+ghost use Rattle.std.specs.Prelude.{◌≡◌, ◌≢◌, ◌⊎◌, ◌<◌, ◌≤◌, ◌+◌, ◌-◌, ◌^◌, [], ◌∷◌, List, true, false, length, drop, get_or};
+ghost use Rattle.std.specs.Prelude.{IfSome, IfNone};
+ghost use Rattle.std.specs.Bool.{Decides};
+ghost use Rattle.std.specs.Str.{IsUtf8, IsCharBoundary};
+ghost use Rattle.json.specs.Word.{is_operator, is_space, ends_word};
+ghost use Rattle.json.specs.Lex.{Lexeme, between, in_word, in_string, lex, operator_lexeme};
+ghost use Rattle.json_lexemes.specs.Lexing.{Outside};
+ghost use Rattle.json_lexemes.specs.Places.{mode_at, left_at, depth_by, Closes, HasEnd, IsEnd, Steps};
+ghost use Rattle.json_lexemes.specs.Skipped.{nesting, skip};
+
+/// Whether this is a blank: a space, a tab, a line feed or a carriage return.
+#[inline(always)]
+pub fn is_blank(c: u8) -> bool
+    ensures { result ≡ is_space c }
+{
+    c == b' ' || c == b'\t' || c == b'\n' || c == b'\r'
+}
+
+/// Whether this is a bracket, a colon or a comma: a lexeme of one byte.
+#[inline(always)]
+pub fn is_operator(c: u8) -> bool
+    ensures { result ≡ is_operator c }
+{
+    c == b'{' || c == b'}' || c == b'[' || c == b']' || c == b':' || c == b','
+}
+
+/// The byte at `i`, or a blank past the end.
+#[inline(always)]
+pub fn byte_at(text: &[u8], i: usize) -> u8
+    ensures within { result ≢ 32 → i < length text.now }
+    ensures value { result ≡ get_or text.now i 32 }
+{
+    if i < text.len() { text[i] } else { b' ' }
+}
+
+/// The first place from `from` on where no blank stands.
+#[inline(always)]
+pub fn blank_end(text: &[u8], from: usize) -> usize
+    requires { from ≤ length text.now }
+    ensures bounds { (from ≤ result) × (result ≤ length text.now) }
+    ensures left { left_at text.now result ≡ left_at text.now from }
+    ensures end { IsEnd text.now from → IsEnd text.now result }
+    ensures between { mode_at text.now from ≡ between → mode_at text.now result ≡ between }
+    ensures stops { result < length text.now → is_space (get_or text.now result 0) ≡ false }
+    ensures boundary { IsUtf8 text.now → IsCharBoundary text.now from → IsCharBoundary text.now result }
+{
+    let mut i = from;
+    while i < text.len() && is_blank(text[i]) {
+        i += 1;
+    }
+    i
+}
+
+/// The place past the operator `c` and the blanks around it; `None` where another lexeme comes first, or
+/// none does.
+#[inline(always)]
+pub fn after(text: &[u8], from: usize, c: u8) -> Option<usize>
+    requires within { from ≤ length text.now }
+    requires operator { is_operator c ≡ true }
+    ensures bounds { IfSome result (λ i. (from < i) × (i ≤ length text.now)) }
+    ensures left { IfSome result (λ i.
+        left_at text.now from ≡ operator_lexeme c ∷ left_at text.now i) }
+    ensures begins { IfSome result (λ i. IsEnd text.now from → mode_at text.now i ≡ between) }
+    ensures stops { IfSome result (λ i.
+        i < length text.now → is_space (get_or text.now i 0) ≡ false) }
+    ensures none { IfNone result ((ls : List Lexeme)
+        → left_at text.now from ≡ operator_lexeme c ∷ ls → ⊥) }
+    ensures boundary { IsUtf8 text.now → IfSome result (λ i. IsCharBoundary text.now i) }
+{
+    let i = blank_end(text, from);
+    if i < text.len() && text[i] == c {
+        Some(blank_end(text, i + 1))
+    } else {
+        None
+    }
+}
+
+/// The place after the quote that closes a string whose inside begins at `from`, or the text's end where
+/// none does.
+#[inline(always)]
+pub fn string_end(text: &[u8], from: usize) -> usize
+    requires { from ≤ length text.now }
+    ensures bounds { (from ≤ result) × (result ≤ length text.now) }
+    ensures left { left_at text.now result ≡ lex in_string (drop from text.now) }
+    ensures mode { mode_at text.now from ≡ in_string → Closes text.now result }
+    ensures boundary { IsUtf8 text.now → IsCharBoundary text.now result }
+{
+    let mut i = from;
+    while i < text.len() {
+        let c = text[i];
+        if c == b'"' {
+            return i + 1;
+        }
+        if c == b'\\' {
+            if text.len() - i < 2 {
+                return text.len();
+            }
+            i += 2;
+        } else {
+            i += 1;
+        }
+    }
+    i
+}
+
+/// The place after a number or a literal, of which the bytes before `from` are a part.
+#[inline(always)]
+pub fn word_end(text: &[u8], from: usize) -> usize
+    requires { from ≤ length text.now }
+    ensures bounds { (from ≤ result) × (result ≤ length text.now) }
+    ensures left { left_at text.now result ≡ lex in_word (drop from text.now) }
+    ensures mode { mode_at text.now from ≡ in_word → mode_at text.now result ≡ in_word }
+    ensures ended { ends_word (drop result text.now) ≡ true }
+    ensures back { (result ≡ from) ⊎ (is_space (get_or text.now (result - 1) 0) ≡ false) }
+    ensures boundary { IsUtf8 text.now → IsCharBoundary text.now result }
+{
+    let mut i = from;
+    while i < text.len() && !is_operator(text[i]) && !is_blank(text[i]) {
+        i += 1;
+    }
+    i
+}
+
+/// The place after the lexeme that begins at `from`.
+#[inline(always)]
+fn lexeme_end(text: &[u8], from: usize) -> usize
+    requires within { from < length text.now }
+    requires begins { is_space (get_or text.now from 0) ≡ false }
+    ensures bounds { (from < result) × (result ≤ length text.now) }
+    ensures steps { Steps text.now from result }
+    ensures end { IsEnd text.now from → IsEnd text.now result × HasEnd text.now result }
+    ensures boundary { IsUtf8 text.now → IsCharBoundary text.now result }
+{
+    let c = text[from];
+    if c == b'"' {
+        string_end(text, from + 1)
+    } else if is_operator(c) {
+        from + 1
+    } else {
+        word_end(text, from + 1)
+    }
+}
+
+/// How many brackets are open after a lexeme that begins with `c`, of `depth` before it.
+#[inline(always)]
+fn open_after(depth: usize, c: u8) -> usize
+    requires { depth + 1 < 2 ^ 64 }
+    ensures value { result ≡ depth_by depth c }
+    ensures bound { result ≤ depth + 1 }
+{
+    if c == b'{' || c == b'[' {
+        depth + 1
+    } else if c == b'}' || c == b']' {
+        depth.saturating_sub(1)
+    } else {
+        depth
+    }
+}
+
+/// The place after the value that begins at `from`, blanks before it aside, or after the last lexeme where
+/// brackets stay open.
+pub fn value_end(text: &[u8], from: usize) -> usize
+    requires { from ≤ length text.now }
+    ensures bounds { (from ≤ result) × (result ≤ length text.now) }
+    ensures left { left_at text.now result ≡ skip 0 (left_at text.now from) }
+    ensures end { IsEnd text.now from
+        → IsEnd text.now result × ((result ≡ from) ⊎ HasEnd text.now result) }
+    ensures boundary { IsUtf8 text.now → IsCharBoundary text.now from → IsCharBoundary text.now result }
+{
+    let mut depth: usize = 0;
+    let mut end = from;
+    let mut i = blank_end(text, from);
+    while i < text.len() {
+        depth = open_after(depth, text[i]);
+        end = lexeme_end(text, i);
+        if depth == 0 {
+            return end;
+        }
+        i = blank_end(text, end);
+    }
+    end
+}
+
+/// The place after the last byte that is no blank, or `from` where none stands behind that.
+pub fn last_end(text: &[u8], from: usize) -> usize
+    requires { from ≤ length text.now }
+    ensures bounds { (from ≤ result) × (result ≤ length text.now) }
+    ensures left { left_at text.now result ≡ [] }
+    ensures ended { ends_word (drop result text.now) ≡ true }
+    ensures closed { Outside (mode_at text.now (length text.now))
+        → Outside (mode_at text.now result) }
+    ensures back { (result ≡ from) ⊎ (is_space (get_or text.now (result - 1) 0) ≡ false) }
+    ensures boundary { IsCharBoundary text.now result }
+{
+    let mut end = text.len();
+    while end > from && is_blank(text[end - 1]) {
+        end -= 1;
+    }
+    end
+}
+
+/// Whether more brackets than `most` are open at once, of any text. Each byte is looked at once.
+pub fn is_deeper(text: &[u8], most: usize) -> bool
+    ensures { Decides result (most < nesting text.now) }
+{
+    let mut depth: usize = 0;
+    let mut i = blank_end(text, 0);
+    while i < text.len() {
+        depth = open_after(depth, text[i]);
+        let end = lexeme_end(text, i);
+        if depth > most {
+            return true;
+        }
+        i = blank_end(text, end);
+    }
+    false
+}

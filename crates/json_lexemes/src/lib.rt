@@ -1,0 +1,25 @@
+//! The lexemes of a JSON text by their places, and the values that they spell.
+//!
+//! A text says a tree by its lexemes: brackets, commas, colons, and one for each leaf and each name. Here
+//! a text is passed over by byte places, a lexeme or a value at a time, with no recursion, no memory and
+//! no check that it is JSON. Each contract says which lexemes are left at the place that it answers, and
+//! that no lexeme and no character is cut there.
+//!
+//! [`value_end`] passes over a value by counting brackets, [`member`] and [`item`] find one in an object
+//! or a list, and [`is_name`] compares a name with its escapes read.
+#![tactic(auto)]
+
+mod lexemes;
+mod names;
+mod span;
+#[cfg(test)]
+mod tests;
+mod values;
+
+pub use lexemes::{
+    after, blank_end, byte_at, is_blank, is_deeper, is_operator, last_end, string_end, value_end,
+    word_end,
+};
+pub use names::is_name;
+pub use span::Span;
+pub use values::{item, member, value_from};
