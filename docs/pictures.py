@@ -17,6 +17,7 @@ KINDS = {"library": "#dbe9f6", "program": "#e3f1dc", "test": "#f6ead4", "fault":
 CAPTIONS = {
     "jsonptr": ("pointers: strings, tokens, indexes", "library"),
     "json_number": ("numbers compared exactly", "library"),
+    "json_lexemes": ("a text's lexemes by their places", "library"),
     "json_text": ("one place of a text, read or replaced", "library"),
     "json_reading": ("texts' numbers as documents have them", "library"),
     "json_patch_text": ("what patching a text means", "library"),
