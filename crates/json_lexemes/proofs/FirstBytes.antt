@@ -45,7 +45,7 @@ number_kind w (Some r) = cond_kind (ends_word r) _ _ refl refl
 literal_kind : (name : List ℕ) (k : t.Token) (w : List ℕ) → token_kind k ≡ 0 → token_kind (literal name k w) ≡ 0
 literal_kind name k w e = cond_kind (starts_with nat_eq w name && ends_word (drop (length name) w)) k t.bad e refl
 
-word_kind : (w : List ℕ) → token_kind (word w) ≡ 0
+pub word_kind : (w : List ℕ) → token_kind (word w) ≡ 0
 unfolding word
 word_kind w =
     cond_kind (head w == 116) _ _ (literal_kind (116 ∷ 114 ∷ 117 ∷ 101 ∷ []) (t.boolean true) w refl)

@@ -348,7 +348,7 @@ skip_nothing n m t i h = let e = ap (lex between) (drop_all i t h) in e ∙ sym 
 
 -- ---- a comma or another operator
 
-operator_lex : (x : ℕ) (xs : List ℕ) → is_operator x ≡ true → lex between (x ∷ xs) ≡ operator_lexeme x ∷ lex between xs
+pub operator_lex : (x : ℕ) (xs : List ℕ) → is_operator x ≡ true → lex between (x ∷ xs) ≡ operator_lexeme x ∷ lex between xs
 unfolding lex
 operator_lex x xs o = ap (λ c. lex_byte between c x xs (λ m. lex m xs)) (operator_class x o)
 

@@ -1,3 +1,4 @@
+pub mod Blanks
 pub mod Around
 pub mod Deeper
 pub mod Depths

@@ -16,3 +16,4 @@ pub mod Befores
 pub mod Adding
 pub mod Shapes
 pub mod Texts
+pub mod Pieces

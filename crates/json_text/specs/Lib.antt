@@ -4,6 +4,7 @@ pub mod Rows
 pub mod Listing
 pub mod Changed
 pub mod Checked
+pub mod Cuts
 pub mod Removed
 pub mod Added
 pub mod Less

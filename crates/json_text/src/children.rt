@@ -1,8 +1,10 @@
 //! The value that a token names, by its place in a text.
 
-ghost use Rattle.std.specs.Prelude.{◌≡◌, ◌-◌, Some, None, IfSome, MatchOption, take, drop};
+ghost use Rattle.std.specs.Prelude.{◌≡◌, ◌-◌, [], Some, None, IfSome, MatchOption, take, drop};
 ghost use Rattle.json.specs.Json.{Json};
+ghost use Rattle.json.specs.Lex.{between};
 ghost use Rattle.json_lexemes.specs.Found.{IsWithin};
+ghost use Rattle.json_lexemes.specs.Places.{left_at, mode_at};
 ghost use Rattle.json_lexemes.specs.Spelled.{Says};
 ghost use Rattle.json_text.specs.Pointed.{child, put_child, IsStretch};
 
@@ -41,6 +43,9 @@ pub(crate) fn whole(text: &[u8]) -> Span
         (take (result.end - result.start) (drop result.start text.now))
         (drop result.end text.now) j (λ w. w) }
     ensures within { IsWithin text.now result }
+    ensures starts { left_at text.now result.start ≡ left_at text.now 0 }
+    ensures begins { mode_at text.now result.start ≡ between }
+    ensures ends { left_at text.now result.end ≡ [] }
 {
     let start = blank_end(text, 0);
     let end = last_end(text, start);

@@ -20,7 +20,7 @@ use jsonptr::index::Index;
 use std::alloc::{AllocError, Global};
 
 /// A name as a JSON string.
-fn quoted(alloc: Global, name: &str) -> Result<String, AllocError>
+pub fn quoted(alloc: Global, name: &str) -> Result<String, AllocError>
     ensures { IfOk result (λ s. string_bytes s ≡ quoted name.now) }
 {
     let mut out = Writer::new(Vec::new(alloc));

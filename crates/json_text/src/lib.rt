@@ -21,6 +21,7 @@ mod checked;
 #[cfg(test)]
 mod checked_tests;
 mod children;
+mod cuts;
 mod cutting;
 mod fault;
 mod growing;
@@ -34,6 +35,8 @@ mod tests;
 pub use additions::add;
 pub use changes::{remove, replace};
 pub use checked::CheckedText;
+pub use cuts::{Cut, blanks_at, cut_at, is_name_text, split_blanks};
 pub use fault::{ChangeFault, TextFault};
+pub use growing::quoted;
 pub use listing::{Shape, child_texts};
 pub use reading::{is_deeper, value_text};

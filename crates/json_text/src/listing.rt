@@ -44,7 +44,7 @@ impl Shape {
 }
 
 /// The text of the name that begins at `start`, if the values have names, and else an empty one.
-fn name_from(text: &[u8], start: usize, named: bool) -> Span
+pub(crate) fn name_from(text: &[u8], start: usize, named: bool) -> Span
     requires within { start ≤ length text.now }
     requires solid { IsSolid text.now start }
     ensures start { result.start ≡ start }

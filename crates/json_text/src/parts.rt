@@ -41,6 +41,7 @@ fn value_start(text: &[u8], start: usize, named: bool) -> Option<usize>
         → FindsValue text.now named cs start result }
     ensures bounds { IfSome result (λ v. (start ≤ v) × (v ≤ length text.now)) }
     ensures quoted { IfSome result (λ v. named ≡ true → start < v) }
+    ensures item { named ≡ false → IfSome result (λ v. v ≡ start) }
     ensures solid { IfSome result (IsSolid text.now) }
     ensures begins { mode_at text.now start ≡ between
         → IfSome result (λ v. mode_at text.now v ≡ between) }
@@ -63,6 +64,7 @@ pub(crate) fn part_from(text: &[u8], start: usize, named: bool) -> Option<Part>
     requires solid { IsSolid text.now start }
     ensures start { IfSome result (λ p. p.start ≡ start) }
     ensures quoted { IfSome result (λ p. named ≡ true → start < length text.now) }
+    ensures item { named ≡ false → IfSome result (λ p. p.value.start ≡ start) }
     ensures part { (cs : List Child) → left_at text.now start ≡ inside named cs
         → FindsPart text.now named cs result }
     ensures places { mode_at text.now start ≡ between → IfSome result (ArePlaces text.now) }

@@ -19,14 +19,14 @@ use Rattle.json_text.proofs.Replacing.{IsWhole, replaced}
 use Rattle.json_text.proofs.Stretches.{cut_out, two_parts}
 use Rattle.json_text.proofs.Rows.Removing.{front_is, last_is, tree_below}
 
-add_is : (F : Pointer) (t : List ℕ) (w j : Json) → add_at (F ++ (t ∷ [])) w j ≡ option_and_then (λ c. option_map (λ d. put_at F d j) (add_child t w c)) (tree_at F j)
+pub add_is : (F : Pointer) (t : List ℕ) (w j : Json) → add_at (F ++ (t ∷ [])) w j ≡ option_and_then (λ c. option_map (λ d. put_at F d j) (add_child t w c)) (tree_at F j)
 add_is [] t w j = refl
 add_is (u ∷ F) t w j = ap₂ (λ P k. option_and_then (λ c. option_map (λ d. put_at P d j) (add_child k w c)) (tree_at P j)) (front_is u F t) (last_is u F t)
 
-add_in : (P F : Pointer) (t : List ℕ) (w j c : Json) → P ≡ F ++ (t ∷ []) → tree_at F j ≡ Some c → add_at P w j ≡ option_map (λ d. put_at F d j) (add_child t w c)
+pub add_in : (P F : Pointer) (t : List ℕ) (w j c : Json) → P ≡ F ++ (t ∷ []) → tree_at F j ≡ Some c → add_at P w j ≡ option_map (λ d. put_at F d j) (add_child t w c)
 add_in P F t w j c s e = ap (λ Q. add_at Q w j) s ∙ add_is F t w j ∙ ap (option_and_then (λ c. option_map (λ d. put_at F d j) (add_child t w c))) e
 
-put_is : (F : Pointer) (t : List ℕ) (w j c v : Json) → tree_at F j ≡ Some c → child t c ≡ Some v → put_at (F ++ (t ∷ [])) w j ≡ put_at F (put_child t w c) j
+pub put_is : (F : Pointer) (t : List ℕ) (w j c v : Json) → tree_at F j ≡ Some c → child t c ≡ Some v → put_at (F ++ (t ∷ [])) w j ≡ put_at F (put_child t w c) j
 put_is [] t w j c v e f =
     let same : j ≡ c = same_Some j c e in
     put_step t [] w j v (ap (child t) same ∙ f) ∙ ap (put_child t w) same
@@ -38,7 +38,7 @@ put_is (u ∷ F) t w j c v e f = by_child (child u j) e (λ x h. put_is F t w x 
     by_child (Some x) e ih = ap (λ y. put_child u y j) (ih x e)
 
 -- a member that stands
-member_put : (t : List ℕ) (w c v : Json) → IsObject c → child t c ≡ Some v → add_child t w c ≡ Some (put_child t w c)
+pub member_put : (t : List ℕ) (w c v : Json) → IsObject c → child t c ≡ Some v → add_child t w c ≡ Some (put_child t w c)
 member_put t w null v y e = absurd y
 member_put t w (boolean b) v y e = absurd y
 member_put t w (number b) v y e = absurd y
