@@ -1,0 +1,258 @@
+-- A text is opened: its parts, one after another.
+use Rattle.std.proofs.Common.{◌≡◌, ◌≢◌, inl, ℕ, zero, suc, ◌+◌, ◌<◌, ◌≤◌, Bool, true, false, List, [], ◌∷◌, ◌++◌, length, take, drop, get_or, Some, None, refl, sym, ap, ap₂, ◌∙◌, subst, arith, append_assoc, append-nil}
+use Rattle.std.specs.Prelude.{MatchOption}
+use Rattle.std.specs.Str.{IsUtf8, IsCharBoundary}
+use Rattle.std.proofs.lemmas.List.{get_or_default}
+use Rattle.std.proofs.lemmas.Str.{IsCharBoundary-after_ascii}
+use Rattle.std.proofs.lemmas.List.{take_all}
+use Rattle.json.specs.Json.{Json, null, boolean, number, string, array, object, Items, no_items, item, Members, no_members, member}
+use Rattle.json.specs.Lex.{between, lex, operator_lexeme}
+use Rattle.json.specs.Word.{is_operator, is_space}
+use Rattle.json_text.specs.Cuts.{AllSuit, ClosesAt, CutsFirst, IsBehindMark, IsBlank, Piece, closes, opens, piece_of, piece_text, pieces_text, row_text}
+use Rattle.json_text.specs.Listing.{IsTextOf, shape_of}
+use Rattle.json_lexemes.specs.Places.{left_at, mode_at}
+use Rattle.json_text.specs.Rows.{Child, inside, items_in, members_in, opening, tree_in}
+use Rattle.json_text.specs.declared.listing.Shape.{Shape}
+use Rattle.json_text.specs.declared.listing.Shape.TheVariants.{Object, List as ListShape, String as StringShape, Atom}
+use Rattle.json_text.specs.declared.cuts.Cut.{Cut}
+use Rattle.json_text.proofs.Blanks.{lexemes_behind}
+use Rattle.json_lexemes.proofs.FirstBytes.{operator_by_kind}
+use Rattle.json_text.proofs.Rows.Trees.{spelled_in}
+use Rattle.json_lexemes.proofs.Steps.{drop_step, operator_end, operator_left}
+use Rattle.json_pieces.specs.Nodes.{IsRow, IsRowOf, IsSound, shut, piece_with, row_view, text_bytes, tree_text, view}
+use Rattle.json_pieces.specs.declared.node.Node.{Node}
+use Rattle.json_pieces.specs.declared.node.Row.{Row}
+use Rattle.json_pieces.specs.declared.node.Seam.{Seam}
+use Rattle.json_pieces.proofs.Lists.{AreSoundIn, nth, pieces_are, pieces_in}
+
+-- ---- the bracket
+
+opening_is : (b : Bool) → opening b ≡ operator_lexeme (opens b)
+opening_is true = refl
+opening_is false = refl
+
+opens_operator : (b : Bool) → is_operator (opens b) ≡ true
+opens_operator true = refl
+opens_operator false = refl
+
+opens_ascii : (b : Bool) → opens b < 128
+opens_ascii true = omega arith
+opens_ascii false = omega arith
+
+pub record Opens (t : List ℕ) (b : Bool) (cs : List Child) : Type 0 where
+  pub some : 1 ≤ length t
+  pub is : t ≡ opens b ∷ drop 1 t
+  pub left : left_at t 1 ≡ inside b cs
+  pub begins : mode_at t 1 ≡ between
+  pub boundary : IsUtf8 t → IsCharBoundary t 1
+
+pub opens_with : (t : List ℕ) (b : Bool) (cs : List Child) → IsTextOf t (tree_in b cs) → Opens t b cs
+unfolding lexemes_behind
+opens_with t b cs h =
+    let left : left_at t 0 ≡ operator_lexeme (opens b) ∷ inside b cs = h.0 ∙ spelled_in b cs ∙ ap (λ l. l ∷ inside b cs) (opening_is b) in
+    let at = operator_by_kind t 0 (opens b) (inside b cs) (λ n. ap is_space (get_or_default t 0 0 32 n) ∙ h.1.0) (opens_operator b) left in
+    record {
+      some = omega (arith, at.0);
+      is = drop_step t 0 at.0 ∙ ap (λ x. x ∷ drop 1 t) at.1;
+      left = ap lexemes_behind (sym (operator_left t 0 (opens b) at.0 at.1 (opens_operator b)) ∙ left);
+      begins = operator_end t 0 at.0 (ap is_operator at.1 ∙ opens_operator b) (inl refl);
+      boundary = λ u. IsCharBoundary-after_ascii t 0 u at.0 (subst (λ x. x < 128) (sym at.1) (opens_ascii b));
+    }
+
+-- ---- one more at the end
+
+pub after_mark : ℕ → List Piece → ℕ
+after_mark x [] = x
+after_mark x (p ∷ ps) = 44
+
+one_behind : (x : ℕ) (ps : List Piece) (p : Piece) → pieces_text x (ps ++ (p ∷ [])) ≡ pieces_text x ps ++ (after_mark x ps ∷ piece_text p)
+unfolding after_mark
+one_behind x [] p = ap (λ l. x ∷ l) (append-nil (piece_text p))
+one_behind x (q ∷ []) p = ap (λ l. x ∷ (piece_text q ++ l)) (one_behind 44 [] p) ∙ ap (λ l. x ∷ l) (sym (ap (λ l. l ++ (44 ∷ piece_text p)) (append-nil (piece_text q))))
+one_behind x (q ∷ r ∷ ps) p = ap (λ l. x ∷ (piece_text q ++ l)) (one_behind 44 (r ∷ ps) p) ∙ ap (λ l. x ∷ l) (sym (append_assoc (piece_text q) (pieces_text 44 (r ∷ ps)) (44 ∷ piece_text p)))
+
+some_mark : (x : ℕ) (ps : List Piece) (p : Piece) → after_mark x (ps ++ (p ∷ [])) ≡ 44
+unfolding after_mark
+some_mark x [] p = refl
+some_mark x (q ∷ ps) p = refl
+
+some_row : (b : Bool) (hollow : List ℕ) (ps : List Piece) (p : Piece) → row_text b hollow (ps ++ (p ∷ [])) ≡ pieces_text (opens b) (ps ++ (p ∷ [])) ++ (closes b ∷ [])
+some_row b hollow [] p = refl
+some_row b hollow (q ∷ ps) p = refl
+
+-- the parts so far, and those that are left from a place on
+pub record SoFar (t : List ℕ) (b : Bool) (cs : List Child) (ps : List Piece) (from : ℕ) : Type 0 where
+  pub whole : t ≡ pieces_text (opens b) ps ++ (after_mark (opens b) ps ∷ drop from t)
+  pub more : List Child
+  pub left : left_at t from ≡ inside b more
+  pub begins : mode_at t from ≡ between
+  pub suit : (es : List Piece) → AllSuit b more es → AllSuit b cs (ps ++ es)
+  pub later : (ps ≢ []) → more ≢ []
+
+pub none_yet : (t : List ℕ) (b : Bool) (cs : List Child) → Opens t b cs → SoFar t b cs [] 1
+unfolding after_mark
+none_yet t b cs o = record { whole = o.is; more = cs; left = o.left; begins = o.begins; suit = λ es h. h; later = λ n. absurd (n refl) }
+
+module _ (t : List ℕ) (b : Bool) (cs : List Child) (ps : List Piece) (from : ℕ) (c : Cut) (s : SoFar t b cs ps from) (f : CutsFirst t b s.more from c) where
+  suits_more : (es : List Piece) → AllSuit b f.more es → AllSuit b cs ((ps ++ (piece_of c ∷ [])) ++ es)
+  suits_more es h = subst (AllSuit b cs) (sym (append_assoc ps (piece_of c ∷ []) es)) (s.suit (piece_of c ∷ es) (subst (λ ds. AllSuit b ds (piece_of c ∷ es)) (sym f.is) (f.suits, h)))
+
+  grown : (rest : List ℕ) → drop from t ≡ piece_text (piece_of c) ++ rest → t ≡ pieces_text (opens b) (ps ++ (piece_of c ∷ [])) ++ rest
+  grown rest e =
+      s.whole ∙ ap (λ l. pieces_text (opens b) ps ++ (after_mark (opens b) ps ∷ l)) e ∙ sym (append_assoc (pieces_text (opens b) ps) (after_mark (opens b) ps ∷ piece_text (piece_of c)) rest)
+      ∙ ap (λ l. l ++ rest) (sym (one_behind (opens b) ps (piece_of c)))
+
+pub goes_on : (t : List ℕ) (b : Bool) (cs : List Child) (ps : List Piece) (from g : ℕ) (c : Cut) → (s : SoFar t b cs ps from) → (f : CutsFirst t b s.more from c) → c.next ≡ Some g → SoFar t b cs (ps ++ (piece_of c ∷ [])) g
+goes_on t b cs ps from g c s f e =
+    let n = subst (λ o. MatchOption o ((f.more ≡ []) × (drop from t ≡ piece_text (piece_of c) ++ (closes b ∷ []))) (λ g. (drop from t ≡ piece_text (piece_of c) ++ (44 ∷ drop g t)) × (left_at t g ≡ inside b f.more) × (mode_at t g ≡ between) × (f.more ≢ []))) e f.next in
+    record {
+      whole = grown t b cs ps from c s f (44 ∷ drop g t) n.0 ∙ ap (λ m. pieces_text (opens b) (ps ++ (piece_of c ∷ [])) ++ (m ∷ drop g t)) (sym (some_mark (opens b) ps (piece_of c)));
+      more = f.more;
+      left = n.1;
+      begins = n.2;
+      suit = suits_more t b cs ps from c s f;
+      later = λ _. n.3;
+    }
+
+-- the whole text in parts
+pub record InParts (t : List ℕ) (b : Bool) (cs : List Child) (hollow : List ℕ) (ps : List Piece) : Type 0 where
+  pub is : row_text b hollow ps ≡ t
+  pub suit : AllSuit b cs ps
+  pub blank : IsBlank hollow
+
+pub ends : (t : List ℕ) (b : Bool) (cs : List Child) (hollow : List ℕ) (ps : List Piece) (from : ℕ) (c : Cut) → (s : SoFar t b cs ps from) → (f : CutsFirst t b s.more from c) → c.next ≡ None → IsBlank hollow → InParts t b cs hollow (ps ++ (piece_of c ∷ []))
+ends t b cs hollow ps from c s f e blank =
+    let n = subst (λ o. MatchOption o ((f.more ≡ []) × (drop from t ≡ piece_text (piece_of c) ++ (closes b ∷ []))) (λ g. (drop from t ≡ piece_text (piece_of c) ++ (44 ∷ drop g t)) × (left_at t g ≡ inside b f.more) × (mode_at t g ≡ between) × (f.more ≢ []))) e f.next in
+    record {
+      is = some_row b hollow ps (piece_of c) ∙ sym (grown t b cs ps from c s f (closes b ∷ []) n.1);
+      suit = subst (AllSuit b cs) (append-nil (ps ++ (piece_of c ∷ []))) (suits_more t b cs ps from c s f [] (subst (λ ds. AllSuit b ds []) (sym n.0) tt));
+      blank = blank;
+    }
+
+-- only before the first no other comes
+pub none_there : (t : List ℕ) (b : Bool) (cs : List Child) (hollow : List ℕ) (ps : List Piece) (from : ℕ) → (s : SoFar t b cs ps from) → s.more ≡ [] → ClosesAt t b from hollow → InParts t b cs hollow ps
+unfolding after_mark
+none_there t b cs hollow [] from s e h = record {
+  is = sym (s.whole ∙ ap (λ l. opens b ∷ l) h.0);
+  suit = s.suit [] (subst (λ ds. AllSuit b ds []) (sym e) tt);
+  blank = h.1;
+}
+none_there t b cs hollow (p ∷ ps) from s e h = absurd (s.later (λ n. absurd (omega (arith, ap length n))) e)
+
+-- ---- the seams and the values
+
+pub push_pieces : (ss : List Seam) (vs : List Node) (s : Seam) (v : Node) → AreSoundIn ss vs → pieces_in (ss ++ (s ∷ [])) (vs ++ (v ∷ [])) ≡ pieces_in ss vs ++ (piece_with s (tree_text (view v)) ∷ [])
+push_pieces [] [] s v h = refl
+push_pieces [] (w ∷ vs) s v h = absurd h
+push_pieces (t ∷ ss) [] s v h = absurd h
+push_pieces (t ∷ ss) (w ∷ vs) s v h = ap (λ l. piece_with t (tree_text (view w)) ∷ l) (push_pieces ss vs s v h.1)
+
+pub push_sound : (ss : List Seam) (vs : List Node) (s : Seam) (v : Node) → AreSoundIn ss vs → IsSound (view v) → AreSoundIn (ss ++ (s ∷ [])) (vs ++ (v ∷ []))
+push_sound [] [] s v h k = (k, tt)
+push_sound [] (w ∷ vs) s v h k = absurd h
+push_sound (t ∷ ss) [] s v h k = absurd h
+push_sound (t ∷ ss) (w ∷ vs) s v h k = (h.0, push_sound ss vs s v h.1 k)
+
+pub row_of_parts : (t : List ℕ) (b : Bool) (cs : List Child) (hollow : List ℕ) (n : ℕ) (ss : List Seam) (vs : List Node) → InParts t b cs hollow (pieces_in ss vs) → AreSoundIn ss vs → n ≡ length t → (IsRow b n hollow (pieces_in ss vs) × AreSoundIn ss vs) × (row_text b hollow (pieces_in ss vs) ≡ t)
+row_of_parts t b cs hollow n ss vs p h e = ((record { cs = cs; suit = p.suit; blank = p.blank; size = e ∙ ap length (sym p.is) }, h), p.is)
+
+pub empty_blank : IsBlank []
+unfolding lex
+empty_blank = (refl, refl)
+
+pub starts : (ss : List Seam) (vs : List Node) → ss ≡ [] → vs ≡ [] → AreSoundIn ss vs × (pieces_in ss vs ≡ [])
+starts [] [] e f = (tt, refl)
+starts [] (v ∷ vs) e f = absurd (omega (arith, ap length f))
+starts (s ∷ ss) vs e f = absurd (omega (arith, ap length e))
+
+pub pushed : (ss new_seams : List Seam) (vs new_values : List Node) (s : Seam) (v : Node) (c : Cut) → new_seams ≡ ss ++ (s ∷ []) → new_values ≡ vs ++ (v ∷ []) → AreSoundIn ss vs → view v ≡ shut c.value.now → piece_with s c.value.now ≡ piece_of c
+    → AreSoundIn new_seams new_values × (pieces_in new_seams new_values ≡ pieces_in ss vs ++ (piece_of c ∷ []))
+pushed ss new_seams vs new_values s v c e f h seen is =
+    let sound : AreSoundIn (ss ++ (s ∷ [])) (vs ++ (v ∷ [])) = push_sound ss vs s v h (subst IsSound (sym seen) tt) in (
+      subst (λ x. AreSoundIn x new_values) (sym e) (subst (λ x. AreSoundIn (ss ++ (s ∷ [])) x) (sym f) sound),
+      ap₂ pieces_in e f ∙ push_pieces ss vs s v h ∙ ap (λ x. pieces_in ss vs ++ (piece_with s (tree_text x) ∷ [])) seen ∙ ap (λ x. pieces_in ss vs ++ (x ∷ [])) is,
+    )
+
+pub behind_mark : (t : List ℕ) (b : Bool) (cs : List Child) (ps : List Piece) (from : ℕ) → IsTextOf t (tree_in b cs) → (s : SoFar t b cs ps from) → IsBehindMark t b s.more from
+behind_mark t b cs ps from h s = ((tree_in b cs, h.0), h.1, s.left, s.begins)
+
+-- the row that is handed out
+pub row_made : (t : List ℕ) (b : Bool) (cs : List Child) (hollow : List ℕ) (ss : List Seam) (vs : List Node) (r : Row) → InParts t b cs hollow (pieces_in ss vs) → AreSoundIn ss vs → r.named ≡ b → r.length ≡ length t → text_bytes r.hollow ≡ hollow → r.seams.items ≡ ss → r.values.items ≡ vs → IsRowOf t r
+row_made t b cs hollow ss vs r p h named size blank seams values =
+    let parts : pieces_in r.seams.items r.values.items ≡ pieces_in ss vs = ap₂ pieces_in seams values in
+    let sound : AreSoundIn r.seams.items r.values.items = subst (λ x. AreSoundIn x r.values.items) (sym seams) (subst (λ x. AreSoundIn ss x) (sym values) h) in
+    let here : InParts t r.named cs (text_bytes r.hollow) (pieces_in r.seams.items r.values.items) =
+    subst (λ x. InParts t x cs (text_bytes r.hollow) (pieces_in r.seams.items r.values.items)) (sym named) (subst (λ x. InParts t b cs x (pieces_in r.seams.items r.values.items)) (sym blank) (subst (InParts t b cs hollow) (sym parts) p)) in
+    row_of_parts t r.named cs (text_bytes r.hollow) r.length r.seams.items r.values.items here sound size
+
+-- ---- what is opened
+
+members_children : Members → List Child
+members_children no_members = []
+members_children (member k j ms) = (k, j) ∷ members_children ms
+
+members_back : (ms : Members) → members_in (members_children ms) ≡ ms
+unfolding members_children
+members_back no_members = refl
+members_back (member k j ms) = ap (member k j) (members_back ms)
+
+items_children : Items → List Child
+items_children no_items = []
+items_children (item j js) = ([], j) ∷ items_children js
+
+items_back : (js : Items) → items_in (items_children js) ≡ js
+unfolding items_children
+items_back no_items = refl
+items_back (item j js) = ap (item j) (items_back js)
+
+shape_number : Shape → ℕ
+shape_number Object = 0
+shape_number ListShape = 1
+shape_number StringShape = 2
+shape_number Atom = 3
+
+pub as_object : (j : Json) (s : Shape) → s ≡ shape_of j → s ≡ Object → (cs : List Child) × (j ≡ tree_in true cs)
+unfolding shape_number
+as_object null s e f = let never : 3 ≡ 0 = ap shape_number (sym e ∙ f) in absurd (omega (arith, never))
+as_object (boolean b) s e f = let never : 3 ≡ 0 = ap shape_number (sym e ∙ f) in absurd (omega (arith, never))
+as_object (number n) s e f = let never : 3 ≡ 0 = ap shape_number (sym e ∙ f) in absurd (omega (arith, never))
+as_object (string k) s e f = let never : 2 ≡ 0 = ap shape_number (sym e ∙ f) in absurd (omega (arith, never))
+as_object (array js) s e f = let never : 1 ≡ 0 = ap shape_number (sym e ∙ f) in absurd (omega (arith, never))
+as_object (object ms) s e f = (members_children ms, ap object (sym (members_back ms)))
+
+pub as_list : (j : Json) (s : Shape) → s ≡ shape_of j → s ≡ ListShape → (cs : List Child) × (j ≡ tree_in false cs)
+unfolding shape_number
+as_list null s e f = let never : 3 ≡ 1 = ap shape_number (sym e ∙ f) in absurd (omega (arith, never))
+as_list (boolean b) s e f = let never : 3 ≡ 1 = ap shape_number (sym e ∙ f) in absurd (omega (arith, never))
+as_list (number n) s e f = let never : 3 ≡ 1 = ap shape_number (sym e ∙ f) in absurd (omega (arith, never))
+as_list (string k) s e f = let never : 2 ≡ 1 = ap shape_number (sym e ∙ f) in absurd (omega (arith, never))
+as_list (object ms) s e f = let never : 0 ≡ 1 = ap shape_number (sym e ∙ f) in absurd (omega (arith, never))
+as_list (array js) s e f = (items_children js, ap array (sym (items_back js)))
+
+pub row_text_of : (t : List ℕ) (b : Bool) (j : Json) → IsTextOf t j → (cs : List Child) × (j ≡ tree_in b cs) → (cs : List Child) × IsTextOf t (tree_in b cs)
+row_text_of t b j h (cs, e) = (cs, subst (IsTextOf t) e h)
+
+-- ---- a row of texts of its own
+
+take_next : (i : ℕ) (p : Piece) (ps : List Piece) → drop i ps ≡ p ∷ drop (suc i) ps → take (suc i) ps ≡ take i ps ++ (p ∷ [])
+take_next zero p [] e = absurd (omega (arith, ap length e))
+take_next (suc i) p [] e = absurd (omega (arith, ap length e))
+take_next zero p (q ∷ ps) e = ap (λ x. x ∷ []) (ap (λ l. get_or l 0 p) e)
+take_next (suc i) p (q ∷ ps) e = ap (λ l. q ∷ l) (take_next i p ps e)
+
+pub one_owned : (ss own_seams new_seams : List Seam) (vs own_values new_values : List Node) (i k : ℕ) (s own : Seam) (v w : Node) (text : List ℕ) → k ≡ i + 1 → AreSoundIn ss vs → i < length vs → s ≡ get_or ss i s → v ≡ get_or vs i v
+    → AreSoundIn own_seams own_values → pieces_in own_seams own_values ≡ take i (pieces_in ss vs) → new_seams ≡ own_seams ++ (own ∷ []) → new_values ≡ own_values ++ (w ∷ []) → view w ≡ shut text → text ≡ tree_text (view v) → ((x : List ℕ) → piece_with own x ≡ piece_with s x)
+    → AreSoundIn new_seams new_values × (pieces_in new_seams new_values ≡ take k (pieces_in ss vs))
+one_owned ss own_seams new_seams vs own_values new_values i k s own v w text n h l e f g same p q seen is alike =
+    let sound : AreSoundIn (own_seams ++ (own ∷ [])) (own_values ++ (w ∷ [])) = push_sound own_seams own_values own w g (subst IsSound (sym seen) tt) in
+    let next : k ≡ suc i = omega (arith, n) in (
+      subst (λ x. AreSoundIn x new_values) (sym p) (subst (λ x. AreSoundIn (own_seams ++ (own ∷ [])) x) (sym q) sound),
+      ap₂ pieces_in p q ∙ push_pieces own_seams own_values own w g ∙ ap₂ (λ l x. l ++ (piece_with own (tree_text x) ∷ [])) same seen
+          ∙ ap (λ x. take i (pieces_in ss vs) ++ (x ∷ [])) (alike text ∙ ap (piece_with s) is) ∙ sym (take_next i (piece_with s (tree_text (view v))) (pieces_in ss vs) (nth ss vs i s v h l e f)) ∙ ap (λ m. take m (pieces_in ss vs)) (sym next),
+    )
+
+pub row_same : (r new : Row) (ss : List Seam) (vs : List Node) (i : ℕ) → IsSound (row_view r) → AreSoundIn ss vs → pieces_in ss vs ≡ take i (pieces_in r.seams.items r.values.items) → length r.values.items ≤ i → new.named ≡ r.named → new.length ≡ r.length → text_bytes new.hollow ≡ text_bytes r.hollow → new.seams.items ≡ ss → new.values.items ≡ vs → IsRowOf (tree_text (row_view r)) new
+row_same r new ss vs i h g same l named size blank seams values =
+    let all : pieces_in ss vs ≡ pieces_in r.seams.items r.values.items = same ∙ take_all i (pieces_in r.seams.items r.values.items) (omega (arith, pieces_are r.seams.items r.values.items h.1, l)) in
+    row_made (tree_text (row_view r)) r.named h.0.cs (text_bytes r.hollow) ss vs new
+    (record { is = ap (row_text r.named (text_bytes r.hollow)) all; suit = subst (AllSuit r.named h.0.cs) (sym all) h.0.suit; blank = h.0.blank }) g named (size ∙ h.0.size) blank seams values

@@ -1,0 +1,193 @@
+-- The walk to the place of an edit, and the edit there.
+use Rattle.std.proofs.Common.{◌≡◌, inl, inr, ℕ, zero, suc, ◌+◌, ◌<◌, ◌≤◌, Bool, true, false, List, [], ◌∷◌, length, get_or, map, Option, Some, None, option_and_then, refl, sym, ap, ◌∙◌, subst, arith, append-nil}
+use Rattle.std.specs.Prelude.{IfOk, IsSome, Result, String, slice_set}
+use Rattle.std.specs.declared.alloc.AllocError.{AllocError}
+use Rattle.std.proofs.lemmas.Result.{IfOk-weaker}
+use Rattle.std.specs.Borrow.{Bor}
+use Rattle.std.proofs.lemmas.Bool.{true≢false}
+use Rattle.std.specs.String.{string_bytes}
+use Rattle.std.specs.declared.alloc.Global.{Global}
+use Rattle.json.specs.Json.{Json, null, boolean, number, string, array, object}
+use Rattle.jsonptr.specs.Text.{Pointer}
+use Rattle.json_text.specs.Cuts.{AllSuit, row_text}
+use Rattle.json_text.specs.Less.{IsLeaf, IsNumberOf}
+use Rattle.json_text.specs.Listing.{IsTextOf}
+use Rattle.json_text.specs.Pointed.{child, tree_at}
+use Rattle.json_text.specs.Rows.{Child, tree_in}
+use Rattle.json_lexemes.specs.Spelled.{Says}
+use Rattle.json_pieces.specs.Edits.{Alters, Changes, IsMade, IsReady, Makes, PutsIn, TakesOut}
+use Rattle.json_pieces.specs.Nodes.{IsOpened, IsSound, IsWhole, Tree, parts_of, row_view, shut, text_bytes, tree_text, view, wide}
+use Rattle.json_pieces.specs.declared.edit.Edit.{Edit}
+use Rattle.json_pieces.specs.declared.edit.Edit.TheVariants.{Read, Put, Take, Insert}
+use Rattle.json_pieces.specs.declared.node.Node.{Node}
+use Rattle.json_pieces.specs.declared.node.Node.TheVariants.{Open, Closed}
+use Rattle.json_pieces.specs.declared.node.Row.{Row}
+use Rattle.json_pieces.specs.declared.text.Text.{Text}
+use Rattle.json_pieces.proofs.Levels.{view_closed, view_open}
+use Rattle.json_pieces.specs.PieceLists.{with_value}
+use Rattle.json_pieces.proofs.Lifts.{lift, none_there}
+use Rattle.json_pieces.proofs.Lists.{pieces_are, pieces_in, set_pieces, set_sound, value_sound, value_there}
+use Rattle.json_pieces.proofs.Rows.Answers.{value_of_some}
+use Rattle.json_pieces.proofs.Rows.Numbers.{has_text, put_size, value_at, value_fits}
+use Rattle.json_pieces.proofs.Rows.Says.{row_is}
+
+-- ---- one level
+
+pub row_whole : (r : Row) → IsSound (row_view r) → IsWhole (row_view r)
+row_whole r h = (h, (tree_in r.named h.0.cs, row_is r.named (text_bytes r.hollow) h.0.cs _ h.0.suit h.0.blank))
+
+pub open_whole : (node : Node) (r : Row) → node ≡ Open r → IsSound (row_view r) → IsWhole (view node)
+open_whole node r e h = subst IsWhole (sym (ap view e ∙ view_open r)) (row_whole r h)
+
+pub open_sound : (node : Node) (r : Row) → node ≡ Open r → IsWhole (view node) → IsSound (row_view r)
+open_sound node r e h = (subst IsWhole (ap view e ∙ view_open r) h).0
+
+-- what is made of the row is made of the value
+pub row_made : (e : Edit) (old opened new : Node) (copy r s : Row) (P : Pointer) (found : Option (String Global)) → tree_text (view opened) ≡ tree_text (view old) → copy ≡ r → opened ≡ Open r → new ≡ Open s
+    → ((j : Json) → Says (tree_text (row_view copy)) j → Makes e (tree_text (row_view copy)) j P (tree_text (row_view s)) found) → (j : Json) → Says (tree_text (view old)) j → Makes e (tree_text (view old)) j P (tree_text (view new)) found
+row_made e old opened new copy r s P found same copied is left given j says =
+    let made : (j : Json) → Says (tree_text (row_view r)) j → Makes e (tree_text (row_view r)) j P (tree_text (row_view s)) found =
+    subst (λ x. (j : Json) → Says (tree_text (row_view x)) j → Makes e (tree_text (row_view x)) j P (tree_text (row_view s)) found) copied given in
+    let text : tree_text (row_view r) ≡ tree_text (view old) = ap tree_text (sym (ap view is ∙ view_open r)) ∙ same in
+    let after : tree_text (row_view s) ≡ tree_text (view new) = ap tree_text (sym (ap view left ∙ view_open s)) in
+    subst (λ x. Makes e (tree_text (view old)) j P x found) after (subst (λ x. Makes e x j P (tree_text (row_view s)) found) text (made j (subst (λ x. Says x j) (sym text) says)))
+
+-- ---- where nothing can be made
+
+leaf_child : (t : List ℕ) (j : Json) → IsLeaf j → child t j ≡ None
+leaf_child t null h = refl
+leaf_child t (boolean b) h = refl
+leaf_child t (number s) h = refl
+leaf_child t (string s) h = refl
+leaf_child t (array js) h = absurd h
+leaf_child t (object ms) h = absurd h
+
+shut_leaf : (node : Node) (s : Text) (j : Json) → node ≡ Closed s → IsOpened (view node) → Says (tree_text (view node)) j → IsLeaf j
+shut_leaf node s j e h says =
+    let seen : view node ≡ shut (text_bytes s) = ap view e ∙ view_closed s in
+    (subst IsOpened seen h) j (subst (λ x. Says (tree_text x) j) seen says)
+
+pub nowhere : (e : Edit) (old opened : Node) (s : Text) (t : List ℕ) (P : Pointer) → tree_text (view opened) ≡ tree_text (view old) → opened ≡ Closed s → IsOpened (view opened) → (j : Json) → Says (tree_text (view old)) j → Makes e (tree_text (view old)) j (t ∷ P) (tree_text (view opened)) None
+nowhere e old opened s t P same is h j says = (same, inl (ap (option_and_then (tree_at P)) (leaf_child t j (shut_leaf opened s j is h (subst (λ x. Says x j) (sym same) says)))))
+
+-- ---- the edit of the value as a whole
+
+pub whole_alters : (text : List ℕ) (j : Json) (new : List ℕ) → IsTextOf text j → Alters text j [] j text new new
+whole_alters text j new h = record {
+  before = [];
+  behind = [];
+  whole = sym (append-nil text);
+  leads = refl;
+  stood = record { says = h.0; tight = h.1; alone = λ u w says. subst (λ x. Says x w) (sym (append-nil u)) says };
+  exchanged = sym (append-nil new);
+}
+
+text_of_tree : (t : Tree) (j : Json) → IsWhole t → Says (tree_text t) j → IsTextOf (tree_text t) j
+text_of_tree t j h says = (says, h.1.1.1)
+
+pub read_made : (old : Node) (e : Edit) (out : String Global) → IsWhole (view old) → e ≡ Read → string_bytes out ≡ tree_text (view old) → (j : Json) → Says (tree_text (view old)) j → Makes e (tree_text (view old)) j [] (tree_text (view old)) (Some out)
+read_made old e out h is same j says =
+    let text = tree_text (view old) in
+    subst (λ x. Makes x text j [] text (Some out)) (sym is)
+    (record { way = []; value = j; own = text; left = text; alters = whole_alters text j text (text_of_tree (view old) j h says); is_left = (refl, same); right = tt })
+
+pub put_made : (old new : Node) (e : Edit) (x : Bor (List ℕ)) (s : Text) (out : String Global) → IsWhole (view old) → e ≡ Put x → new ≡ Closed s → text_bytes s ≡ x.now → (j : Json) → Says (tree_text (view old)) j → Makes e (tree_text (view old)) j [] (tree_text (view new)) (Some out)
+put_made old new e x s out h is left same j says =
+    let text = tree_text (view old) in
+    let made : tree_text (view new) ≡ x.now = ap tree_text (ap view left ∙ view_closed s) ∙ same in
+    subst (λ y. Makes y text j [] (tree_text (view new)) (Some out)) (sym is)
+    (record { way = []; value = j; own = text; left = tree_text (view new); alters = whole_alters text j (tree_text (view new)) (text_of_tree (view old) j h says); is_left = made; right = tt })
+
+pub put_whole : (new : Node) (e : Edit) (x : Bor (List ℕ)) (s : Text) → IsReady e → e ≡ Put x → new ≡ Closed s → text_bytes s ≡ x.now → IsWhole (view new)
+put_whole new e x s ready is left same =
+    let value : (w : Json) × IsTextOf x.now w = subst IsReady is ready in
+    subst IsWhole (sym (ap view left ∙ view_closed s)) (tt, subst (λ y. (w : Json) × IsTextOf y w) (sym same) value)
+
+-- ---- in the object or the list
+
+pub taken : (e : Edit) (t : Bor (List ℕ)) (r : Row) (new : List ℕ) (done : Bool) → IsSound (row_view r) → e ≡ Take t → ((j : Json) → Says (tree_text (row_view r)) j → TakesOut (tree_text (row_view r)) j t.now new done) → (j : Json) → Says (tree_text (row_view r)) j → Changes e (tree_text (row_view r)) j new done
+taken e t r new done h is made j says = subst (λ x. Changes x (tree_text (row_view r)) j new done) (sym is) (by_done done (made j says))
+  where
+    by_done : (d : Bool) → TakesOut (tree_text (row_view r)) j t.now new d → Changes (Take t) (tree_text (row_view r)) j new d
+    by_done true m = λ out. record { way = []; value = j; own = tree_text (row_view r); left = new; alters = whole_alters (tree_text (row_view r)) j new (text_of_tree (row_view r) j (row_whole r h) says); is_left = m; right = tt }
+    by_done false m = (m.0, inr (j, refl, m.1))
+
+pub put_in : (e : Edit) (t x : Bor (List ℕ)) (r : Row) (new : List ℕ) (done : Bool) → IsSound (row_view r) → e ≡ Insert t x → ((j : Json) → Says (tree_text (row_view r)) j → PutsIn (tree_text (row_view r)) j t.now x.now new done) → (j : Json) → Says (tree_text (row_view r)) j → Changes e (tree_text (row_view r)) j new done
+put_in e t x r new done h is made j says = subst (λ y. Changes y (tree_text (row_view r)) j new done) (sym is) (by_done done (made j says))
+  where
+    either : PutsIn (tree_text (row_view r)) j t.now x.now new true → (out : List ℕ) → IsMade (Insert t x) (tree_text (row_view r)) j [] new out
+    either (inl m) out = record { way = []; value = j; own = tree_text (row_view r); left = new; alters = whole_alters (tree_text (row_view r)) j new (text_of_tree (row_view r) j (row_whole r h) says); is_left = m; right = tt }
+    either (inr m) out = record { way = t.now ∷ []; value = m.value; own = m.own; left = x.now; alters = m.alters; is_left = (refl, refl); right = (j, refl, m.object) }
+
+    by_done : (d : Bool) → PutsIn (tree_text (row_view r)) j t.now x.now new d → Changes (Insert t x) (tree_text (row_view r)) j new d
+    by_done true m = either m
+    by_done false m = (m.0, inr (j, refl, m.1))
+
+pub answered : (e : Edit) (text : List ℕ) (j : Json) (new : List ℕ) (done : Bool) (found : Option (String Global)) → (done ≡ true → IsSome found) → (done ≡ false → found ≡ None) → Changes e text j new done → Makes e text j [] new found
+answered e text j new true (Some out) some none m = m (string_bytes out)
+answered e text j new true None some none m = absurd (true≢false (sym (some refl)))
+answered e text j new false found some none m = subst (Makes e text j [] new) (sym (none refl)) m
+
+-- ---- a child
+
+-- the value of this number is a whole one
+pub value_whole : (r : Row) (n : ℕ) (v : Node) → IsSound (row_view r) → n < length r.values.items → v ≡ get_or r.values.items n v → IsWhole (view v)
+value_whole r n v h l e =
+    let at = has_text r.named n h.0.cs (pieces_in r.seams.items r.values.items) h.0.suit (omega (arith, pieces_are r.seams.items r.values.items h.1, l)) in
+    (value_sound r.seams.items r.values.items n v h.1 l e, (at.0, subst (λ x. IsTextOf x at.0) (value_there r.seams.items r.values.items n v h.1 l e) at.1))
+
+pub value_low : (r : Row) (n m : ℕ) (v : Node) → IsSound (row_view r) → n < length r.values.items → v ≡ get_or r.values.items n v → m ≡ length (tree_text (view v)) → m ≤ r.length
+value_low r n m v h l e is =
+    let low = value_fits r.named (text_bytes r.hollow) n r.length (pieces_in r.seams.items r.values.items) (omega (arith, pieces_are r.seams.items r.values.items h.1, l)) h.0.size in
+    omega (arith, low, is, ap length (value_there r.seams.items r.values.items n v h.1 l e))
+
+-- the row with another value there
+module _ (r : Row) (n : ℕ) (v w : Node) (h : IsSound (row_view r)) (l : n < length r.values.items) (e : v ≡ get_or r.values.items n v) where
+  count : n < length (pieces_in r.seams.items r.values.items)
+  count = omega (arith, pieces_are r.seams.items r.values.items h.1, l)
+
+  set_text : row_text r.named (text_bytes r.hollow) (pieces_in r.seams.items (slice_set r.values.items n w)) ≡ row_text r.named (text_bytes r.hollow) (with_value n (tree_text (view w)) (pieces_in r.seams.items r.values.items))
+  set_text = ap (row_text r.named (text_bytes r.hollow)) (set_pieces r.seams.items r.values.items n w)
+
+  pub set_is_sound : (k : ℕ) → IsWhole (view w) → k + length (tree_text (view v)) ≡ r.length + length (tree_text (view w)) → IsSound (wide r.named k (text_bytes r.hollow) (parts_of r.seams.items (map view (slice_set r.values.items n w))))
+  set_is_sound k whole size =
+      let old = pieces_in r.seams.items r.values.items in
+      let x = tree_text (view w) in
+      let there : length (value_at n old) ≡ length (tree_text (view v)) = ap length (value_there r.seams.items r.values.items n v h.1 l e) in
+      let fits : k ≡ length (row_text r.named (text_bytes r.hollow) (with_value n x old)) = put_size r.named (text_bytes r.hollow) n r.length k old x count h.0.size (omega (arith, size, there)) in
+      let some = value_of_some r.named old n x whole.1.0 (h.0.cs, h.0.suit) count whole.1.1 in (
+        record {
+          cs = some.0;
+          suit = subst (AllSuit r.named some.0) (sym (set_pieces r.seams.items r.values.items n w)) some.1;
+          blank = h.0.blank;
+          size = fits ∙ ap length (sym set_text);
+        },
+        set_sound r.seams.items r.values.items n w h.1 whole.0,
+      )
+
+  pub set_makes : (e : Edit) (t k : List ℕ) (P : Pointer) (found : Option (String Global)) → k ≡ t
+      → ((cs : List Child) → AllSuit r.named cs (pieces_in r.seams.items r.values.items) → IsNumberOf r.named cs k n)
+      → ((j : Json) → Says (tree_text (view v)) j → Makes e (tree_text (view v)) j P (tree_text (view w)) found) → (j : Json) → Says (tree_text (row_view r)) j
+      → Makes e (tree_text (row_view r)) j (t ∷ P) (row_text r.named (text_bytes r.hollow) (pieces_in r.seams.items (slice_set r.values.items n w))) found
+  set_makes d t k P found is names made j says =
+      let old = pieces_in r.seams.items r.values.items in
+      let x = tree_text (view w) in
+      let there : value_at n old ≡ tree_text (view v) = value_there r.seams.items r.values.items n v h.1 l e in
+      let inner : (j : Json) → Says (value_at n old) j → Makes d (value_at n old) j P x found = subst (λ y. (j : Json) → Says y j → Makes d y j P x found) (sym there) made in
+      subst (λ y. Makes d (tree_text (row_view r)) j (t ∷ P) y found) (sym set_text)
+      (lift r.named (text_bytes r.hollow) t n h.0.cs old x d P found h.0.suit h.0.blank count (subst (λ y. IsNumberOf r.named h.0.cs y n) is (names h.0.cs h.0.suit)) inner j says)
+
+pub value_set : (vs : List Node) (n : ℕ) (v w : Node) → n < length vs → v ≡ get_or (slice_set vs n w) n v → v ≡ w
+value_set [] n v w l e = absurd (omega (arith, l))
+value_set (x ∷ vs) zero v w l e = e
+value_set (x ∷ vs) (suc n) v w l e = value_set vs n v w (omega (arith, l)) e
+
+pub none_made : (e : Edit) (t k : List ℕ) (P : Pointer) (r : Row) → IsSound (row_view r) → k ≡ t → ((cs : List Child) → AllSuit r.named cs (pieces_in r.seams.items r.values.items) → child k (tree_in r.named cs) ≡ None) → (j : Json) → Says (tree_text (row_view r)) j → Makes e (tree_text (row_view r)) j (t ∷ P) (tree_text (row_view r)) None
+none_made e t k P r h is none j says =
+    none_there r.named (text_bytes r.hollow) t h.0.cs (pieces_in r.seams.items r.values.items) e P h.0.suit h.0.blank (subst (λ y. child y (tree_in r.named h.0.cs) ≡ None) is (none h.0.cs h.0.suit)) j says
+
+-- the same of what a call answers, by the tokens that it was given
+pub row_made_at : (c : Result (Option (String Global)) AllocError) (e : Edit) (old opened new : Node) (copy r s : Row) (P Q : Pointer) → Q ≡ P → tree_text (view opened) ≡ tree_text (view old) → copy ≡ r → opened ≡ Open r → new ≡ Open s
+    → IfOk c (λ found. (j : Json) → Says (tree_text (row_view copy)) j → Makes e (tree_text (row_view copy)) j P (tree_text (row_view s)) found) → IfOk c (λ found. (j : Json) → Says (tree_text (view old)) j → Makes e (tree_text (view old)) j Q (tree_text (view new)) found)
+row_made_at c e old opened new copy r s P Q tokens same copied is left given =
+    IfOk-weaker c _ _ (λ found made j says. subst (λ T. Makes e (tree_text (view old)) j T (tree_text (view new)) found) (sym tokens) (row_made e old opened new copy r s P found same copied is left made j says)) given

@@ -1,0 +1,18 @@
+use Rattle.std.proofs.Common.{◌≤◌, ◌-◌, length, List}
+use Rattle.std.specs.Str.{IsCharBoundary}
+use Rattle.json_text.specs.Listing.{IsTextOf}
+use Rattle.json_text.specs.Rows.{Child, tree_in}
+use Rattle.json_pieces.proofs.Lists.{AreSoundIn, pieces_in}
+use Rattle.json_pieces.proofs.Openings.{SoFar}
+use Rattle.json_pieces.proofs.opening.row_of.Given as goal
+
+abbrev pub invariant-loop-cut : goal.invariant-loop-cut
+invariant-loop-cut l = record {
+  low : l.from ≤ length l.text;
+  boundary : IsCharBoundary l.text l.from;
+  sound : AreSoundIn l.seams.items l.values.items;
+  so_far : (cs : List Child) → IsTextOf l.text (tree_in l.named cs) → SoFar l.text l.named cs (pieces_in l.seams.items l.values.items) l.from;
+}
+
+abbrev pub decreases-loop-cut : goal.decreases-loop-cut
+decreases-loop-cut l = length l.text - l.from

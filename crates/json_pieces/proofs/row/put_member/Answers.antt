@@ -1,0 +1,32 @@
+use Rattle.std.proofs.Common.{◌<◌, length, ap, arith}
+use Rattle.json_pieces.specs.Nodes.{row_pieces, text_bytes}
+use Rattle.json_pieces.proofs.Lists.{pieces_are}
+use Rattle.json_pieces.proofs.Rows.PutsIn.{member_exchanged, member_new}
+use Rattle.json_pieces.proofs.Rows.Takes.{none_named, some_named}
+use Rattle.json_pieces.proofs.row.put_member.Goals as goal
+
+pub returns-in-Some-clause-put : goal.returns-in-Some-clause-put
+returns-in-Some-clause-put c =
+    let r = c.args.row.now in
+    let s = c.put_value.new.row in
+    let g = c.in_ok-put_value.ensures in
+    let n = c.in-Some.number in
+    let within : n < length (row_pieces r) = omega (arith, c.in-Some.ensures.within, pieces_are r.seams.items r.values.items c.requires.sound.1, r.values.ok.0) in
+    member_exchanged r.named s.named r.length (text_bytes r.hollow) (text_bytes s.hollow) (row_pieces r) (row_pieces s) n c.args.name.now c.args.value.now c.requires.object g.named (ap text_bytes g.hollow) c.requires.sound.0 g.pieces
+    (some_named r.named (row_pieces r) c.args.name.now c.number_of.result n c.in-Some.is c.number_of.ensures.number) within
+
+pub returns-then-count-eq0-clause-put : goal.returns-then-count-eq0-clause-put
+returns-then-count-eq0-clause-put c =
+    let r = c.args.row.now in
+    let s = c.first_member.new.row in
+    let g = c.in_ok-first_member.ensures in
+    member_new r.named s.named r.length (text_bytes r.hollow) (text_bytes s.hollow) (row_pieces r) (row_pieces s) c.args.name.now (text_bytes c.in_ok-value.value) c.args.value.now c.requires.object g.named c.requires.sound.0 c.in_ok-value.ensures g.pieces
+    (none_named r.named (row_pieces r) c.args.name.now c.number_of.result c.in_default.is c.number_of.ensures.number)
+
+pub returns-clause-put : goal.returns-clause-put
+returns-clause-put c =
+    let r = c.args.row.now in
+    let s = c.next_member.new.row in
+    let g = c.in_ok-next_member.ensures in
+    member_new r.named s.named r.length (text_bytes r.hollow) (text_bytes s.hollow) (row_pieces r) (row_pieces s) c.args.name.now (text_bytes c.in_ok-value.value) c.args.value.now c.requires.object g.named c.requires.sound.0 c.in_ok-value.ensures g.pieces
+    (none_named r.named (row_pieces r) c.args.name.now c.number_of.result c.in_default.is c.number_of.ensures.number)

@@ -1,0 +1,14 @@
+use Rattle.std.proofs.Common.{◌≡◌, true, vec_len}
+use Rattle.json_pieces.specs.Nodes.{IsSound, row_pieces, row_view, text_bytes}
+use Rattle.json_pieces.proofs.Rows.Takes.{IsLessOf}
+use Rattle.json_pieces.proofs.row.take.Given as goal
+
+abbrev pub invariant-loop-number : goal.invariant-loop-number
+invariant-loop-number l = record {
+  named : l.row.named ≡ true;
+  sound : IsSound (row_view l.row);
+  less : IsLessOf l.fn.row.named (text_bytes l.fn.row.hollow) (row_pieces l.fn.row) l.name l.row.named (text_bytes l.row.hollow) (row_pieces l.row);
+}
+
+abbrev pub decreases-loop-number : goal.decreases-loop-number
+decreases-loop-number l = vec_len l.row.values

@@ -1,0 +1,18 @@
+-- What a change leaves of a text, by whether it is made.
+use Rattle.std.specs.Prelude.{◌≡◌, ℕ, List, Bool, true, false}
+use Rattle.jsonptr.specs.Text.{Pointer}
+use Rattle.json_text.specs.Added.{HasNoPlace, IsAdded}
+use Rattle.json_text.specs.Removed.{HasNothingToRemove, IsRemoved}
+use Rattle.json_text.specs.Replaced.{IsReplaced, LeadsNowhere}
+
+abbrev pub Replaces : List ℕ → Pointer → List ℕ → List ℕ → Bool → Type 0
+Replaces text P value new true = IsReplaced text P value new
+Replaces text P value new false = LeadsNowhere text P × (new ≡ text)
+
+abbrev pub Removes : List ℕ → Pointer → List ℕ → Bool → Type 0
+Removes text P new true = IsRemoved text P new
+Removes text P new false = HasNothingToRemove text P × (new ≡ text)
+
+abbrev pub Adds : List ℕ → Pointer → List ℕ → List ℕ → Bool → Type 0
+Adds text P value new true = IsAdded text P value new
+Adds text P value new false = HasNoPlace text P × (new ≡ text)

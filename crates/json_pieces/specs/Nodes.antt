@@ -1,0 +1,121 @@
+-- A value in pieces as a tree, and the text that it makes.
+use Rattle.std.specs.Prelude.{◌≡◌, ℕ, zero, suc, List, [], ◌∷◌, ◌++◌, length, map, Bool, ⊤}
+use Rattle.std.specs.String.{string_bytes}
+use Rattle.json.specs.Json.{Json, string}
+use Rattle.json_text.specs.Cuts.{AllSuit, IsBlank, Piece, opens, row_text}
+use Rattle.json_text.specs.Less.{IsLeaf}
+use Rattle.json_text.specs.Listing.{IsTextOf}
+use Rattle.json_text.specs.Rows.{Child}
+use Rattle.json_lexemes.specs.Spelled.{Says}
+use Rattle.json_pieces.specs.declared.node.Node.{Node}
+use Rattle.json_pieces.specs.declared.node.Node.TheOpen.{Node-F, Row-F}
+use Rattle.json_pieces.specs.declared.node.Node.TheFolds.{fold-Node}
+use Rattle.json_pieces.specs.declared.node.Row.{Row}
+use Rattle.json_pieces.specs.declared.node.Seam.{Seam}
+use Rattle.json_pieces.specs.declared.text.Text.{Text}
+use Rattle.json_pieces.specs.declared.text.Text.TheVariants.{Kept, Made}
+
+abbrev pub text_bytes : Text → List ℕ
+text_bytes (Kept s) = s.now
+text_bytes (Made s) = string_bytes s
+
+-- a part with this value
+abbrev pub piece_with : Seam → List ℕ → Piece
+piece_with s value = record { blank = text_bytes s.blank; name = text_bytes s.name; colons = text_bytes s.colons; value = value; trail = text_bytes s.trail }
+
+-- A value is shut, or wide: a row of parts, with the length that is kept of it and the blanks that it has where it is empty. Of as many
+-- values as seams there are parts; else the row is torn.
+mutual
+  pub data Tree : Type 0 where
+    shut : List ℕ → Tree
+    wide : Bool → ℕ → List ℕ → Parts → Tree
+
+  pub data Parts : Type 0 where
+    none : Parts
+    torn : Parts
+    part : Seam → Tree → Parts → Parts
+
+abbrev pub parts_of : List Seam → List Tree → Parts
+parts_of [] [] = none
+parts_of [] (t ∷ ts) = torn
+parts_of (s ∷ ss) [] = torn
+parts_of (s ∷ ss) (t ∷ ts) = part s t (parts_of ss ts)
+
+abbrev pub view_step : Node-F Tree Tree → Tree
+view_step (Node-F.Closed s) = shut (text_bytes s)
+view_step (Node-F.Open r) = r
+
+abbrev pub row_step : Row-F Tree Tree → Tree
+row_step r = wide r.named r.length (text_bytes r.hollow) (parts_of r.seams.items r.values.items)
+
+abbrev pub view : Node → Tree
+view = fold-Node Tree Tree view_step row_step
+
+abbrev pub row_parts : Row → Parts
+row_parts r = parts_of r.seams.items (map view r.values.items)
+
+abbrev pub row_view : Row → Tree
+row_view r = wide r.named r.length (text_bytes r.hollow) (row_parts r)
+
+-- ---- the text
+
+abbrev mutual
+  pub tree_text : Tree → List ℕ
+  tree_text (shut s) = s
+  tree_text (wide b n hollow ps) = row_text b hollow (pieces ps)
+
+  pub pieces : Parts → List Piece
+  pieces none = []
+  pieces torn = []
+  pieces (part s t ps) = piece_with s (tree_text t) ∷ pieces ps
+
+-- ---- what is kept fits together
+
+-- the parts are those of some members or items, and n is the length of their text
+pub record IsRow (b : Bool) (n : ℕ) (hollow : List ℕ) (ps : List Piece) : Type 0 where
+  pub cs : List Child
+  pub suit : AllSuit b cs ps
+  pub blank : IsBlank hollow
+  pub size : n ≡ length (row_text b hollow ps)
+
+abbrev mutual
+  pub IsSound : Tree → Type 0
+  IsSound (shut s) = ⊤
+  IsSound (wide b n hollow ps) = IsRow b n hollow (pieces ps) × AreSound ps
+
+  pub AreSound : Parts → Type 0
+  AreSound none = ⊤
+  AreSound torn = ⊥
+  AreSound (part s t ps) = IsSound t × AreSound ps
+
+-- it makes the text of a value, with no blank at its front or end
+abbrev pub IsWhole : Tree → Type 0
+IsWhole t = IsSound t × ((j : Json) × IsTextOf (tree_text t) j)
+
+-- before a part of this number: the bracket or a comma
+abbrev pub mark_before : Bool → ℕ → ℕ
+mark_before b zero = opens b
+mark_before b (suc n) = 44
+
+-- before its value
+abbrev pub lead_of : Seam → List ℕ
+lead_of s = text_bytes s.blank ++ (text_bytes s.name ++ text_bytes s.colons)
+
+abbrev pub row_pieces : Row → List Piece
+row_pieces r = pieces (row_parts r)
+
+-- the seams have these children's names
+abbrev pub AreNames : List Seam → List Child → Type 0
+AreNames [] [] = ⊤
+AreNames [] (c ∷ cs) = ⊥
+AreNames (s ∷ ss) [] = ⊥
+AreNames (s ∷ ss) (c ∷ cs) = IsTextOf (text_bytes s.name) (string c.0) × AreNames ss cs
+
+-- neither an object nor a list is shut in it
+abbrev pub IsOpened : Tree → Type 0
+IsOpened (shut s) = (j : Json) → Says s j → IsLeaf j
+IsOpened (wide b n hollow ps) = ⊤
+
+-- the row makes this text
+abbrev pub IsRowOf : List ℕ → Row → Type 0
+IsRowOf text r = IsSound (row_view r) × (tree_text (row_view r) ≡ text)

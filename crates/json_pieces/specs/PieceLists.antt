@@ -1,0 +1,78 @@
+-- The pieces of a row with one changed, taken out or put in.
+use Rattle.std.specs.Prelude.{ℕ, zero, suc, List, [], ◌∷◌, ◌++◌, take, drop}
+use Rattle.json_text.specs.Cuts.{Piece}
+
+-- with another value's text, with other blanks before it, and with others behind it
+abbrev pub valued : List ℕ → Piece → Piece
+valued s p = record { blank = p.blank; name = p.name; colons = p.colons; value = s; trail = p.trail }
+
+abbrev pub led : List ℕ → Piece → Piece
+led s p = record { blank = s; name = p.name; colons = p.colons; value = p.value; trail = p.trail }
+
+abbrev pub trailed : List ℕ → Piece → Piece
+trailed s p = record { blank = p.blank; name = p.name; colons = p.colons; value = p.value; trail = s }
+
+-- the one of number n has the value's text s
+abbrev pub with_value : ℕ → List ℕ → List Piece → List Piece
+with_value n s [] = []
+with_value zero s (p ∷ ps) = valued s p ∷ ps
+with_value (suc n) s (p ∷ ps) = p ∷ with_value n s ps
+
+-- behind the last stand the blanks s
+abbrev pub with_last_trail : List ℕ → List Piece → List Piece
+with_last_trail s [] = []
+with_last_trail s (p ∷ []) = trailed s p ∷ []
+with_last_trail s (p ∷ q ∷ ps) = p ∷ with_last_trail s (q ∷ ps)
+
+-- ---- taken out
+
+-- between these p is taken out: its blanks go to the next, or those behind it to the one before
+abbrev pub taken_from : List Piece → Piece → List Piece → List Piece
+taken_from pre p [] = with_last_trail p.trail pre
+taken_from pre p (q ∷ post) = pre ++ (led p.blank q ∷ post)
+
+abbrev pub taken_by : List Piece → List Piece → List Piece
+taken_by pre [] = pre
+taken_by pre (p ∷ post) = taken_from pre p post
+
+-- without the one of number n
+abbrev pub taken : ℕ → List Piece → List Piece
+taken n ps = taken_by (take n ps) (drop n ps)
+
+-- ---- put in
+
+-- what comes behind p as p does, by the text of its name and of its value; and what comes alone in a row with these blanks
+abbrev pub member_like : Piece → List ℕ → List ℕ → Piece
+member_like p name s = record { blank = p.blank; name = name; colons = p.colons; value = s; trail = p.trail }
+
+abbrev pub member_alone : List ℕ → List ℕ → List ℕ → Piece
+member_alone hollow name s = record { blank = []; name = name; colons = 58 ∷ []; value = s; trail = hollow }
+
+abbrev pub item_between : List ℕ → List ℕ → List ℕ → Piece
+item_between blank s trail = record { blank = blank; name = []; colons = []; value = s; trail = trail }
+
+-- a member more behind the last
+abbrev pub member_pushed : List ℕ → List ℕ → List ℕ → List Piece → List Piece
+member_pushed hollow name s [] = member_alone hollow name s ∷ []
+member_pushed hollow name s (p ∷ []) = trailed [] p ∷ member_like p name s ∷ []
+member_pushed hollow name s (p ∷ q ∷ ps) = p ∷ member_pushed hollow name s (q ∷ ps)
+
+-- an item more behind the last
+abbrev pub item_pushed : List ℕ → List ℕ → List Piece → List Piece
+item_pushed hollow s [] = item_between [] s hollow ∷ []
+item_pushed hollow s (p ∷ []) = trailed [] p ∷ item_between p.blank s p.trail ∷ []
+item_pushed hollow s (p ∷ q ∷ ps) = p ∷ item_pushed hollow s (q ∷ ps)
+
+-- the blanks of the item p between these once another stands before it: of the first those of the second
+abbrev pub blank_like : List Piece → Piece → List Piece → List ℕ
+blank_like [] p [] = p.blank
+blank_like [] p (q ∷ post) = q.blank
+blank_like (o ∷ pre) p post = p.blank
+
+abbrev pub item_put_by : List ℕ → List Piece → List Piece → List Piece
+item_put_by s pre [] = pre
+item_put_by s pre (p ∷ post) = pre ++ (item_between p.blank s [] ∷ led (blank_like pre p post) p ∷ post)
+
+-- an item more before the one of number n
+abbrev pub item_put : ℕ → List ℕ → List Piece → List Piece
+item_put n s ps = item_put_by s (take n ps) (drop n ps)

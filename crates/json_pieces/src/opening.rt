@@ -1,0 +1,140 @@
+//! An object or a list, opened: one pass over its text.
+
+ghost use Rattle.std.specs.Prelude.{◌≡◌, IfOk, MatchOption, OnOk, List, length, ℕ};
+ghost use Rattle.json.specs.Json.{Json};
+ghost use Rattle.json_pieces.specs.Nodes.{IsOpened, IsRowOf, IsSound, IsWhole, piece_with, row_view, text_bytes, tree_text, view};
+ghost use Rattle.json_text.specs.Cuts.{piece_of};
+ghost use Rattle.json_text.specs.Less.{IsLeaf};
+ghost use Rattle.json_text.specs.Listing.{IsTextOf};
+ghost use Rattle.json_text.specs.Rows.{Child, tree_in};
+ghost use Rattle.json_lexemes.specs.Spelled.{Says};
+
+use crate::node::{Node, Row, Seam, written};
+use crate::text::Text;
+use json_text::{Cut, Shape, blanks_at, cut_at};
+use std::alloc::{AllocError, Global};
+
+/// The row of a text that is an object or a list.
+fn row_of<'a>(alloc: Global, text: &'a str, named: bool) -> Result<Row<'a>, AllocError>
+    requires { (cs : List Child) × IsTextOf text.now (tree_in named cs) }
+    ensures { IfOk result (IsRowOf text.now) }
+{
+    let mut seams = Vec::new(alloc);
+    let mut values = Vec::new(alloc);
+    let mut from = 1;
+    while let Some(cut) = cut_at(text, from, named) {
+        seams.push(seam_of(cut))?;
+        values.push(Node::Closed(Text::Kept(cut.value)))?;
+        let Some(next) = cut.next else {
+            return Ok(row_with(text.len(), named, Text::Kept(""), (seams, values)));
+        };
+        from = next;
+    }
+    let hollow = blanks_at(text, from);
+    Ok(row_with(text.len(), named, Text::Kept(hollow), (seams, values)))
+}
+
+/// What stands around a value in its text.
+fn seam_of(cut: Cut<'_>) -> Seam<'_>
+    ensures { piece_with result cut.entry.value.now ≡ piece_of cut.entry }
+{
+    Seam {
+        blank: Text::Kept(cut.blank),
+        name: Text::Kept(cut.name),
+        colons: Text::Kept(cut.colons),
+        trail: Text::Kept(cut.trail),
+    }
+}
+
+/// A row of these parts, which make so many bytes.
+fn row_with<'a>(
+    length: usize,
+    named: bool,
+    hollow: Text<'a>,
+    parts: (Vec<Seam<'a>>, Vec<Node<'a>>),
+) -> Row<'a>
+    ensures named { result.named ≡ named }
+    ensures length { result.length ≡ length }
+    ensures hollow { text_bytes result.hollow ≡ text_bytes hollow.entry }
+    ensures seams { result.seams.items ≡ parts.entry.0.items }
+    ensures values { result.values.items ≡ parts.entry.1.items }
+{
+    let (seams, values) = parts;
+    Row {
+        named,
+        length,
+        hollow,
+        seams,
+        values,
+    }
+}
+
+/// The row of a text; `None` where that is neither an object nor a list.
+fn opened<'a>(alloc: Global, text: &'a str) -> Result<Option<Row<'a>>, AllocError>
+    requires { (j : Json) × IsTextOf text.now j }
+    ensures { IfOk result (λ found. MatchOption found ((j : Json) → Says text.now j → IsLeaf j)
+        (IsRowOf text.now)) }
+{
+    match Shape::of(text) {
+        Shape::Object => Ok(Some(row_of(alloc, text, true)?)),
+        Shape::List => Ok(Some(row_of(alloc, text, false)?)),
+        _ => Ok(None),
+    }
+}
+
+/// The same, of texts of its own.
+fn owned_seam<'a>(alloc: Global, seam: &Seam<'_>) -> Result<Seam<'a>, AllocError>
+    ensures { IfOk result (λ own. (x : List ℕ) → piece_with own x ≡ piece_with seam.now x) }
+{
+    Ok(Seam {
+        blank: Text::made(alloc, seam.blank.as_str())?,
+        name: Text::made(alloc, seam.name.as_str())?,
+        colons: Text::made(alloc, seam.colons.as_str())?,
+        trail: Text::made(alloc, seam.trail.as_str())?,
+    })
+}
+
+/// The same row, of texts of its own.
+fn owned<'a>(alloc: Global, row: &Row<'_>) -> Result<Row<'a>, AllocError>
+    requires { IsSound (row_view row.now) }
+    ensures { IfOk result (IsRowOf (tree_text (row_view row.now))) }
+{
+    let mut seams = Vec::new(alloc);
+    let mut values = Vec::new(alloc);
+    for i in 0..row.values.len() {
+        let text = written(alloc, &row.values[i])?;
+        seams.push(owned_seam(alloc, &row.seams[i])?)?;
+        values.push(Node::Closed(Text::Made(text)))?;
+    }
+    let hollow = Text::made(alloc, row.hollow.as_str())?;
+    Ok(row_with(row.length, row.named, hollow, (seams, values)))
+}
+
+/// The row of a value that is closed, if it is an object or a list.
+fn row_for<'a>(alloc: Global, node: &Node<'a>) -> Result<Option<Row<'a>>, AllocError>
+    requires { IsWhole (view node.now) }
+    ensures { IfOk result (λ found. MatchOption found (IsOpened (view node.now))
+        (IsRowOf (tree_text (view node.now)))) }
+{
+    match node {
+        Node::Open(_) => Ok(None),
+        Node::Closed(Text::Kept(text)) => opened(alloc, text),
+        Node::Closed(Text::Made(text)) => match opened(alloc, text.as_str())? {
+            Some(row) => Ok(Some(owned(alloc, &row)?)),
+            None => Ok(None),
+        },
+    }
+}
+
+/// Opens the value, if it is an object or a list.
+pub(crate) fn open(alloc: Global, node: &mut Node<'_>) -> Result<(), AllocError>
+    requires { IsWhole (view node.old) }
+    ensures whole { OnOk result (IsWhole (view node.new)) }
+    ensures text { OnOk result (tree_text (view node.new) ≡ tree_text (view node.old)) }
+    ensures opened { OnOk result (IsOpened (view node.new)) }
+{
+    if let Some(row) = row_for(alloc, node)? {
+        *node = Node::Open(row);
+    }
+    Ok(())
+}

@@ -1,0 +1,204 @@
+//! A JSON text in pieces.
+
+use crate::edit::{Edit, edit_at};
+use crate::node::{Node, write};
+use crate::text::Text;
+use json_text::{CheckedText, split_blanks};
+use jsonptr::{Pointer, Tokens};
+use std::alloc::{AllocError, Global};
+
+/// A JSON text in pieces.
+///
+/// At first the text is one piece. A call goes down by the pointer's tokens and opens each object and
+/// list that it comes to: one pass over its text, after which it stays open. In an open object a member
+/// is found by comparing names, in an open list an item at once. An open one takes some 170 bytes of
+/// memory for each member or item.
+///
+/// A call that runs out of memory leaves pieces of which nothing is known: let them go. `replace` and
+/// `add` may leave a text that nests deeper than 128 levels, and the next call asks for one that
+/// doesn't; `json_text::laws::depths` tells how deep a text nests after a change.
+#[derive(Drop)]
+pub struct Pieces<'a> {
+    before: &'a str,
+    root: Node<'a>,
+    behind: &'a str,
+}
+
+impl<'a> Pieces<'a> {
+    ghost use Rattle.std.specs.Prelude.{◌≡◌, None, IfOk, MatchOption, OnOk, length};
+    ghost use Rattle.std.specs.String.{string_bytes};
+    ghost use Rattle.json.specs.Json.{Json};
+    ghost use Rattle.jsonptr.specs.Pointers.{tokens_left, tokens_of};
+    ghost use Rattle.json_pieces.specs.Edits.{IsReady, Makes};
+    ghost use Rattle.json_lexemes.specs.Spelled.{Says};
+    ghost use Rattle.json_pieces.specs.Changes.{Adds, Removes, Replaces};
+    ghost use Rattle.json_pieces.specs.Whole.{ArePieces, text_of};
+    ghost use Rattle.json_text.specs.Checked.{text_in};
+    ghost use Rattle.json_text.specs.Pointed.{tree_at, IsWrittenAt};
+    ghost use Rattle.json_lexemes.specs.Spelled.{IsShallowText};
+
+    /// The text, in one piece: it is passed over once, and nothing is copied.
+    ///
+    /// ```rust
+    /// let text = CheckedText::new(alloc, r#"{"list": [1.50, 2] }"#)?;
+    /// let mut pieces = Pieces::new(text);
+    /// ```
+    pub fn new(text: CheckedText<'a>) -> Pieces<'a>
+        ensures pieces { ArePieces result }
+        ensures text { text_of result ≡ text_in text.entry }
+        ensures shallow { (j : Json) × IsShallowText (text_of result) j }
+    {
+        let text = text.as_str();
+        // The length of a text fits a `usize`.
+        let _fits = text.len();
+        let (before, value, behind) = split_blanks(text);
+        let root = Node::Closed(Text::Kept(value));
+        Pieces {
+            before,
+            root,
+            behind,
+        }
+    }
+
+    /// How many bytes the text has. The number is kept, so this costs nothing.
+    pub fn len(&self) -> usize
+        requires { ArePieces self.now }
+        ensures { result ≡ length (text_of self.now) }
+    {
+        self.before.len() + self.root.len() + self.behind.len()
+    }
+
+    /// The text, put together in one new string. The pieces stay as they are.
+    ///
+    /// ```rust
+    /// let new = pieces.to_text(alloc)?;
+    /// ```
+    pub fn to_text(&self, alloc: Global) -> Result<String, AllocError>
+        requires { ArePieces self.now }
+        ensures { IfOk result (λ text. string_bytes text ≡ text_of self.now) }
+    {
+        let mut out = String::with_capacity(alloc, self.len())?;
+        out.push_str(self.before)?;
+        write(&self.root, &mut out)?;
+        out.push_str(self.behind)?;
+        Ok(out)
+    }
+
+    /// Makes the edit, if what is left of it fits a `usize`.
+    fn edit(
+        &mut self,
+        alloc: Global,
+        path: Tokens,
+        edit: Edit,
+    ) -> Result<Option<String>, AllocError>
+        requires pieces { ArePieces self.old }
+        requires ready { IsReady edit }
+        ensures pieces { OnOk result (ArePieces self.new) }
+        ensures makes { IfOk result (λ found. (j : Json) → Says (text_of self.old) j
+            → Makes edit.entry (text_of self.old) j (tokens_left path.entry) (text_of self.new) found) }
+    {
+        let found = edit_at(alloc, &mut self.root, path, edit)?;
+        let around = self.before.len() + self.behind.len();
+        if self.root.len() > usize::MAX - around {
+            return Err(AllocError);
+        }
+        Ok(found)
+    }
+
+    /// The text of the value where the pointer leads (RFC 6901, section 4), as it is written, in a new
+    /// string; `None` where nothing stands there. The text stays as it is, though more of it is open:
+    /// the objects and lists on the way, and not the value.
+    ///
+    /// ```rust
+    /// let list = pieces.value(alloc, place)?;
+    /// // [1.50, 2]
+    /// ```
+    pub fn value(&mut self, alloc: Global, pointer: Pointer) -> Result<Option<String>, AllocError>
+        requires pieces { ArePieces self.old }
+        requires shallow { (j : Json) × IsShallowText (text_of self.old) j }
+        ensures pieces { IfOk result (λ found. ArePieces self.new) }
+        ensures kept { IfOk result (λ found. text_of self.new ≡ text_of self.old) }
+        ensures value { IfOk result (λ found. (j : Json) × IsShallowText (text_of self.old) j
+            × MatchOption found (tree_at (tokens_of pointer.entry) j ≡ None)
+            (λ s. IsWrittenAt (text_of self.old) j (tokens_of pointer.entry) (string_bytes s))) }
+    {
+        self.edit(alloc, pointer.tokens(), Edit::Read)
+    }
+
+    /// Exchanges the value where the pointer leads for another, as it is written, without the blanks
+    /// around it. `false` where nothing stands there, and then the text is as before.
+    ///
+    /// ```rust
+    /// let done = pieces.replace(alloc, place, value)?;
+    /// let new = pieces.to_text(alloc)?;
+    /// // {"list": [1.50, 7] }
+    /// ```
+    pub fn replace(
+        &mut self,
+        alloc: Global,
+        pointer: Pointer,
+        value: CheckedText,
+    ) -> Result<bool, AllocError>
+        requires pieces { ArePieces self.old }
+        requires shallow { (j : Json) × IsShallowText (text_of self.old) j }
+        ensures pieces { IfOk result (λ done. ArePieces self.new) }
+        ensures replaced { IfOk result (Replaces (text_of self.old) (tokens_of pointer.entry) (text_in value.entry) (text_of self.new)) }
+    {
+        let (_, value, _) = split_blanks(value.as_str());
+        let found = self.edit(alloc, pointer.tokens(), Edit::Put(value))?;
+        Ok(found.is_some())
+    }
+
+    /// Takes out the member or item where the pointer leads (RFC 6902, section 4.2), and of several
+    /// members of one name all, with the comma and the blanks that `json_text::remove` cuts. `false`
+    /// where nothing stands there, and of the whole, and then the text is as before. In a long list or
+    /// object those behind it move up.
+    ///
+    /// ```rust
+    /// let done = pieces.remove(alloc, place)?;
+    /// let new = pieces.to_text(alloc)?;
+    /// // {"list": [1.50] }
+    /// ```
+    pub fn remove(&mut self, alloc: Global, pointer: Pointer) -> Result<bool, AllocError>
+        requires pieces { ArePieces self.old }
+        requires shallow { (j : Json) × IsShallowText (text_of self.old) j }
+        ensures pieces { IfOk result (λ done. ArePieces self.new) }
+        ensures removed { IfOk result (Removes (text_of self.old) (tokens_of pointer.entry) (text_of self.new)) }
+    {
+        let Some((parent, last)) = pointer.split_back() else {
+            return Ok(false);
+        };
+        let name = last.decoded(alloc)?;
+        let found = self.edit(alloc, parent.tokens(), Edit::Take(name.as_str()))?;
+        Ok(found.is_some())
+    }
+
+    /// Adds a value where the pointer leads (RFC 6902, section 4.1), as it is written, with the comma,
+    /// the blanks and the colon that `json_text::add` gives it. `false` where there is no place for it,
+    /// and then the text is as before. In a long list those behind it move down.
+    ///
+    /// ```rust
+    /// let done = pieces.add(alloc, place, value)?;
+    /// let new = pieces.to_text(alloc)?;
+    /// // {"list": [1.50, 7, 2] }
+    /// ```
+    pub fn add(
+        &mut self,
+        alloc: Global,
+        pointer: Pointer,
+        value: CheckedText,
+    ) -> Result<bool, AllocError>
+        requires pieces { ArePieces self.old }
+        requires shallow { (j : Json) × IsShallowText (text_of self.old) j }
+        ensures pieces { IfOk result (λ done. ArePieces self.new) }
+        ensures added { IfOk result (Adds (text_of self.old) (tokens_of pointer.entry) (text_in value.entry) (text_of self.new)) }
+    {
+        let Some((parent, last)) = pointer.split_back() else {
+            return self.replace(alloc, pointer, value);
+        };
+        let (_, value, _) = split_blanks(value.as_str());
+        let name = last.decoded(alloc)?;
+        let found = self.edit(alloc, parent.tokens(), Edit::Insert(name.as_str(), value))?;
+        Ok(found.is_some())
+    }
+}

@@ -1,0 +1,50 @@
+//! A stretch of the first text, or one that was made since.
+
+ghost use Rattle.std.specs.Prelude.{◌≡◌, IfOk, length};
+ghost use Rattle.json_pieces.specs.Nodes.{text_bytes};
+
+use std::alloc::{AllocError, Global};
+
+/// A stretch of the first text, or one that was made since.
+#[derive(Drop)]
+pub(crate) enum Text<'a> {
+    Kept(&'a str),
+    Made(String),
+}
+
+impl<'a> Text<'a> {
+    pub(crate) fn as_str(&self) -> &str
+        ensures { result.now ≡ text_bytes self.now }
+    {
+        match self {
+            Text::Kept(text) => text,
+            Text::Made(text) => text.as_str(),
+        }
+    }
+
+    pub(crate) fn len(&self) -> usize
+        ensures { result ≡ length (text_bytes self.now) }
+    {
+        self.as_str().len()
+    }
+
+    /// One that is made anew.
+    pub(crate) fn made(alloc: Global, text: &str) -> Result<Text<'a>, AllocError>
+        ensures { IfOk result (λ made. text_bytes made ≡ text.now) }
+    {
+        if text.is_empty() {
+            return Ok(Text::Kept(""));
+        }
+        Ok(Text::Made(String::from_str(alloc, text)?))
+    }
+
+    /// The same text once more.
+    pub(crate) fn copied(&self, alloc: Global) -> Result<Text<'a>, AllocError>
+        ensures { IfOk result (λ copy. text_bytes copy ≡ text_bytes self.now) }
+    {
+        match self {
+            Text::Kept(text) => Ok(Text::Kept(text)),
+            Text::Made(text) => Text::made(alloc, text.as_str()),
+        }
+    }
+}
