@@ -1,8 +1,6 @@
 -- A run within limits, one step at a time: each text on the way is within, up to the one that is over.
 use Rattle.std.proofs.Common.{◌≡◌, ◌⊎◌, inl, inr, Bool, false, ◌<◌, ◌≤◌, ◌+◌, ℕ, zero, suc, List, [], ◌∷◌, length, take, Option, Some, None, refl, sym, ap, ◌∙◌, subst, add-one, arith}
-use Rattle.std.specs.Prelude.{slice_get, MatchOption, Ok}
-use Rattle.std.specs.String.{string_bytes}
-use Rattle.json_patch_text.specs.declared.step.NewText.{NewText}
+use Rattle.std.specs.Prelude.{slice_get, MatchOption}
 use Rattle.std.specs.Bool.{Decides}
 use Rattle.std.proofs.lemmas.Bool.{cases_lt, false≢true}
 use Rattle.json.specs.Json.{Json, max_depth}
@@ -10,13 +8,13 @@ use Rattle.json.specs.Tree.{depth}
 use Rattle.json_patch_limits.specs.declared.limits.LimitKind.{LimitKind}
 use Rattle.json_patch_limits.specs.declared.limits.Limits.{Limits}
 use Rattle.json_patch_text.specs.Bounded.{AreMadeUnder, IsLeftUnder, IsOverUnder, IsReachedUnder, IsUnder, OverBy, levels_of, most_of}
-use Rattle.json_patch_text.specs.Made.{AreMadeIn, IsMadeIn, IsNoDeeper, IsStepped, IsStopped, text_or}
+use Rattle.json_patch_text.specs.Made.{AreMadeIn, IsLeft, IsMadeIn, IsNoDeeper, IsStopped}
 use Rattle.json_patch_text.specs.Operations.{TreeOperation}
 use Rattle.json_patch_text.specs.Reached.{IsReached}
 use Rattle.json_patch_text.specs.Run.{AcceptsText}
 use Rattle.json_patch_text.specs.Stopped.{IsRunFault, Reports}
 use Rattle.json_patch_text.specs.TextOperations.{AreWrittenAs, IsWrittenAs, place_of}
-use Rattle.json_patch_text.specs.Within.{AreMadeWithin, IsTextOver, IsTextWithin}
+use Rattle.json_patch_text.specs.Within.{AreMadeWithin, IsTextWithin}
 use Rattle.json_patch_text.specs.declared.bounds.Bounds.{Bounds}
 use Rattle.json_patch_text.specs.declared.fault.PatchTextFault.{PatchTextFault}
 use Rattle.json_patch_text.specs.declared.fault.PatchTextFault.TheVariants.{Document, Patch, Unreadable, Refused, TooDeep, Memory}
@@ -63,27 +61,12 @@ under_more (Some b) text left new os k o less at h r m w = within_more b.limits 
 pub reached_under_first : (b : Option Bounds) (text new : List ℕ) (os : List TextOperation) → new ≡ text → IsReached text os 0 new → IsUnder b text → IsReachedUnder b text os 0 new
 reached_under_first b text new os e r h = (r, subst (AreMadeUnder b text (take 0 os)) (sym e) (under_first b text os h))
 
--- an operation that leaves the text as it was, or another text that is within
-reached_under_more : (b : Option Bounds) (text left : List ℕ) (os : List TextOperation) (k : ℕ) (o : TextOperation) (x : Option NewText) → k < length os → IsAt os k o → IsReachedUnder b text os k left → IsMadeIn left o (text_or left x)
-    → ((i : Json) (op : TreeOperation) → Says left i → IsWrittenAs o op → IsStepped i op (Ok x)) → IsUnder b (text_or left x) → IsReachedUnder b text os (k + 1) (text_or left x)
-reached_under_more b text left os k o x less at r made comes under =
-    let next : IsReached text os (k + 1) (text_or left x) = reached_more text left os k o x less at r.0 made comes in
-    let bytes = under_more b text left (text_or left x) os k o less at r (subst (λ n. IsReached text os n (text_or left x)) (add-one k) next) made under in
-    (next, subst (λ n. AreMadeUnder b text (take n os) (text_or left x)) (sym (add-one k)) bytes)
-
-pub reached_under_same : (b : Option Bounds) (text t left : List ℕ) (os : List TextOperation) (k : ℕ) (o : TextOperation) (x : Option NewText) → t ≡ left → ((new : NewText) → x ≡ Some new → ⊥) → k < length os → IsAt os k o → IsReachedUnder b text os k left → IsMadeIn t o (text_or t x)
-    → ((i : Json) (op : TreeOperation) → Says t i → IsWrittenAs o op → IsStepped i op (Ok x)) → IsReachedUnder b text os (k + 1) left
-reached_under_same b text t left os k o None q none less at r made comes =
-    let here : IsReachedUnder b text os k t = subst (IsReachedUnder b text os k) (sym q) r in
-    subst (IsReachedUnder b text os (k + 1)) q (reached_under_more b text t os k o None less at here made comes (last_under b text (take k os) t here.1))
-reached_under_same b text t left os k o (Some new) q none less at r made comes = absurd (none new refl)
-
-pub reached_under_next : (b : Option Bounds) (text t left : List ℕ) (new : NewText) (os : List TextOperation) (k : ℕ) (o : TextOperation) (x : Option NewText) → t ≡ left → x ≡ Some new → k < length os → IsAt os k o → IsReachedUnder b text os k left → IsMadeIn t o (text_or t x)
-    → ((i : Json) (op : TreeOperation) → Says t i → IsWrittenAs o op → IsStepped i op (Ok x)) → IsUnder b (string_bytes new.text) → IsReachedUnder b text os (k + 1) (string_bytes new.text)
-reached_under_next b text t left new os k o x q e less at r made comes under =
-    let here : IsReachedUnder b text os k t = subst (IsReachedUnder b text os k) (sym q) r in
-    let is : text_or t x ≡ string_bytes new.text = ap (text_or t) e in
-    subst (IsReachedUnder b text os (k + 1)) is (reached_under_more b text t os k o x less at here made comes (subst (IsUnder b) (sym is) under))
+pub reached_under_more : (b : Option Bounds) (text left new : List ℕ) (os : List TextOperation) (k : ℕ) (o : TextOperation) → k < length os → IsAt os k o → IsReachedUnder b text os k left → IsMadeIn left o new
+    → ((i : Json) (op : TreeOperation) → Says left i → IsWrittenAs o op → IsLeft new i op) → IsUnder b new → IsReachedUnder b text os (k + 1) new
+reached_under_more b text left new os k o less at r made comes under =
+    let next : IsReached text os (k + 1) new = reached_more text left new os k o less at r.0 made comes in
+    let bytes = under_more b text left new os k o less at r (subst (λ n. IsReached text os n new) (add-one k) next) made under in
+    (next, subst (λ n. AreMadeUnder b text (take n os) new) (sym (add-one k)) bytes)
 
 -- what a look at a text tells that isn't over
 pub not_over : (b : Option Bounds) (text : List ℕ) (o : Option LimitKind) → ((kind : LimitKind) → o ≡ Some kind → ⊥) → MatchOption o (IsUnder b text) (OverBy b text) → IsUnder b text
@@ -97,20 +80,17 @@ at_get [] k o less at = absurd (omega arith)
 at_get (x ∷ os) zero o less at = ap Some (sym at)
 at_get (x ∷ os) (suc k) o less at = at_get os k o (omega arith) at
 
-pub over_reached : (b : Option Bounds) (text t left : List ℕ) (new : NewText) (os : List TextOperation) (ops : List TreeOperation) (k : ℕ) (o : TextOperation) (x : Option NewText) (kind : LimitKind) → (j : Json) × IsShallowText text j → t ≡ left → x ≡ Some new → k < length os → IsAt os k o
-    → IsReachedUnder b text os k left → IsMadeIn t o (text_or t x) → ((i : Json) (op : TreeOperation) → Says t i → IsWrittenAs o op → IsStepped i op (Ok x)) → OverBy b (string_bytes new.text) kind → AreWrittenAs os ops → IsOverUnder b text os ops k kind
-over_reached None text t left new os ops k o x kind a q e less at r made comes over w = absurd over
-over_reached (Some b) text t left new os ops k o x kind a q e less at r made comes over w =
-    let here : IsReachedUnder (Some b) text os k t = subst (IsReachedUnder (Some b) text os k) (sym q) r in
-    let next = reached_more text t os k o x less at here.0 made comes in
-    record {
-      left = t;
-      before = here.1;
-      new = text_or t x;
-      made = (o, at_get os k o less at, made);
-      accepted = subst (λ n. AcceptsText text (take n ops) (text_or t x)) (add-one k) (accepted_first text (text_or t x) os ops (k + 1) a next w);
-      over = subst (λ y. IsTextOver b.limits (most_of b) (text_or t y) kind) (sym e) over;
-    }
+pub over_reached : (b : Option Bounds) (text left new : List ℕ) (os : List TextOperation) (ops : List TreeOperation) (k : ℕ) (o : TextOperation) (kind : LimitKind) → (j : Json) × IsShallowText text j → k < length os → IsAt os k o
+    → IsReachedUnder b text os k left → IsMadeIn left o new → ((i : Json) (op : TreeOperation) → Says left i → IsWrittenAs o op → IsLeft new i op) → OverBy b new kind → AreWrittenAs os ops → IsOverUnder b text os ops k kind
+over_reached None text left new os ops k o kind a less at r made comes over w = absurd over
+over_reached (Some b) text left new os ops k o kind a less at r made comes over w = record {
+  left = left;
+  before = r.1;
+  new = new;
+  made = (o, at_get os k o less at, made);
+  accepted = subst (λ n. AcceptsText text (take n ops) new) (add-one k) (accepted_first text new os ops (k + 1) a (reached_more text left new os k o less at r.0 made comes) w);
+  over = over;
+}
 
 -- ---- where it isn't made
 
@@ -123,17 +103,11 @@ left_under b text left os ops k o f (Refused g) a less at r stops (is, number, p
 left_under b text left os ops k o f (TooDeep n) a less at r stops e w = absurd e
 left_under b text left os ops k o f (Memory m) a less at r stops e w = tt
 
-pub reported_under : (b : Option Bounds) (text t left : List ℕ) (os : List TextOperation) (ops : List TreeOperation) (k : ℕ) (o : TextOperation) (f : StepFault) (r : PatchTextFault) → (j : Json) × IsShallowText text j → t ≡ left → k < length os → IsAt os k o → IsReachedUnder b text os k left
-    → ((i : Json) (op : TreeOperation) → Says t i → IsWrittenAs o op → IsStopped i op f) → Reports f k (place_of o) r → AreWrittenAs os ops → IsRunFault text os ops r × IsLeftUnder b text os r
-reported_under b text t left os ops k o f r a q less at h stops e w =
-    let here : IsReachedUnder b text os k t = subst (IsReachedUnder b text os k) (sym q) h in
-    (reported_fault text t os ops k o f r a less at here.0 stops e w, left_under b text t os ops k o f r a less at here stops e w)
+pub reported_under : (b : Option Bounds) (text left : List ℕ) (os : List TextOperation) (ops : List TreeOperation) (k : ℕ) (o : TextOperation) (f : StepFault) (r : PatchTextFault) → (j : Json) × IsShallowText text j → k < length os → IsAt os k o → IsReachedUnder b text os k left
+    → ((i : Json) (op : TreeOperation) → Says left i → IsWrittenAs o op → IsStopped i op f) → Reports f k (place_of o) r → AreWrittenAs os ops → IsRunFault text os ops r × IsLeftUnder b text os r
+reported_under b text left os ops k o f r a less at h stops e w = (reported_fault text left os ops k o f r a less at h.0 stops e w, left_under b text left os ops k o f r a less at h stops e w)
 
 -- ---- how deep it nests
-
-pub shallow_levels : (b : Option Bounds) → levels_of b ≤ max_depth
-shallow_levels None = omega arith
-shallow_levels (Some b) = omega arith
 
 within_levels : (b : Option Bounds) (left : List ℕ) → IsUnder b left → nesting left ≤ max_depth → nesting left ≤ levels_of b
 within_levels None left u h = h
@@ -153,20 +127,19 @@ first_shallow text new e (j, s) =
     ((λ h. absurd (false≢true h)), (λ h. absurd (omega arith)))
 
 -- the text on which an operation works needs no check
-pub reached_shallow : (b : Option Bounds) (text t left : List ℕ) (os : List TextOperation) (k : ℕ) (deep : Bool) → (j : Json) × IsShallowText text j → (ops : List TreeOperation) × AreWrittenAs os ops → t ≡ left → IsReachedUnder b text os k left → Decides deep (max_depth < nesting left) → deep ≡ false → (m : Json) × IsShallowText t m
-reached_shallow b text t left os k deep (j, s) (ops, w) q r d e =
+pub reached_shallow : (b : Option Bounds) (text left : List ℕ) (os : List TextOperation) (k : ℕ) (deep : Bool) → (j : Json) × IsShallowText text j → (ops : List TreeOperation) × AreWrittenAs os ops → IsReachedUnder b text os k left → Decides deep (max_depth < nesting left) → deep ≡ false → (m : Json) × IsShallowText left m
+reached_shallow b text left os k deep (j, s) (ops, w) r d e =
     let (m, said, reaches) = r.0.tree j ops s.0 w in
     let same : nesting left ≡ depth m = nests left m said in
     let shallow : nesting left ≤ max_depth = not_deep deep left d e in
-    (m, (subst (λ x. Says x m) (sym q) said, omega arith))
+    (m, (said, omega arith))
 
 pub written_here : (os : List TextOperation) (k : ℕ) (o : TextOperation) → k < length os → IsAt os k o → (ops : List TreeOperation) × AreWrittenAs os ops → (op : TreeOperation) × IsWrittenAs o op
 written_here os k o less at (ops, w) = let (op, here, is) = written_at os ops k o less at w in (op, is)
 
 -- what a step says of how deep its text nests
-pub step_shallow : (b : Option Bounds) (text t left : List ℕ) (os : List TextOperation) (k levels : ℕ) (deep : Bool) (new : NewText) → t ≡ left → levels ≡ levels_of b → IsReachedUnder b text os k left → Decides deep (max_depth < nesting left) → deep ≡ false
-    → IsNoDeeper levels t new → new.deeper ≡ false → nesting (string_bytes new.text) ≤ levels_of b
-step_shallow b text t left os k levels deep new q l r d e h f =
+pub step_shallow : (b : Option Bounds) (text left new : List ℕ) (os : List TextOperation) (k levels : ℕ) (deep deeper : Bool) → levels ≡ levels_of b → IsReachedUnder b text os k left → Decides deep (max_depth < nesting left) → deep ≡ false
+    → IsNoDeeper levels left new deeper → deeper ≡ false → nesting new ≤ levels_of b
+step_shallow b text left new os k levels deep deeper l r d e h f =
     let under : nesting left ≤ levels_of b = within_levels b left (last_under b text (take k os) left r.1) (not_deep deep left d e) in
-    let before : nesting t ≤ levels = subst (λ x. nesting x ≤ levels) (sym q) (subst (λ n. nesting left ≤ n) (sym l) under) in
-    subst (λ n. nesting (string_bytes new.text) ≤ n) l (h f before)
+    subst (λ n. nesting new ≤ n) l (h f (subst (λ n. nesting left ≤ n) (sym l) under))

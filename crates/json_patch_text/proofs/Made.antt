@@ -1,5 +1,5 @@
 -- What json_text's calls make of a text is what operations come to, and why not.
-use Rattle.std.proofs.Common.{◌≡◌, ◌≤◌, ℕ, List, Bool, true, false, Option, Some, None, Result, Ok, Err, IfOk, if◌then◌else◌, refl, sym, ap, ap₂, ◌∙◌, subst, arith}
+use Rattle.std.proofs.Common.{◌≡◌, ◌≤◌, ℕ, List, Bool, true, false, Option, Some, None, Result, Ok, Err, IfOk, IfErr, if◌then◌else◌, refl, sym, ap, ap₂, ◌∙◌, subst, arith}
 use Rattle.std.specs.Bool.{Decides}
 use Rattle.std.proofs.lemmas.Option.{same_Some}
 use Rattle.std.proofs.lemmas.Result.{IfOk-at_ok}
@@ -10,7 +10,7 @@ use Rattle.json_patch_edit.proofs.StepOutcomes.{not_begins, prefix_begins}
 use Rattle.json_patch_operation.specs.declared.error.PatchErrorKind.{PatchErrorKind}
 use Rattle.json_patch_operation.specs.declared.error.PatchErrorKind.TheVariants.{TestFailed, InvalidFromPointer, InvalidPointer, CannotMoveInsideItself}
 use Rattle.json_patch_text.specs.Changed.{added, removed, replaced}
-use Rattle.json_patch_text.specs.Made.{IsLeft, IsNotMade, IsStopped}
+use Rattle.json_patch_text.specs.Made.{IsLeft, IsMoved, IsNotMade, IsStopped}
 use Rattle.json_patch_text.specs.Operations.{add, remove, replace, move, copy, test}
 use Rattle.json_patch_text.specs.Step.{ComesTo, Tests, or_refused, after_move, after_copy}
 use Rattle.json_patch_text.specs.declared.fault.StepFault.{StepFault}
@@ -23,7 +23,7 @@ use Rattle.json_text.specs.Removed.{HasNothingToRemove, IsRemoved}
 use Rattle.json_text.specs.Replaced.{IsReplaced, LeadsNowhere}
 use Rattle.json_lexemes.specs.Spelled.{IsShallowText, Says}
 use Rattle.json_lexemes.proofs.Nests.{one_tree, read_is}
-use Rattle.json_text.proofs.Readable.{part_shallow}
+use Rattle.json_text.proofs.Readable.{part_says, part_shallow}
 
 -- ---- add
 
@@ -64,11 +64,6 @@ replace_stops text P i w (step.Memory m) said h = tt
 
 -- ---- what stands at `from`
 
--- the text says i, in which s is written at F
-abbrev pub Stands : List ℕ → Pointer → Option (List ℕ) → Type 0
-Stands text F None = (j : Json) × IsShallowText text j × (tree_at F j ≡ None)
-Stands text F (Some s) = (j : Json) × IsShallowText text j × IsWrittenAt text j F s
-
 abbrev Source : List ℕ → Pointer → Json → List ℕ → Type 0
 Source text F i s = (v : Json) × (tree_at F i ≡ Some v) × IsShallowText s v × IsShallowText text i
 
@@ -79,6 +74,10 @@ source text F i s (j, shallow, (before, behind, whole, (v, at, stretch))) said =
 
 pub nowhere : (text : List ℕ) (F : Pointer) (i : Json) → (j : Json) × IsShallowText text j × (tree_at F j ≡ None) → Says text i → tree_at F i ≡ None
 nowhere text F i (j, shallow, none) said = subst (λ x. tree_at F x ≡ None) (one_tree text j i shallow.0 said) none
+
+-- s needs no check
+pub part_known : (text s v : List ℕ) (F : Pointer) → (j : Json) × IsShallowText text j × IsWrittenAt text j F s → v ≡ s → (w : Json) × IsShallowText v w
+part_known text s v F (j, shallow, (before, behind, whole, between)) e = subst (λ x. (w : Json) × IsShallowText x w) (sym e) (part_says text before s behind F j shallow between)
 
 -- ---- copy
 
@@ -96,6 +95,15 @@ copy_stops text s F P i (step.Refused kind) a said h =
     let (v, at, shallow, whole) = source text F i s a said in
     ap Err h.0 ∙ sym (ap (after_copy i P) at ∙ ap (or_refused InvalidPointer) (no_place text P v i said h.1))
 copy_stops text s F P i (step.Memory m) a said h = tt
+
+-- what comes of a call that adds s, which stands at F
+pub copied_tree : (text s new : List ℕ) (F P : Pointer) (r : Result Bool StepFault) → (j : Json) × IsShallowText text j × IsWrittenAt text j F s → IfOk r (λ deeper. IsAdded text P s new) → IfOk r (λ deeper. (i : Json) → Says text i → IsLeft new i (copy F P))
+copied_tree text s new F P (Ok deeper) a h = λ i said. copy_comes text s new F P i a said h
+copied_tree text s new F P (Err f) a h = tt
+
+pub copied_stopped : (text s : List ℕ) (F P : Pointer) (r : Result Bool StepFault) → (j : Json) × IsShallowText text j × IsWrittenAt text j F s → IfErr r (IsNotMade (HasNoPlace text P)) → IfErr r (λ f. (i : Json) → Says text i → IsStopped i (copy F P) f)
+copied_stopped text s F P (Ok deeper) a h = tt
+copied_stopped text s F P (Err f) a h = λ i said. copy_stops text s F P i f a said h
 
 -- ---- move
 
@@ -145,6 +153,21 @@ move_stops text s less F P i (step.Refused kind) out a said r h =
     let (m, (is, lower)) = taken text less F i whole r in
     ap Err h.0 ∙ sym (ap (λ b. moves b P (tree_at F i) (removed F i)) (not_begins F P out) ∙ ap₂ (after_move P) at is ∙ ap (or_refused InvalidPointer) (no_place less P v m lower.0 h.1))
 move_stops text s less F P i (step.Memory e) out a said r h = tt
+
+-- what comes of a call that adds s, which stood at F, where this is removed
+pub moved_bytes : (text s less new : List ℕ) (F P : Pointer) (r : Result Bool StepFault) → (j : Json) × IsShallowText text j × IsWrittenAt text j F s → IsRemoved text F less → IfOk r (λ deeper. IsAdded less P s new) → IfOk r (λ deeper. IsMoved text F P new)
+moved_bytes text s less new F P (Ok deeper) (j, shallow, written) gone h = (j, s, less, shallow.0, written, gone, h)
+moved_bytes text s less new F P (Err f) a gone h = tt
+
+pub moved_tree : (text s less new : List ℕ) (F P : Pointer) (r : Result Bool StepFault) → (IsProperPrefix F P → ⊥) → (j : Json) × IsShallowText text j × IsWrittenAt text j F s → IsRemoved text F less → IfOk r (λ deeper. IsAdded less P s new)
+    → IfOk r (λ deeper. (i : Json) → Says text i → IsLeft new i (move F P))
+moved_tree text s less new F P (Ok deeper) out a gone h = λ i said. move_comes text s less new F P i out a said gone h
+moved_tree text s less new F P (Err f) out a gone h = tt
+
+pub moved_stopped : (text s less : List ℕ) (F P : Pointer) (r : Result Bool StepFault) → (IsProperPrefix F P → ⊥) → (j : Json) × IsShallowText text j × IsWrittenAt text j F s → IsRemoved text F less → IfErr r (IsNotMade (HasNoPlace less P))
+    → IfErr r (λ f. (i : Json) → Says text i → IsStopped i (move F P) f)
+moved_stopped text s less F P (Ok deeper) out a gone h = tt
+moved_stopped text s less F P (Err f) out a gone h = λ i said. move_stops text s less F P i f out a said gone h
 
 -- ---- test
 

@@ -1,11 +1,10 @@
 -- A run over the operations of a patch's text, one step at a time.
-use Rattle.std.proofs.Common.{◌≡◌, ◌<◌, ◌+◌, ℕ, zero, suc, List, [], ◌∷◌, length, take, get_or, Option, Some, None, option_map, Ok, Err, refl, sym, ap, ◌∙◌, subst, add-one, arith}
+use Rattle.std.proofs.Common.{◌≡◌, ◌<◌, ◌+◌, ℕ, zero, suc, List, [], ◌∷◌, length, take, get_or, Some, option_map, Ok, Err, refl, sym, ap, ◌∙◌, subst, add-one, arith}
 use Rattle.std.specs.Prelude.{slice_get}
-use Rattle.json_patch_text.specs.declared.step.NewText.{NewText}
 use Rattle.std.proofs.lemmas.Option.{none-some, same_Some}
 use Rattle.json.specs.Json.{Json}
 use Rattle.json_patch_operation.specs.declared.error.PatchErrorKind.{PatchErrorKind}
-use Rattle.json_patch_text.specs.Made.{AreMadeIn, IsMadeIn, IsStepped, IsStopped, text_or}
+use Rattle.json_patch_text.specs.Made.{AreMadeIn, IsLeft, IsMadeIn, IsStopped}
 use Rattle.json_patch_text.specs.Operations.{TreeOperation, add, remove, replace, move, copy, test, path_of}
 use Rattle.json_patch_text.specs.Reached.{IsReached, Reaches}
 use Rattle.json_patch_text.specs.Run.{AcceptsText, AcceptsTree, RefusesTreeAt}
@@ -79,18 +78,14 @@ reached_first text new os e = record {
   tree = λ i ops said w. (i, subst (λ t. Says t i) (sym e) said, refl);
 }
 
-left_by : (text : List ℕ) (i : Json) (op : TreeOperation) (o : Option NewText) → Says text i → IsStepped i op (Ok o) → (j : Json) × Says (text_or text o) j × ComesTo i op (Ok j)
-left_by text i op None said h = (i, said, h)
-left_by text i op (Some new) said h = h
-
-pub reached_more : (text left : List ℕ) (os : List TextOperation) (k : ℕ) (o : TextOperation) (x : Option NewText) → k < length os → IsAt os k o → IsReached text os k left → IsMadeIn left o (text_or left x)
-    → ((i : Json) (op : TreeOperation) → Says left i → IsWrittenAs o op → IsStepped i op (Ok x)) → IsReached text os (k + 1) (text_or left x)
-reached_more text left os k o x less at r made comes = subst (λ n. IsReached text os n (text_or left x)) (sym (add-one k)) record {
-  made = made_more text left (text_or left x) os k o less at r.made made;
+pub reached_more : (text left new : List ℕ) (os : List TextOperation) (k : ℕ) (o : TextOperation) → k < length os → IsAt os k o → IsReached text os k left → IsMadeIn left o new → ((i : Json) (op : TreeOperation) → Says left i → IsWrittenAs o op → IsLeft new i op)
+    → IsReached text os (k + 1) new
+reached_more text left new os k o less at r made comes = subst (λ n. IsReached text os n new) (sym (add-one k)) record {
+  made = made_more text left new os k o less at r.made made;
   tree = λ i ops said w.
       let (m, m_said, reaches) = r.tree i ops said w in
       let (op, here, is) = written_at os ops k o less at w in
-      let (n, n_said, step_comes) = left_by left m op x m_said (comes m op m_said is) in
+      let (n, n_said, step_comes) = comes m op m_said is in
       (n, n_said, reaches_more i m n ops k op here reaches step_comes);
 }
 

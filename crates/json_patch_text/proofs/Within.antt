@@ -7,11 +7,9 @@ use Rattle.json_patch_text.specs.Bounded.{AreMadeUnder, IsRunFaultUnder, most_of
 use Rattle.json_patch_text.specs.Made.{IsNoText}
 use Rattle.json_patch_text.specs.Operations.{TreeOperation}
 use Rattle.json_patch_text.specs.Patched.{HasTexts, IsPatchedText}
-use Rattle.json_patch_text.specs.Stopped.{IsUnread}
 use Rattle.json_patch_text.specs.TextOperations.{AreWrittenAs}
 use Rattle.json_patch_text.specs.Within.{AreMadeWithin, IsNoTextWithin, IsTextLimitFault, IsTextOverAt, IsTextWithin, most_bytes}
 use Rattle.json_patch_text.specs.declared.bounds.Bounds.{Bounds}
-use Rattle.json_patch_text.specs.declared.fault.PatchTextFault.{PatchTextFault}
 use Rattle.json_patch_text.specs.declared.fault.PatchTextFault.TheVariants.{Document, Patch, Unreadable, Refused, TooDeep, Memory}
 use Rattle.json_patch_text.specs.declared.fault.TextLimitFault.{TextLimitFault}
 use Rattle.json_patch_text.specs.declared.fault.TextLimitFault.TheVariants as within
@@ -25,15 +23,6 @@ no_text : (l : Limits) (text : List ℕ) (f : TextFault) → IsNoText text f →
 no_text l text fault.NotJson h = h
 no_text l text fault.TooDeep h = inr h
 no_text l text (fault.Memory m) h = h
-
--- the patch's text isn't read
-pub unread_within : (l : Limits) (text patch : List ℕ) (f : PatchTextFault) → IsUnread patch f → IsTextLimitFault l text patch (within.Patch f)
-unread_within l text patch (Document f) h = absurd h
-unread_within l text patch (Patch f) h = h
-unread_within l text patch (Unreadable e) h = h
-unread_within l text patch (Refused e) h = absurd h
-unread_within l text patch (TooDeep k) h = absurd h
-unread_within l text patch (Memory m) h = tt
 
 -- its operations end early
 fault_within : (b : Bounds) (text patch : List ℕ) (os : List TextOperation) (f : TextLimitFault) → most_of b ≡ most_bytes b.limits text patch → HasTexts patch os → ((ops : List TreeOperation) → AreWrittenAs os ops → IsRunFaultUnder (Some b) text os ops f) → IsTextLimitFault b.limits text patch f

@@ -1,6 +1,5 @@
 -- What an operation makes of a text, in trees and byte by byte (RFC 6902, section 4).
-use Rattle.std.specs.Prelude.{◌≡◌, ◌<◌, ◌≤◌, false, ℕ, List, [], ◌∷◌, take, Option, Some, None, Result, Ok, Err, ⊤}
-use Rattle.std.specs.String.{string_bytes}
+use Rattle.std.specs.Prelude.{◌≡◌, ◌<◌, ◌≤◌, Bool, false, ℕ, List, [], ◌∷◌, take, Result, Ok, Err, ⊤}
 use Rattle.json.specs.Json.{Json, max_depth}
 use Rattle.jsonptr.specs.Text.{Pointer}
 use Rattle.json_patch_operation.specs.declared.error.PatchErrorKind.TheVariants.{InvalidPointer}
@@ -10,7 +9,6 @@ use Rattle.json_patch_text.specs.declared.fault.StepFault.{StepFault}
 use Rattle.json_patch_text.specs.declared.fault.StepFault.TheVariants as step
 use Rattle.json_patch_text.specs.declared.operation.TextOperation.{TextOperation}
 use Rattle.json_patch_text.specs.declared.operation.TextOperation.TheVariants.{Add, Remove, Replace, Move, Copy, Test}
-use Rattle.json_patch_text.specs.declared.step.NewText.{NewText}
 use Rattle.json_text.specs.Added.{IsAdded}
 use Rattle.json_lexemes.specs.Skipped.{nesting}
 use Rattle.json_text.specs.Pointed.{IsWrittenAt}
@@ -65,20 +63,14 @@ abbrev pub IsStopped : Json → TreeOperation → StepFault → Type 0
 IsStopped i op (step.Refused kind) = ComesTo i op (Err kind)
 IsStopped i op (step.Memory m) = ⊤
 
--- with a new text, or none where it is as it was
-abbrev pub IsStepped : Json → TreeOperation → Result (Option NewText) StepFault → Type 0
-IsStepped i op (Ok None) = ComesTo i op (Ok i)
-IsStepped i op (Ok (Some new)) = IsLeft (string_bytes new.text) i op
-IsStepped i op (Err f) = IsStopped i op f
+-- new is what it leaves where it is made
+abbrev pub IsStepped : Json → TreeOperation → List ℕ → Result Bool StepFault → Type 0
+IsStepped i op new (Ok deeper) = IsLeft new i op
+IsStepped i op new (Err f) = IsStopped i op f
 
--- the text is as it was where there is no other
-abbrev pub text_or : List ℕ → Option NewText → List ℕ
-text_or text None = text
-text_or text (Some new) = string_bytes new.text
-
--- of a text that nests no deeper than these levels, the new one doesn't either, unless it says that it may
-abbrev pub IsNoDeeper : ℕ → List ℕ → NewText → Type 0
-IsNoDeeper levels text new = new.deeper ≡ false → nesting text ≤ levels → nesting (string_bytes new.text) ≤ levels
+-- of a text that nests no deeper than these levels, the new one doesn't either, unless it is said that it may
+abbrev pub IsNoDeeper : ℕ → List ℕ → List ℕ → Bool → Type 0
+IsNoDeeper levels text new deeper = deeper ≡ false → nesting text ≤ levels → nesting new ≤ levels
 
 -- a change isn't made, since the pointer leads nowhere in this sense
 abbrev pub IsNotMade : Type 0 → StepFault → Type 0

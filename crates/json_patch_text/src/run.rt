@@ -8,12 +8,14 @@ ghost use Rattle.json_patch_text.specs.Run.{AcceptsText};
 ghost use Rattle.json_patch_text.specs.Stopped.{Reports, as_document};
 ghost use Rattle.json_patch_text.specs.TextOperations.{AreWrittenAs, place_of};
 
-use crate::bounds::{Bounds, levels, over};
+use crate::bounds::{Bounds, is_nested, levels, over};
 use crate::fault::{PatchTextFault, StepFault, TextLimitFault};
 use crate::operation::TextOperation;
 use crate::step::step;
+use json::MAX_DEPTH;
 use json_patch_limits::limits::LimitError;
 use json_patch_operation::PatchError;
+use json_pieces::Pieces;
 use json_text::{CheckedText, TextFault};
 use std::alloc::{AllocError, Global};
 
@@ -53,8 +55,8 @@ fn document_fault(fault: TextFault) -> PatchTextFault
 
 /// The text after the operations, one after another, within the bounds if there are any.
 ///
-/// The text is checked once. How deep a new text nests is told by the value that was put in, and by a
-/// look at the whole only where that reaches too deep.
+/// The text is checked once, and put together at the end. How deep it nests after an operation is told
+/// by the value that was put in, and by a look at the whole only where that reaches too deep.
 pub(crate) fn run(
     alloc: Global,
     text: &str,
@@ -69,11 +71,12 @@ pub(crate) fn run(
     ensures fault { IfErr result (λ fault. (ops : List TreeOperation)
         → AreWrittenAs operations.now ops → IsRunFaultUnder bounds text.now operations.now ops fault) }
 {
-    if let Err(fault) = CheckedText::new(alloc, text) {
-        return Err(TextLimitFault::Patch(document_fault(fault)));
-    }
+    let text = match CheckedText::new(alloc, text) {
+        Ok(text) => text,
+        Err(fault) => return Err(TextLimitFault::Patch(document_fault(fault))),
+    };
     let levels = levels(bounds);
-    let mut new = String::from_str(alloc, text)?;
+    let mut pieces = Pieces::new(text);
     let mut deep = false;
     for number in 0..operations.len() {
         if deep {
@@ -81,23 +84,19 @@ pub(crate) fn run(
             return Err(TextLimitFault::Patch(fault));
         }
         let operation = &operations[number];
-        let stepped = match step(alloc, CheckedText::known(new.as_str()), operation, levels) {
-            Ok(stepped) => stepped,
+        let deeper = match step(alloc, &mut pieces, operation, levels) {
+            Ok(deeper) => deeper,
             Err(fault) => {
                 return Err(TextLimitFault::Patch(reported(alloc, number, operation, fault)));
             }
         };
-        let Some(next) = stepped else {
-            continue;
-        };
-        if let Some(kind) = over(bounds, &next) {
+        if let Some(kind) = over(alloc, bounds, &pieces, deeper)? {
             return Err(TextLimitFault::Over(LimitError {
                 operation: number,
                 kind,
             }));
         }
-        deep = next.is_deep();
-        new = next.text;
+        deep = is_nested(alloc, &pieces, deeper, MAX_DEPTH)?;
     }
-    Ok(new)
+    Ok(pieces.to_text(alloc)?)
 }

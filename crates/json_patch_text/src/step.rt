@@ -1,15 +1,15 @@
 //! One operation on a text (RFC 6902, section 4).
 
-ghost use Rattle.std.specs.Prelude.{◌≡◌, ◌<◌, ◌≤◌, ◌+◌, ◌↔◌, false, length, IfOk, IfErr, IfSome, IsTrue, OnOk, Ok};
+ghost use Rattle.std.specs.Prelude.{◌≡◌, ◌<◌, ◌+◌, ◌↔◌, length, IfOk, IfErr, IsTrue, OnOk, Ok};
 ghost use Rattle.std.specs.Bool.{Decides};
-ghost use Rattle.std.specs.String.{string_bytes};
-ghost use Rattle.json.specs.Json.{Json, max_depth};
+ghost use Rattle.json.specs.Json.{Json};
 ghost use Rattle.jsonptr.specs.Pointers.{tokens_of};
 ghost use Rattle.jsonptr.specs.Text.{IsProperPrefix};
-ghost use Rattle.json_patch_text.specs.Made.{IsCopied, IsLeft, IsMadeIn, IsMoved, IsNoDeeper, IsNotMade, IsStepped, IsStopped, text_or};
+ghost use Rattle.json_patch_text.specs.Made.{IsCopied, IsLeft, IsMadeIn, IsMoved, IsNoDeeper, IsNotMade, IsStepped, IsStopped};
 ghost use Rattle.json_patch_text.specs.Operations.{TreeOperation, copy as copy_of, move as move_of, test as test_of};
 ghost use Rattle.json_patch_text.specs.Step.{ComesTo};
 ghost use Rattle.json_patch_text.specs.TextOperations.{IsWrittenAs};
+ghost use Rattle.json_pieces.specs.Whole.{ArePieces, text_of};
 ghost use Rattle.json_reading.specs.Same.{SameTree};
 ghost use Rattle.json_text.specs.Added.{HasNoPlace, IsAdded};
 ghost use Rattle.json_text.specs.Checked.{text_in};
@@ -20,31 +20,14 @@ ghost use Rattle.json_lexemes.specs.Spelled.{IsShallowText, Says};
 
 use crate::fault::StepFault;
 use crate::operation::TextOperation;
-use json::{MAX_DEPTH, Scratch, Value};
+use json::{Scratch, Value};
 use json_patch_limits::measure::count_tokens;
 use json_patch_operation::PatchErrorKind;
+use json_pieces::Pieces;
 use json_reading::same_tree;
 use json_text::{CheckedText, is_deeper};
 use jsonptr::Pointer;
 use std::alloc::{AllocError, Global};
-
-/// What an operation leaves.
-#[derive(Drop)]
-pub(crate) struct NewText {
-    pub text: String,
-    /// Whether it may nest deeper than so many levels, though the text before didn't.
-    pub deeper: bool,
-}
-
-impl NewText {
-    /// Whether it nests deeper than 128 levels.
-    pub(crate) fn is_deep(&self) -> bool
-        requires { self.now.deeper ≡ false → nesting (string_bytes self.now.text) ≤ max_depth }
-        ensures { Decides result (max_depth < nesting (string_bytes self.now.text)) }
-    {
-        self.deeper && is_deeper(self.text.as_str(), MAX_DEPTH)
-    }
-}
 
 /// Whether a value reaches deeper than so many levels where it is put.
 fn reaches(path: Pointer, value: CheckedText, levels: usize) -> bool
@@ -55,68 +38,69 @@ fn reaches(path: Pointer, value: CheckedText, levels: usize) -> bool
     count > levels || is_deeper(value.as_str(), levels - count)
 }
 
-/// The text with a value added (RFC 6902, section 4.1).
+/// A value added to the text (RFC 6902, section 4.1), and whether it may nest deeper now.
 fn added(
     alloc: Global,
-    text: CheckedText,
+    pieces: &mut Pieces,
     path: Pointer,
     value: CheckedText,
     levels: usize,
-) -> Result<NewText, StepFault>
-    ensures made { IfOk result (λ new. IsAdded (text_in text.entry) (tokens_of path.entry)
-        (text_in value.entry) (string_bytes new.text)) }
-    ensures depth { IfOk result (IsNoDeeper levels (text_in text.entry)) }
+) -> Result<bool, StepFault>
+    requires pieces { ArePieces pieces.old }
+    requires shallow { (j : Json) × IsShallowText (text_of pieces.old) j }
+    ensures pieces { IfOk result (λ deeper. ArePieces pieces.new) }
+    ensures made { IfOk result (λ deeper. IsAdded (text_of pieces.old) (tokens_of path.entry)
+        (text_in value.entry) (text_of pieces.new)) }
+    ensures depth { IfOk result (IsNoDeeper levels (text_of pieces.old) (text_of pieces.new)) }
     ensures stopped { IfErr result
-        (IsNotMade (HasNoPlace (text_in text.entry) (tokens_of path.entry))) }
+        (IsNotMade (HasNoPlace (text_of pieces.old) (tokens_of path.entry))) }
 {
-    let Some(new) = text.add(alloc, path, value)? else {
-        return Err(StepFault::Refused(PatchErrorKind::InvalidPointer));
-    };
-    let deeper = reaches(path, value, levels);
-    Ok(NewText { text: new, deeper })
+    if pieces.add(alloc, path, value)? {
+        Ok(reaches(path, value, levels))
+    } else {
+        Err(StepFault::Refused(PatchErrorKind::InvalidPointer))
+    }
 }
 
-/// The text with a value removed (RFC 6902, section 4.2).
-fn removed(
-    alloc: Global,
-    text: CheckedText,
-    path: Pointer,
-    levels: usize,
-) -> Result<NewText, StepFault>
-    ensures made { IfOk result (λ new.
-        IsRemoved (text_in text.entry) (tokens_of path.entry) (string_bytes new.text)) }
-    ensures depth { IfOk result (IsNoDeeper levels (text_in text.entry)) }
+/// A value removed from the text (RFC 6902, section 4.2), and `false`, since it nests no deeper now.
+fn removed(alloc: Global, pieces: &mut Pieces, path: Pointer) -> Result<bool, StepFault>
+    requires pieces { ArePieces pieces.old }
+    requires shallow { (j : Json) × IsShallowText (text_of pieces.old) j }
+    ensures pieces { IfOk result (λ deeper. ArePieces pieces.new) }
+    ensures made { IfOk result (λ deeper.
+        IsRemoved (text_of pieces.old) (tokens_of path.entry) (text_of pieces.new)) }
     ensures stopped { IfErr result
-        (IsNotMade (HasNothingToRemove (text_in text.entry) (tokens_of path.entry))) }
+        (IsNotMade (HasNothingToRemove (text_of pieces.old) (tokens_of path.entry))) }
 {
-    let Some(new) = text.remove(alloc, path)? else {
-        return Err(StepFault::Refused(PatchErrorKind::InvalidPointer));
-    };
-    Ok(NewText {
-        text: new,
-        deeper: false,
-    })
+    if pieces.remove(alloc, path)? {
+        Ok(false)
+    } else {
+        Err(StepFault::Refused(PatchErrorKind::InvalidPointer))
+    }
 }
 
-/// The text with a value replaced (RFC 6902, section 4.3).
+/// A value of the text replaced (RFC 6902, section 4.3), and whether it may nest deeper now.
 fn replaced(
     alloc: Global,
-    text: CheckedText,
+    pieces: &mut Pieces,
     path: Pointer,
     value: CheckedText,
     levels: usize,
-) -> Result<NewText, StepFault>
-    ensures made { IfOk result (λ new. IsReplaced (text_in text.entry) (tokens_of path.entry)
-        (text_in value.entry) (string_bytes new.text)) }
-    ensures depth { IfOk result (IsNoDeeper levels (text_in text.entry)) }
+) -> Result<bool, StepFault>
+    requires pieces { ArePieces pieces.old }
+    requires shallow { (j : Json) × IsShallowText (text_of pieces.old) j }
+    ensures pieces { IfOk result (λ deeper. ArePieces pieces.new) }
+    ensures made { IfOk result (λ deeper. IsReplaced (text_of pieces.old) (tokens_of path.entry)
+        (text_in value.entry) (text_of pieces.new)) }
+    ensures depth { IfOk result (IsNoDeeper levels (text_of pieces.old) (text_of pieces.new)) }
     ensures stopped { IfErr result
-        (IsNotMade (LeadsNowhere (text_in text.entry) (tokens_of path.entry))) }
+        (IsNotMade (LeadsNowhere (text_of pieces.old) (tokens_of path.entry))) }
 {
-    let Some(new) = text.replace(alloc, path, value)? else {
-        return Err(StepFault::Refused(PatchErrorKind::InvalidPointer));
-    };
-    let deeper = reaches(path, value, levels);
-    Ok(NewText { text: new, deeper })
+    if pieces.replace(alloc, path, value)? {
+        Ok(reaches(path, value, levels))
+    } else {
+        Err(StepFault::Refused(PatchErrorKind::InvalidPointer))
+    }
 }
 
 /// Whether two texts that are JSON say the same (RFC 6902, section 4.6).
@@ -138,18 +122,22 @@ fn is_same(alloc: Global, a: &str, b: &str) -> Result<bool, AllocError>
 /// That the value is the same as what stands where the pointer leads (RFC 6902, section 4.6).
 fn tested(
     alloc: Global,
-    text: CheckedText,
+    pieces: &mut Pieces,
     path: Pointer,
     value: CheckedText,
 ) -> Result<(), StepFault>
-    ensures same { OnOk result ((i w : Json) → Says (text_in text.entry) i
+    requires pieces { ArePieces pieces.old }
+    requires shallow { (j : Json) × IsShallowText (text_of pieces.old) j }
+    ensures pieces { OnOk result (ArePieces pieces.new) }
+    ensures kept { OnOk result (text_of pieces.new ≡ text_of pieces.old) }
+    ensures same { OnOk result ((i w : Json) → Says (text_of pieces.old) i
         → IsShallowText (text_in value.entry) w
         → ComesTo i (test_of (tokens_of path.entry) w) (Ok i)) }
-    ensures stopped { IfErr result (λ fault. (i w : Json) → Says (text_in text.entry) i
+    ensures stopped { IfErr result (λ fault. (i w : Json) → Says (text_of pieces.old) i
         → IsShallowText (text_in value.entry) w
         → IsStopped i (test_of (tokens_of path.entry) w) fault) }
 {
-    let Some(here) = text.value(alloc, path)? else {
+    let Some(here) = pieces.value(alloc, path)? else {
         return Err(StepFault::Refused(PatchErrorKind::InvalidPointer));
     };
     if is_same(alloc, here.as_str(), value.as_str())? {
@@ -159,26 +147,31 @@ fn tested(
     }
 }
 
-/// The text with what stands at `from` also at `path` (RFC 6902, section 4.5).
+/// What stands at `from` put at `path` too (RFC 6902, section 4.5), and whether the text may nest deeper
+/// now.
 fn copied(
     alloc: Global,
-    text: CheckedText,
+    pieces: &mut Pieces,
     from: Pointer,
     path: Pointer,
     levels: usize,
-) -> Result<NewText, StepFault>
-    ensures made { IfOk result (λ new. IsCopied (text_in text.entry) (tokens_of from.entry)
-        (tokens_of path.entry) (string_bytes new.text)) }
-    ensures tree { IfOk result (λ new. (i : Json) → Says (text_in text.entry) i
-        → IsLeft (string_bytes new.text) i (copy_of (tokens_of from.entry) (tokens_of path.entry))) }
-    ensures depth { IfOk result (IsNoDeeper levels (text_in text.entry)) }
-    ensures stopped { IfErr result (λ fault. (i : Json) → Says (text_in text.entry) i
+) -> Result<bool, StepFault>
+    requires pieces { ArePieces pieces.old }
+    requires shallow { (j : Json) × IsShallowText (text_of pieces.old) j }
+    ensures pieces { IfOk result (λ deeper. ArePieces pieces.new) }
+    ensures made { IfOk result (λ deeper. IsCopied (text_of pieces.old) (tokens_of from.entry)
+        (tokens_of path.entry) (text_of pieces.new)) }
+    ensures tree { IfOk result (λ deeper. (i : Json) → Says (text_of pieces.old) i
+        → IsLeft (text_of pieces.new) i (copy_of (tokens_of from.entry) (tokens_of path.entry))) }
+    ensures depth { IfOk result (IsNoDeeper levels (text_of pieces.old) (text_of pieces.new)) }
+    ensures stopped { IfErr result (λ fault. (i : Json) → Says (text_of pieces.old) i
         → IsStopped i (copy_of (tokens_of from.entry) (tokens_of path.entry)) fault) }
 {
-    let Some(value) = text.value(alloc, from)? else {
+    let Some(copy) = pieces.value(alloc, from)? else {
         return Err(StepFault::Refused(PatchErrorKind::InvalidFromPointer));
     };
-    added(alloc, text, path, value, levels)
+    let value = CheckedText::known(copy.as_str());
+    added(alloc, pieces, path, value, levels)
 }
 
 /// Whether `path` is below `from`.
@@ -191,70 +184,76 @@ fn is_inside(path: Pointer, from: Pointer) -> bool
     }
 }
 
-/// The text with what stands at `from` at `path` in its place (RFC 6902, section 4.4).
+/// What stands at `from` put at `path` in its place (RFC 6902, section 4.4), and whether the text may
+/// nest deeper now.
 fn moved(
     alloc: Global,
-    text: CheckedText,
+    pieces: &mut Pieces,
     from: Pointer,
     path: Pointer,
     levels: usize,
-) -> Result<NewText, StepFault>
-    ensures made { IfOk result (λ new. IsMoved (text_in text.entry) (tokens_of from.entry)
-        (tokens_of path.entry) (string_bytes new.text)) }
-    ensures tree { IfOk result (λ new. (i : Json) → Says (text_in text.entry) i
-        → IsLeft (string_bytes new.text) i (move_of (tokens_of from.entry) (tokens_of path.entry))) }
-    ensures depth { IfOk result (IsNoDeeper levels (text_in text.entry)) }
-    ensures stopped { IfErr result (λ fault. (i : Json) → Says (text_in text.entry) i
+) -> Result<bool, StepFault>
+    requires pieces { ArePieces pieces.old }
+    requires shallow { (j : Json) × IsShallowText (text_of pieces.old) j }
+    ensures pieces { IfOk result (λ deeper. ArePieces pieces.new) }
+    ensures made { IfOk result (λ deeper. IsMoved (text_of pieces.old) (tokens_of from.entry)
+        (tokens_of path.entry) (text_of pieces.new)) }
+    ensures tree { IfOk result (λ deeper. (i : Json) → Says (text_of pieces.old) i
+        → IsLeft (text_of pieces.new) i (move_of (tokens_of from.entry) (tokens_of path.entry))) }
+    ensures depth { IfOk result (IsNoDeeper levels (text_of pieces.old) (text_of pieces.new)) }
+    ensures stopped { IfErr result (λ fault. (i : Json) → Says (text_of pieces.old) i
         → IsStopped i (move_of (tokens_of from.entry) (tokens_of path.entry)) fault) }
 {
     if is_inside(path, from) {
         return Err(StepFault::Refused(PatchErrorKind::CannotMoveInsideItself));
     }
-    let Some(value) = text.value(alloc, from)? else {
+    let Some(taken) = pieces.value(alloc, from)? else {
         return Err(StepFault::Refused(PatchErrorKind::InvalidFromPointer));
     };
-    let Some(less) = text.remove(alloc, from)? else {
+    if !pieces.remove(alloc, from)? {
         return Err(StepFault::Refused(PatchErrorKind::InvalidFromPointer));
-    };
-    let rest = CheckedText::known(less.as_str());
-    added(alloc, rest, path, value, levels)
+    }
+    let taken = CheckedText::known(taken.as_str());
+    added(alloc, pieces, path, taken, levels)
 }
 
-/// What the operation leaves of the text, or `None` where that is as it was.
+/// The operation made on the text, and whether this may nest deeper than so many levels now, though it
+/// didn't before.
 pub(crate) fn step(
     alloc: Global,
-    text: CheckedText,
+    pieces: &mut Pieces,
     operation: &TextOperation,
     levels: usize,
-) -> Result<Option<NewText>, StepFault>
-    requires { (op : TreeOperation) × IsWrittenAs operation.now op }
-    ensures made { IfOk result (λ new. IsMadeIn (text_in text.entry) operation.now
-        (text_or (text_in text.entry) new)) }
-    ensures tree { (i : Json) (op : TreeOperation) → Says (text_in text.entry) i
-        → IsWrittenAs operation.now op → IsStepped i op result }
-    ensures depth { IfOk result (λ new. IfSome new (IsNoDeeper levels (text_in text.entry))) }
+) -> Result<bool, StepFault>
+    requires pieces { ArePieces pieces.old }
+    requires shallow { (j : Json) × IsShallowText (text_of pieces.old) j }
+    requires written { (op : TreeOperation) × IsWrittenAs operation.now op }
+    ensures pieces { IfOk result (λ deeper. ArePieces pieces.new) }
+    ensures made { IfOk result (λ deeper.
+        IsMadeIn (text_of pieces.old) operation.now (text_of pieces.new)) }
+    ensures tree { (i : Json) (op : TreeOperation) → Says (text_of pieces.old) i
+        → IsWrittenAs operation.now op → IsStepped i op (text_of pieces.new) result }
+    ensures depth { IfOk result (IsNoDeeper levels (text_of pieces.old) (text_of pieces.new)) }
 {
     match operation {
         TextOperation::Add(path, value) => {
             let value = CheckedText::known(value);
-            Ok(Some(added(alloc, text, path.as_pointer(), value, levels)?))
+            added(alloc, pieces, path.as_pointer(), value, levels)
         }
-        TextOperation::Remove(path) => Ok(Some(removed(alloc, text, path.as_pointer(), levels)?)),
+        TextOperation::Remove(path) => removed(alloc, pieces, path.as_pointer()),
         TextOperation::Replace(path, value) => {
             let value = CheckedText::known(value);
-            Ok(Some(replaced(alloc, text, path.as_pointer(), value, levels)?))
+            replaced(alloc, pieces, path.as_pointer(), value, levels)
         }
         TextOperation::Move(from, path) => {
-            let (from, path) = (from.as_pointer(), path.as_pointer());
-            Ok(Some(moved(alloc, text, from, path, levels)?))
+            moved(alloc, pieces, from.as_pointer(), path.as_pointer(), levels)
         }
         TextOperation::Copy(from, path) => {
-            let (from, path) = (from.as_pointer(), path.as_pointer());
-            Ok(Some(copied(alloc, text, from, path, levels)?))
+            copied(alloc, pieces, from.as_pointer(), path.as_pointer(), levels)
         }
         TextOperation::Test(path, value) => {
-            tested(alloc, text, path.as_pointer(), CheckedText::known(value))?;
-            Ok(None)
+            tested(alloc, pieces, path.as_pointer(), CheckedText::known(value))?;
+            Ok(false)
         }
     }
 }

@@ -1,14 +1,14 @@
 use Rattle.std.proofs.Common.{length, ◌+◌, arith}
-use Rattle.std.specs.String.{string_bytes}
 use Rattle.jsonptr.specs.Pointers.{tokens_of}
 use Rattle.json_patch_text.proofs.Nested.{reaches_within}
+use Rattle.json_pieces.specs.Whole.{text_of}
 use Rattle.json_text.specs.Checked.{text_in}
 use Rattle.json_lexemes.specs.Skipped.{nesting}
 use Rattle.json_text.proofs.Deeper.{added_nests}
 use Rattle.json_patch_text.proofs.step.added.Goals as goal
 
-pub returns-clause-depth : goal.returns-clause-depth
-returns-clause-depth c = λ e under.
-    let value = reaches_within c.reaches-deeper.result c.args.levels (length (tokens_of c.args.path) + nesting (text_in c.args.value)) c.reaches-deeper.ensures e in
-    let all = added_nests (text_in c.args.text) (text_in c.args.value) (string_bytes c.in-Some.new) (tokens_of c.args.path) (rw c.in-Some.is at c.in_ok-new.ensures) in
+pub returns-then-branch-clause-depth : goal.returns-then-branch-clause-depth
+returns-then-branch-clause-depth c = λ e under.
+    let value = reaches_within c.reaches.result c.args.levels (length (tokens_of c.args.path) + nesting (text_in c.args.value)) c.reaches.ensures e in
+    let all = added_nests (text_of c.args.pieces.now) (text_in c.args.value) (text_of c.add.new.self) (tokens_of c.args.path) (rw c.if-branch.true at c.in_ok-add.ensures.added) in
     omega arith
