@@ -1,10 +1,9 @@
 -- What the calls make of a text, put together to the changes of a merge.
-use Rattle.std.proofs.Common.{◌≡◌, ◌<◌, ◌≤◌, ◌⊎◌, ◌+◌, inl, inr, ℕ, zero, suc, List, [], ◌∷◌, ◌++◌, drop, length, get_or, Bool, true, false, cond, bytes_eq, is_some, Option, Some, None, Result, IfOk, String, Global, string_bytes, refl, sym, ap, ◌∙◌, subst, arith, rules, append_assoc, append-nil}
+use Rattle.std.proofs.Common.{◌≡◌, ◌<◌, ◌≤◌, ◌⊎◌, ◌+◌, inl, inr, ℕ, zero, suc, List, [], ◌∷◌, ◌++◌, drop, length, get_or, Bool, true, false, cond, bytes_eq, is_some, Option, Some, None, Global, refl, sym, ap, ◌∙◌, subst, arith, rules, append_assoc, append-nil}
 use Rattle.std.specs.Borrow.{Bor}
 use Rattle.std.specs.Prelude.{MatchOption, Vec}
 use Rattle.std.proofs.lemmas.List.{drop_all}
 use Rattle.std.proofs.lemmas.Option.{same_Some}
-use Rattle.std.proofs.lemmas.Result.{IfOk-weaker}
 use Rattle.json.specs.Find.{as_object, get_member, is_null, later_or}
 use Rattle.json.specs.Json.{Json, document, null, boolean, number, string, array, object, Members, member}
 use Rattle.json.specs.Tree.{depth, members_depth}
@@ -13,13 +12,14 @@ use Rattle.json.specs.declared.value.Value.{Value, Object, the_lemmas}
 use Rattle.jsonptr.specs.Text.{Pointer}
 use Rattle.json_merge_text.specs.Changes.{TextChange, add, remove, replace}
 use Rattle.json_merge_text.specs.Merging.{InTurn, IsChanged, MergesInto, MergesMember, MergesObject, PutsIn}
-use Rattle.json_merge_text.specs.Steps.{IsMadeUpTo, IsPutIn}
+use Rattle.json_merge_text.specs.Stands.{IsMadeUpTo, IsPutIn, StandsAt}
 use Rattle.json_merge_text.proofs.Merges.{first_named, made_then}
 use Rattle.json_patch_document.proofs.SameDocuments.{AreSame-document}
 use Rattle.json_reading.specs.Same.{SameTree}
 use Rattle.json_reading.specs.Trees.{data_of}
 use Rattle.json_reading.proofs.Documents.{IsDocument-data_of}
 use Rattle.json_reading.proofs.Trees.{same_exactly}
+use Rattle.json_text.specs.Pointed.{tree_at}
 use Rattle.json_text.specs.Removed.{IsRemoved}
 use Rattle.json_lexemes.specs.Spelled.{IsShallowText}
 use Rattle.json_lexemes.proofs.Nests.{read_is}
@@ -61,21 +61,18 @@ left_same patch P i p text none same = ([], of_other patch P i p [] none (inl (s
 pub left_itself : (patch : List ℕ) (P : Pointer) (q : Json) (text : List ℕ) → as_object q ≡ None → IsChanged text text (MergesInto patch P q q)
 left_itself patch P q text none = left_same patch P q q text none (same_itself q)
 
-pub replaced : {E : Type 0} (patch : List ℕ) (P : Pointer) (i p : Json) (text seen : List ℕ) (r : Result (String Global) E) → as_object p ≡ None → (SameTree i p → ⊥) → seen ≡ text
-    → IfOk r (λ new. IsPutIn patch P (replace P) seen (string_bytes new)) → IfOk r (λ new. IsChanged text (string_bytes new) (MergesInto patch P i p))
-replaced patch P i p text seen r none out same h =
-    IfOk-weaker r (λ new. IsPutIn patch P (replace P) seen (string_bytes new)) (λ new. IsChanged text (string_bytes new) (MergesInto patch P i p))
-    (λ new g. let (cs, are, made) = put_then patch P (replace P) (λ rest. rest ≡ []) text (string_bytes new) (string_bytes new) (subst (λ t. IsPutIn patch P (replace P) t (string_bytes new)) same g) ([], refl, refl) in
-    (cs, of_other patch P i p cs none (inr (out, are)), made))
-    h
+pub replaced : (patch : List ℕ) (P : Pointer) (i p : Json) (text new : List ℕ) → as_object p ≡ None → (SameTree i p → ⊥) → IsPutIn patch P (replace P) text new → IsChanged text new (MergesInto patch P i p)
+replaced patch P i p text new none out put =
+    let (cs, are, made) = put_then patch P (replace P) (λ rest. rest ≡ []) text new new put ([], refl, refl) in
+    (cs, of_other patch P i p cs none (inr (out, are)), made)
 
-pub object_replaced : {E : Type 0} (patch : List ℕ) (P : Pointer) (i p : Json) (ps : Members) (text seen mid : List ℕ) (r : Result (String Global) E) → p ≡ object ps → as_object i ≡ None → seen ≡ text → IsPutIn patch P (replace P) seen mid
-    → IfOk r (λ new. IsChanged mid (string_bytes new) (MergesObject patch P ps ps)) → IfOk r (λ new. IsChanged text (string_bytes new) (MergesInto patch P i p))
-object_replaced patch P i p ps text seen mid r is none same put h =
-    IfOk-weaker r (λ new. IsChanged mid (string_bytes new) (MergesObject patch P ps ps)) (λ new. IsChanged text (string_bytes new) (MergesInto patch P i p))
-    (λ new g. let (cs, are, made) = put_then patch P (replace P) (MergesObject patch P ps ps) text mid (string_bytes new) (subst (λ t. IsPutIn patch P (replace P) t mid) same put) g in
-    (cs, subst (λ x. MergesInto patch P i x cs) (sym is) (subst (λ o. MatchOption o (PutsIn patch P (replace P) (MergesObject patch P ps ps) cs) (λ is. MergesObject patch P is ps cs)) (sym none) are), made))
-    h
+pub object_merged : (patch : List ℕ) (P : Pointer) (i p : Json) (is ps : Members) (text new : List ℕ) → p ≡ object ps → i ≡ object is → IsChanged text new (MergesObject patch P is ps) → IsChanged text new (MergesInto patch P i p)
+object_merged patch P i p is ps text new named there (cs, are, made) = (cs, subst (λ x. MergesInto patch P i x cs) (sym named) (subst (λ x. MergesInto patch P x (object ps) cs) (sym there) are), made)
+
+pub object_replaced : (patch : List ℕ) (P : Pointer) (i p : Json) (ps : Members) (text mid new : List ℕ) → p ≡ object ps → as_object i ≡ None → IsPutIn patch P (replace P) text mid → IsChanged mid new (MergesObject patch P ps ps) → IsChanged text new (MergesInto patch P i p)
+object_replaced patch P i p ps text mid new is none put more =
+    let (cs, are, made) = put_then patch P (replace P) (MergesObject patch P ps ps) text mid new put more in
+    (cs, subst (λ x. MergesInto patch P i x cs) (sym is) (subst (λ o. MatchOption o (PutsIn patch P (replace P) (MergesObject patch P ps ps) cs) (λ is. MergesObject patch P is ps cs)) (sym none) are), made)
 
 -- ---- a member
 
@@ -91,22 +88,20 @@ other_member patch P was (string s) Into cs e h = h
 other_member patch P was (array js) Into cs e h = h
 other_member patch P was (object ms) Into cs e h = h
 
-pub removed_one : (patch : List ℕ) (P : Pointer) (was : Option Json) (q i : Json) (Into : Json → List TextChange → Type 0) (text seen new : List ℕ) → was ≡ Some i → is_null q ≡ true → seen ≡ text → IsRemoved seen P new → IsChanged text new (MergesMember patch P was q Into)
-removed_one patch P was q i Into text seen new there e same h =
-    (remove P ∷ [], null_member patch P was q Into (remove P ∷ []) e (subst (λ o. MatchOption o (remove P ∷ [] ≡ []) (λ i. remove P ∷ [] ≡ remove P ∷ [])) (sym there) refl), (new, subst (λ t. IsRemoved t P new) same h, refl))
+pub left_out : (patch : List ℕ) (P : Pointer) (was : Option Json) (q : Json) (Into : Json → List TextChange → Type 0) (text : List ℕ) → was ≡ None → is_null q ≡ true → IsChanged text text (MergesMember patch P was q Into)
+left_out patch P was q Into text none e =
+    let nothing : List TextChange = [] in
+    (nothing, null_member patch P was q Into nothing e (subst (λ (o : Option Json). MatchOption o (nothing ≡ []) (λ i. nothing ≡ remove P ∷ [])) (sym none) refl), refl)
 
-pub removed : {E : Type 0} (patch : List ℕ) (P : Pointer) (was : Option Json) (q i : Json) (Into : Json → List TextChange → Type 0) (text seen : List ℕ) (r : Result (String Global) E) → was ≡ Some i → is_null q ≡ true → seen ≡ text
-    → IfOk r (λ new. IsRemoved seen P (string_bytes new)) → IfOk r (λ new. IsChanged text (string_bytes new) (MergesMember patch P was q Into))
-removed patch P was q i Into text seen r there e same h =
-    IfOk-weaker r (λ new. IsRemoved seen P (string_bytes new)) (λ new. IsChanged text (string_bytes new) (MergesMember patch P was q Into)) (λ new g. removed_one patch P was q i Into text seen (string_bytes new) there e same g) h
+pub removed : (patch : List ℕ) (P : Pointer) (was : Option Json) (q i : Json) (Into : Json → List TextChange → Type 0) (text new : List ℕ) → was ≡ Some i → is_null q ≡ true → IsRemoved text P new → IsChanged text new (MergesMember patch P was q Into)
+removed patch P was q i Into text new there e made =
+    (remove P ∷ [], null_member patch P was q Into (remove P ∷ []) e (subst (λ o. MatchOption o (remove P ∷ [] ≡ []) (λ i. remove P ∷ [] ≡ remove P ∷ [])) (sym there) refl), (new, made, refl))
 
-pub added : {E : Type 0} (patch : List ℕ) (P : Pointer) (was : Option Json) (q : Json) (text seen mid : List ℕ) (r : Result (String Global) E) → was ≡ None → is_null q ≡ false → seen ≡ text → IsPutIn patch P (add P) seen mid
-    → IfOk r (λ new. IsChanged mid (string_bytes new) (MergesInto patch P q q)) → IfOk r (λ new. IsChanged text (string_bytes new) (MergesMember patch P was q (λ i. MergesInto patch P i q)))
-added patch P was q text seen mid r none e same put h =
-    IfOk-weaker r (λ new. IsChanged mid (string_bytes new) (MergesInto patch P q q)) (λ new. IsChanged text (string_bytes new) (MergesMember patch P was q (λ i. MergesInto patch P i q)))
-    (λ new g. let (cs, are, made) = put_then patch P (add P) (MergesInto patch P q q) text mid (string_bytes new) (subst (λ t. IsPutIn patch P (add P) t mid) same put) g in
-    (cs, other_member patch P was q (λ i. MergesInto patch P i q) cs e (subst (λ o. MatchOption o (PutsIn patch P (add P) (MergesInto patch P q q) cs) (λ i. MergesInto patch P i q cs)) (sym none) are), made))
-    h
+pub added : (patch : List ℕ) (P : Pointer) (was : Option Json) (q : Json) (text mid new : List ℕ) → was ≡ None → is_null q ≡ false → IsPutIn patch P (add P) text mid → IsChanged mid new (MergesInto patch P q q)
+    → IsChanged text new (MergesMember patch P was q (λ i. MergesInto patch P i q))
+added patch P was q text mid new none e put more =
+    let (cs, are, made) = put_then patch P (add P) (MergesInto patch P q q) text mid new put more in
+    (cs, other_member patch P was q (λ i. MergesInto patch P i q) cs e (subst (λ o. MatchOption o (PutsIn patch P (add P) (MergesInto patch P q q) cs) (λ i. MergesInto patch P i q cs)) (sym none) are), made)
 
 pub found_one : (patch : List ℕ) (P : Pointer) (was : Option Json) (q i : Json) (text new : List ℕ) → was ≡ Some i → is_null q ≡ false → IsChanged text new (MergesInto patch P i q) → IsChanged text new (MergesMember patch P was q (λ i. MergesInto patch P i q))
 found_one patch P was q i text new there e (cs, are, made) =
@@ -180,17 +175,13 @@ pair_depth (x ∷ es) (suc i) e h is = omega (arith, pair_depth es i e (omega (a
 
 -- ---- the texts as they are read
 
--- what is read of the two texts is what they say
-pub as_said : {E : Type 0} (text patch : List ℕ) (x y : Json) (seen : List ℕ) (place : List ℕ) (path : Pointer) (r : Result (String Global) E) → document text ≡ Some x → document patch ≡ Some y → seen ≡ text → place ≡ patch → path ≡ []
-    → IfOk r (λ new. IsChanged seen (string_bytes new) (MergesInto place path x y)) → IfOk r (λ new. (i p : Json) → IsShallowText text i → IsShallowText patch p → IsChanged text (string_bytes new) (MergesInto patch [] i p))
-as_said text patch x y seen place path r e f same there root h =
-    IfOk-weaker r (λ new. IsChanged seen (string_bytes new) (MergesInto place path x y)) (λ new. (i p : Json) → IsShallowText text i → IsShallowText patch p → IsChanged text (string_bytes new) (MergesInto patch [] i p))
-    (λ new g i p s t.
-    let a : x ≡ i = same_Some x i (sym e ∙ (read_is text i).1 s) in
-    let b : y ≡ p = same_Some y p (sym f ∙ (read_is patch p).1 t) in
-    subst (λ z. IsChanged text (string_bytes new) (MergesInto patch [] i z)) b
-    (subst (λ z. IsChanged text (string_bytes new) (MergesInto patch [] z y)) a
-    (subst (λ Q. IsChanged text (string_bytes new) (MergesInto patch Q x y)) root
-    (subst (λ q. IsChanged text (string_bytes new) (MergesInto q path x y)) there
-    (subst (λ u. IsChanged u (string_bytes new) (MergesInto place path x y)) same g)))))
-    h
+-- what is read of the patch is what it says
+pub as_said : (text patch : List ℕ) (y i p : Json) (first second new : List ℕ) (path : Pointer) → document patch ≡ Some y → first ≡ text → second ≡ patch → path ≡ []
+    → ((x : Json) → StandsAt first path x → IsChanged first new (MergesInto second path x y)) → IsShallowText text i → IsShallowText patch p → IsChanged text new (MergesInto patch [] i p)
+as_said text patch y i p first second new path read same there root made s t =
+    let b : y ≡ p = same_Some y p (sym read ∙ (read_is patch p).1 t) in
+    let stands : StandsAt first path i = (i, subst (λ u. IsShallowText u i) (sym same) s, ap (λ Q. tree_at Q i) root) in
+    subst (λ z. IsChanged text new (MergesInto patch [] i z)) b
+    (subst (λ Q. IsChanged text new (MergesInto patch Q i y)) root
+    (subst (λ q. IsChanged text new (MergesInto q path i y)) there
+    (subst (λ u. IsChanged u new (MergesInto second path i y)) same (made i stands))))

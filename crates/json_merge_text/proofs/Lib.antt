@@ -1,3 +1,4 @@
+pub mod Becoming
 pub mod Built
 pub mod Depths
 pub mod Documents

@@ -10,7 +10,7 @@ use Rattle.jsonptr.specs.Text.{Pointer}
 use Rattle.json_merge_text.specs.Changes.{AreMade, TextChange, add, remove, replace}
 use Rattle.json_merge_text.specs.Merged.{IsMergedText, IsMergedTree, SaysMerged}
 use Rattle.json_merge_text.specs.Merging.{InTurn, IsWrittenIn, MergesInto, MergesMember, MergesObject, PutsIn}
-use Rattle.json_merge_text.specs.Steps.{Agrees}
+use Rattle.json_merge_text.specs.Stands.{Agrees}
 use Rattle.json_merge_text.proofs.Depths.{add_depth, put_depth}
 use Rattle.json_merge_text.proofs.Documents.{MergedAt, added_at, merged_at, names_merged, object_merged, put_merged, removed_at, same_merged, then_unnamed, unnamed_at}
 use Rattle.json_merge_text.proofs.Trees.{added_further, further, put_again, put_further, put_same, put_stands, removed_further}

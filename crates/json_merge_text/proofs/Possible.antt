@@ -1,19 +1,17 @@
 -- Each change of a merge can be made: what it needs stands, and nothing nests too deep.
 use Rattle.std.specs.Borrow.{Bor}
 use Rattle.std.specs.Prelude.{MatchOption}
-use Rattle.std.proofs.Common.{◌≡◌, ◌≤◌, ◌<◌, ◌+◌, inl, inr, ℕ, List, [], ◌∷◌, ◌++◌, length, drop, get_or, is_some, Bool, true, false, Global, Option, Some, None, refl, sym, ap, ◌∙◌, subst, arith, length-append, Result, Err, ◌≢◌}
+use Rattle.std.proofs.Common.{◌≡◌, ◌≤◌, ◌<◌, ◌+◌, inl, inr, ℕ, List, [], ◌∷◌, ◌++◌, length, drop, get_or, is_some, Bool, true, false, Global, Option, Some, None, option_map, refl, sym, ap, ◌∙◌, subst, arith, length-append}
 use Rattle.std.proofs.lemmas.Option.{none-some, same_Some}
-use Rattle.json.specs.Find.{get_member}
-use Rattle.json.specs.Json.{Json, document, object, Members, member, max_depth}
+use Rattle.json.specs.Find.{as_object, get_member}
+use Rattle.json.specs.Json.{Json, document, null, boolean, number, string, array, object, Members, member, max_depth}
 use Rattle.json.specs.Value.{value_view, members_view}
-use Rattle.json.specs.declared.error.Error.{Error}
-use Rattle.json.specs.declared.error.Error.TheVariants as error
 use Rattle.json.specs.declared.value.Value.{Value}
 use Rattle.json.specs.Tree.{depth}
 use Rattle.jsonptr.specs.Text.{Pointer}
 use Rattle.json_merge_text.specs.Changes.{add, replace}
 use Rattle.json_merge_text.specs.Merging.{IsChanged, IsWrittenIn, MergesInto, MergesMember}
-use Rattle.json_merge_text.specs.Steps.{AgreesAt, IsForMemory, IsOfMemory, IsPutIn, IsUpTo, MayStandAt, StandsAt}
+use Rattle.json_merge_text.specs.Stands.{AgreesAt, IsPutIn, IsUpTo, MayStandAt, StandsAt}
 use Rattle.json_merge_text.proofs.Built.{as_meant, last_named, next_merged, next_passed, none_of, some_of}
 use Rattle.json_merge_text.proofs.Depths.{add_depth}
 use Rattle.json_merge_text.proofs.Merges.{behind, first_named, one_member, replaced_says, written_says, into}
@@ -23,44 +21,30 @@ use Rattle.json_patch_text.proofs.Agree.{added_is}
 use Rattle.json_text.proofs.Depths.{part_inside, put_nests}
 use Rattle.json_patch_text.proofs.Made.{add_left}
 use Rattle.json_patch_text.proofs.Members.{add_here}
-use Rattle.json_text.specs.Added.{IsAddFault}
-use Rattle.json_text.specs.Faults.{IsTextFault}
-use Rattle.json_lexemes.specs.Skipped.{nesting}
-use Rattle.json_text.specs.Pointed.{put_at, tree_at}
-use Rattle.json_text.specs.Removed.{IsRemoveFault}
-use Rattle.json_text.specs.Replaced.{IsReplaceFault}
-use Rattle.json_lexemes.specs.Spelled.{IsShallowText}
-use Rattle.json_text.specs.declared.fault.ChangeFault.{ChangeFault}
-use Rattle.json_text.specs.declared.fault.ChangeFault.TheVariants as change
-use Rattle.json_text.specs.declared.fault.TextFault.{TextFault}
-use Rattle.json_text.specs.declared.fault.TextFault.TheVariants.{NotJson, TooDeep, Memory}
-use Rattle.json_lexemes.proofs.Nests.{nests, one_tree, read_is}
+use Rattle.json_text.specs.Added.{HasNoPlace}
+use Rattle.json_text.specs.Listing.{shape_of}
+use Rattle.json_text.specs.Pointed.{IsWrittenAt, put_at, tree_at}
+use Rattle.json_text.specs.Removed.{HasNothingToRemove}
+use Rattle.json_text.specs.Replaced.{LeadsNowhere}
+use Rattle.json_lexemes.specs.Spelled.{IsShallowText, Says}
+use Rattle.json_text.specs.declared.listing.Shape.{Shape}
+use Rattle.json_text.specs.declared.listing.Shape.TheVariants.{Object}
+use Rattle.json_lexemes.proofs.Nests.{one_tree, read_is}
 use Rattle.json_reading.proofs.Matching.{next_member}
 
--- ---- no fault but want of memory
-
-not_deep : (text : List ℕ) (j : Json) → IsShallowText text j → max_depth < nesting text → ⊥
-not_deep text j s h = let deep : max_depth < depth j = subst (λ n. max_depth < n) (nests text j s.0) h in let shallow : depth j ≤ max_depth = s.1 in omega arith
-
-read_fails : (text : List ℕ) (j : Json) (f : TextFault) → IsShallowText text j → IsTextFault text f → IsOfMemory f
-read_fails text j NotJson s h = absurd (h j s.0)
-read_fails text j TooDeep s h = absurd (not_deep text j s h)
-read_fails text j (Memory m) s h = tt
-
-pub stands_fails : (text : List ℕ) (P : Pointer) (v : Json) (f : TextFault) → StandsAt text P v → IsTextFault text f → IsOfMemory f
-stands_fails text P v f (j, s, at) h = read_fails text j f s h
+-- ---- what is asked for is there
 
 -- what is looked for where something stands is found
 pub is_found : (text : List ℕ) (P : Pointer) (v : Json) → StandsAt text P v → (j : Json) × IsShallowText text j × (tree_at P j ≡ None) → ⊥
 is_found text P v (i, s, at) (j, t, none) = none-some v (sym (subst (λ x. tree_at P x ≡ None) (one_tree text j i t.0 s.0) none) ∙ at)
 
 -- what is written in the patch is read
-value_read : (patch : List ℕ) (P : Pointer) (q : Json) (s : List ℕ) → StandsAt patch P q → IsWrittenIn patch P s → (v : Json) × IsShallowText s v
-value_read patch P q s (w, shallow, at) (p, said, (before, behind, is, (v, there, stretch))) =
+pub value_read : (patch : List ℕ) (P : Pointer) (q : Json) (s seen : List ℕ) → StandsAt patch P q → IsWrittenIn patch P s → seen ≡ s → (v : Json) × IsShallowText seen v
+value_read patch P q s seen (w, shallow, at) (p, said, (before, behind, is, (v, there, stretch))) same =
     let inside : length P + depth v ≤ depth p = part_inside P p v there in
-    let same : depth p ≡ depth w = ap depth (one_tree patch p w said shallow.0) in
+    let even : depth p ≡ depth w = ap depth (one_tree patch p w said shallow.0) in
     let most : depth w ≤ max_depth = shallow.1 in
-    (v, (stretch.says, omega arith))
+    (v, subst (λ t. IsShallowText t v) (sym same) (stretch.says, omega arith))
 
 end_of : (F : Pointer) (k : List ℕ) → F ++ k ∷ [] ≡ [] → ⊥
 end_of [] k e = cc
@@ -69,27 +53,19 @@ end_of (t ∷ F) k e = cc
 there_of : (text : List ℕ) (P : Pointer) (i : Json) → MayStandAt text P (Some i) → StandsAt text P i
 there_of text P i (j, F, k, ms, s, way, at, e) = (j, s, ap (λ Q. tree_at Q j) way ∙ further F k j (object ms) at ∙ e)
 
-pub removal_fails : (text : List ℕ) (P : Pointer) (i : Json) (f : ChangeFault) → MayStandAt text P (Some i) → IsRemoveFault text P f → IsForMemory f
-removal_fails text P i (change.Text f) m h = let (j, s, at) = there_of text P i m in read_fails text j f s h
-removal_fails text P i (change.Value f) m h = absurd h
-removal_fails text P i change.NoTarget m (inl (a, said, none)) =
-    let (j, s, at) = there_of text P i m in absurd (none-some i (sym (subst (λ x. tree_at P x ≡ None) (one_tree text a j said s.0) none) ∙ at))
-removal_fails text P i change.NoTarget (j, F, k, ms, s, way, at, e) (inr root) = absurd (end_of F k (sym way ∙ root))
-removal_fails text P i (change.Memory m) a h = tt
+-- what stands there can be removed and replaced, and what may stand there can be added
+pub is_removed : (text : List ℕ) (P : Pointer) (i : Json) → MayStandAt text P (Some i) → HasNothingToRemove text P → ⊥
+is_removed text P i m (inl (a, said, none)) =
+    let (j, s, at) = there_of text P i m in none-some i (sym (subst (λ x. tree_at P x ≡ None) (one_tree text a j said s.0) none) ∙ at)
+is_removed text P i (j, F, k, ms, s, way, at, e) (inr root) = end_of F k (sym way ∙ root)
 
-pub replacement_fails : (text patch s : List ℕ) (P : Pointer) (i q : Json) (f : ChangeFault) → StandsAt text P i → StandsAt patch P q → IsWrittenIn patch P s → IsReplaceFault text P s f → IsForMemory f
-replacement_fails text patch s P i q (change.Text f) a b w h = stands_fails text P i f a h
-replacement_fails text patch s P i q (change.Value f) a b w h = let (v, t) = value_read patch P q s b w in read_fails s v f t h
-replacement_fails text patch s P i q change.NoTarget (j, t, at) b w (a, said, none) = absurd (none-some i (sym (subst (λ x. tree_at P x ≡ None) (one_tree text a j said t.0) none) ∙ at))
-replacement_fails text patch s P i q (change.Memory m) a b w h = tt
+pub is_replaced : (text : List ℕ) (P : Pointer) (i : Json) → StandsAt text P i → LeadsNowhere text P → ⊥
+is_replaced text P i (j, s, at) (a, said, none) = none-some i (sym (subst (λ x. tree_at P x ≡ None) (one_tree text a j said s.0) none) ∙ at)
 
-pub addition_fails : (text patch s : List ℕ) (P : Pointer) (was : Option Json) (q : Json) (f : ChangeFault) → MayStandAt text P was → StandsAt patch P q → IsWrittenIn patch P s → IsAddFault text P s f → IsForMemory f
-addition_fails text patch s P was q (change.Text f) (j, F, k, ms, t, way, at, e) b w h = read_fails text j f t h
-addition_fails text patch s P was q (change.Value f) m b w h = let (v, t) = value_read patch P q s b w in read_fails s v f t h
-addition_fails text patch s P was q change.NoTarget (j, F, k, ms, t, way, at, e) b w (a, said, none) =
-    let nothing = sym (subst (λ x. added P q x ≡ None) (one_tree text a j said t.0) (sym (added_is P q a) ∙ none q)) in
-    absurd (none-some _ (nothing ∙ ap (λ Q. added Q q j) way ∙ added_further F k q j ms at))
-addition_fails text patch s P was q (change.Memory m) a b w h = tt
+pub is_added : (text : List ℕ) (P : Pointer) (was : Option Json) (q : Json) → MayStandAt text P was → HasNoPlace text P → ⊥
+is_added text P was q (j, F, k, ms, s, way, at, e) (a, said, none) =
+    let nothing = sym (subst (λ x. added P q x ≡ None) (one_tree text a j said s.0) (sym (added_is P q a) ∙ none q)) in
+    none-some _ (nothing ∙ ap (λ Q. added Q q j) way ∙ added_further F k q j ms at)
 
 -- ---- what stands after a change
 
@@ -197,42 +173,83 @@ first_up_to patch P i is all text same stands = record { agrees = agrees_first t
 
 -- ---- as the calls say it
 
-pub removal_memory : (text : List ℕ) (P Q : Pointer) (f : ChangeFault) → (i : Json) × MayStandAt text P (Some i) → Q ≡ P → IsRemoveFault text Q f → IsForMemory f
-removal_memory text P Q f (i, m) same h = removal_fails text P i f m (subst (λ R. IsRemoveFault text R f) same h)
-
-pub replacement_memory : (text patch s : List ℕ) (P Q : Pointer) (f : ChangeFault) → (q : Json) × StandsAt patch P q → (i : Json) × StandsAt text P i → IsWrittenIn patch P s → Q ≡ P → IsReplaceFault text Q s f → IsForMemory f
-replacement_memory text patch s P Q f (q, named) (i, stands) w same h = replacement_fails text patch s P i q f stands named w (subst (λ R. IsReplaceFault text R s f) same h)
-
-pub addition_memory : (text patch s : List ℕ) (P Q : Pointer) (was : Option Json) (f : ChangeFault) → (q : Json) × StandsAt patch P q → MayStandAt text P was → IsWrittenIn patch P s → Q ≡ P → IsAddFault text Q s f → IsForMemory f
-addition_memory text patch s P Q was f (q, named) stands w same h = addition_fails text patch s P was q f stands named w (subst (λ R. IsAddFault text R s f) same h)
-
-pub read_memory : (text : List ℕ) (P : Pointer) (f : TextFault) → (q : Json) × StandsAt text P q → IsTextFault text f → IsOfMemory f
-read_memory text P f (q, stands) h = stands_fails text P q f stands h
-
 pub nowhere_found : {A : Type 0} (text : List ℕ) (P Q : Pointer) (o : Option A) (Found : Json → A → Type 0) → (q : Json) × StandsAt text P q → Q ≡ P → o ≡ None → (j : Json) × IsShallowText text j × MatchOption o (tree_at Q j ≡ None) (Found j) → ⊥
 nowhere_found text P Q o Found (q, stands) same none (j, s, h) = is_found text P q stands (j, s, subst (λ R. tree_at R j ≡ None) same (subst (λ x. MatchOption x (tree_at Q j ≡ None) (Found j)) none h))
+
+-- what is found where something stands is that
+found_is : (text s seen : List ℕ) (P Q : Pointer) (j v : Json) → Says text j → Q ≡ P → (i : Json) × IsShallowText text i × IsWrittenAt text i Q s → seen ≡ s → Says seen v → tree_at P j ≡ Some v
+found_is text s seen P Q j v said way (i, shallow, (before, behind, is, (w, there, stretch))) same says =
+    ap (λ R. tree_at R j) (sym way) ∙ ap (tree_at Q) (one_tree text j i said shallow.0) ∙ there ∙ ap Some (one_tree s w v stretch.says (subst (λ t. Says t v) same says))
+
+pub read_there : (text s seen : List ℕ) (P Q : Pointer) (i x : Json) → StandsAt text P i → Q ≡ P → (j : Json) × IsShallowText text j × IsWrittenAt text j Q s → seen ≡ s → document seen ≡ Some x → x ≡ i
+read_there text s seen P Q i x (j, shallow, at) way found same read = same_Some x i (sym (found_is text s seen P Q j x shallow.0 way found same ((read_is seen x).0 read).0) ∙ at)
+
+pub shape_there : (text s seen : List ℕ) (P Q : Pointer) (j : Json) (shape : Shape) → Says text j → Q ≡ P → (i : Json) × IsShallowText text i × IsWrittenAt text i Q s → seen ≡ s → ((v : Json) → Says seen v → shape ≡ shape_of v) → Some shape ≡ option_map shape_of (tree_at P j)
+shape_there text s seen P Q j shape said way (i, shallow, (before, behind, is, (w, there, stretch))) same of =
+    let says : Says seen w = subst (λ t. Says t w) (sym same) stretch.says in
+    ap Some (of w says) ∙ sym (ap (option_map shape_of) (found_is text s seen P Q j w said way (i, shallow, (before, behind, is, (w, there, stretch))) same says))
+
+pub shape_nowhere : (text : List ℕ) (P Q : Pointer) (j : Json) → Says text j → Q ≡ P → (i : Json) × IsShallowText text i × (tree_at Q i ≡ None) → None ≡ option_map shape_of (tree_at P j)
+shape_nowhere text P Q j said way (i, shallow, none) = sym (ap (option_map shape_of) (ap (λ R. tree_at R j) (sym way) ∙ ap (tree_at Q) (one_tree text j i said shallow.0) ∙ none))
+
+-- ---- what something's shape tells
+
+may_is : (text : List ℕ) (P : Pointer) (was : Option Json) (j : Json) → MayStandAt text P was → Says text j → tree_at P j ≡ was
+may_is text P was j (i, F, k, ms, s, way, at, e) said = ap (tree_at P) (one_tree text j i said s.0) ∙ ap (λ Q. tree_at Q i) way ∙ further F k i (object ms) at ∙ e
+
+shape_is : (text : List ℕ) (P : Pointer) (was : Option Json) (o : Option Shape) → MayStandAt text P was → ((j : Json) → Says text j → o ≡ option_map shape_of (tree_at P j)) → o ≡ option_map shape_of was
+shape_is text P was o (i, F, k, ms, s, way, at, e) of = of i s.0 ∙ ap (option_map shape_of) (may_is text P was i (i, F, k, ms, s, way, at, e) s.0)
+
+pub none_was : (text : List ℕ) (P : Pointer) (was : Option Json) (o : Option Shape) → MayStandAt text P was → ((j : Json) → Says text j → o ≡ option_map shape_of (tree_at P j)) → o ≡ None → was ≡ None
+none_was text P was o may of none = by was (sym none ∙ shape_is text P was o may of)
+  where
+    by : (w : Option Json) → None ≡ option_map shape_of w → w ≡ None
+    by None e = refl
+    by (Some i) e = cc
+
+pub some_was : (text : List ℕ) (P : Pointer) (was : Option Json) (o : Option Shape) (shape : Shape) → MayStandAt text P was → ((j : Json) → Says text j → o ≡ option_map shape_of (tree_at P j)) → o ≡ Some shape → (i : Json) × (was ≡ Some i)
+some_was text P was o shape may of some = by was (sym some ∙ shape_is text P was o may of)
+  where
+    by : (w : Option Json) → Some shape ≡ option_map shape_of w → (i : Json) × (w ≡ Some i)
+    by None e = cc
+    by (Some i) e = (i, refl)
+
+pub shape_stands : (text : List ℕ) (P : Pointer) (o : Option Shape) (shape : Shape) (i : Json) → ((j : Json) → Says text j → o ≡ option_map shape_of (tree_at P j)) → o ≡ Some shape → StandsAt text P i → shape ≡ shape_of i
+shape_stands text P o shape i of some (j, s, at) = same_Some shape (shape_of i) (sym some ∙ of j s.0 ∙ ap (option_map shape_of) at)
+
+pub object_of : (i : Json) (shape : Shape) → shape ≡ Object → shape ≡ shape_of i → (is : Members) × (i ≡ object is)
+object_of null shape e of = cc
+object_of (boolean b) shape e of = cc
+object_of (number s) shape e of = cc
+object_of (string s) shape e of = cc
+object_of (array js) shape e of = cc
+object_of (object is) shape e of = (is, refl)
+
+pub no_object_of : (i : Json) (shape : Shape) → (shape ≡ Object → ⊥) → shape ≡ shape_of i → as_object i ≡ None
+no_object_of null shape out of = refl
+no_object_of (boolean b) shape out of = refl
+no_object_of (number s) shape out of = refl
+no_object_of (string s) shape out of = refl
+no_object_of (array js) shape out of = refl
+no_object_of (object is) shape out of = absurd (out of)
 
 -- a whole text that was read
 pub whole_stands : (text seen : List ℕ) (P : Pointer) (v : Json) → seen ≡ text → P ≡ [] → document text ≡ Some v → StandsAt seen P v
 whole_stands text seen P v same root e = (v, subst (λ t. IsShallowText t v) (sym same) ((read_is text v).0 e), ap (λ Q. tree_at Q v) root)
+
+pub whole_there : (text seen : List ℕ) (P : Pointer) → seen ≡ text → P ≡ [] → (j : Json) × IsShallowText text j → (i : Json) × StandsAt seen P i
+whole_there text seen P same root (j, s) = (j, (j, subst (λ t. IsShallowText t j) (sym same) s, ap (λ Q. tree_at Q j) root))
+
+pub whole_shape : (text seen : List ℕ) (P : Pointer) (shape : Shape) (i : Json) → seen ≡ text → P ≡ [] → ((j : Json) → Says text j → shape ≡ shape_of j) → StandsAt seen P i → shape ≡ shape_of i
+whole_shape text seen P shape i same root of (j, s, at) = of j (subst (λ t. Says t j) same s.0) ∙ ap shape_of (same_Some j i (sym (ap (λ Q. tree_at Q j) root) ∙ at))
 
 -- ---- as the calls need it
 
 pub stands_as : (text seen : List ℕ) (P : Pointer) (v w : Json) → seen ≡ text → v ≡ w → StandsAt text P v → StandsAt seen P w
 stands_as text seen P v w same is h = subst (λ t. StandsAt t P w) (sym same) (subst (StandsAt text P) is h)
 
-pub some_stands : (text seen : List ℕ) (P : Pointer) (v : Json) → seen ≡ text → StandsAt text P v → (x : Json) × StandsAt seen P x
-some_stands text seen P v same h = (v, stands_as text seen P v v same refl h)
-
 pub may_as : (text seen : List ℕ) (P : Pointer) (was o : Option Json) → seen ≡ text → was ≡ o → MayStandAt text P was → MayStandAt seen P o
 may_as text seen P was o same is h = subst (λ t. MayStandAt t P o) (sym same) (subst (MayStandAt text P) is h)
 
-pub removal_stands : (text seen : List ℕ) (P : Pointer) (was : Option Json) (i : Json) → seen ≡ text → was ≡ Some i → MayStandAt text P was → (x : Json) × MayStandAt seen P (Some x)
-removal_stands text seen P was i same is h = (i, may_as text seen P was (Some i) same is h)
-
--- what is JSON and no deeper is read, but for want of memory
-pub read_for_memory : {T : Type 0} (text : List ℕ) (r : Result T Error) (e : Error) → (i : Json) × IsShallowText text i → r ≡ Err e → (r ≡ Err error.Invalid → document text ≡ None) → r ≢ Err error.TooLong → r ≢ Err error.DuplicateKey → e ≡ error.OutOfMemory
-read_for_memory text r error.OutOfMemory (i, s) is invalid long twice = refl
-read_for_memory text r error.Invalid (i, s) is invalid long twice = absurd (none-some i (sym (invalid is) ∙ (read_is text i).1 s))
-read_for_memory text r error.TooLong (i, s) is invalid long twice = absurd (long is)
-read_for_memory text r error.DuplicateKey (i, s) is invalid long twice = absurd (twice is)
+pub removal_stands : (text : List ℕ) (P : Pointer) (was : Option Json) (i : Json) → was ≡ Some i → MayStandAt text P was → (x : Json) × MayStandAt text P (Some x)
+removal_stands text P was i is h = (i, subst (MayStandAt text P) is h)

@@ -1,4 +1,5 @@
 pub mod Changes
 pub mod Merged
 pub mod Merging
+pub mod Stands
 pub mod Steps

@@ -7,9 +7,9 @@
 
 mod fault;
 mod merging;
-mod place;
 #[cfg(test)]
 mod tests;
+mod texts;
 mod whole;
 
 pub use fault::MergeTextFault;

@@ -1,16 +1,19 @@
 //! A merge patch merged into a text, member by member (RFC 7396, section 2).
 
-ghost use Rattle.std.specs.Prelude.{◌≡◌, ◌<◌, ◌+◌, IfOk, Some, drop, is_some, option_map, vec_len};
-ghost use Rattle.std.specs.String.{string_bytes};
+ghost use Rattle.std.specs.Prelude.{◌≡◌, ◌<◌, ◌+◌, OnOk, Option, Some, drop, is_some, vec_len};
 ghost use Rattle.json.specs.Find.{get_member};
-ghost use Rattle.json.specs.Json.{Members, object};
+ghost use Rattle.json.specs.Json.{Json, Members, object};
 ghost use Rattle.json.specs.Value.{value_view, members_view};
 ghost use Rattle.json_merge_text.specs.Merging.{IsChanged, MergesInto, MergesMember, MergesObject};
-ghost use Rattle.json_merge_text.specs.Steps.{MayStandAt, StandsAt};
+ghost use Rattle.json_merge_text.specs.Stands.{MayStandAt, StandsAt};
+ghost use Rattle.json_merge_text.specs.Steps.{AreTexts, Becomes};
+ghost use Rattle.json_pieces.specs.Whole.{text_of};
+ghost use Rattle.json_text.specs.Listing.{shape_of};
 
-use crate::place::Place;
+use crate::texts::{Texts, member_of};
 use json::Value;
-use json_reading::same_tree;
+use json_text::Shape;
+use jsonptr::PointerBuf;
 use std::alloc::{AllocError, Global};
 
 /// Whether a member of this name comes behind the one at `index`.
@@ -26,111 +29,111 @@ fn comes_again(members: &Vec<(&str, Value<'_>)>, index: usize, name: &str) -> bo
     false
 }
 
-/// The text with what the patch has at this place merged into what stands there.
+/// What the patch has at a place merged into what the document has there.
 #[cycle(merging)]
 pub(crate) fn merge_into(
     alloc: Global,
-    text: String,
-    place: &Place<'_>,
-    here: &Value,
+    texts: &mut Texts<'_>,
+    path: &PointerBuf,
+    here: Shape,
     change: &Value,
-) -> Result<String, AllocError>
-    requires named { StandsAt place.now.patch.now place.now.path (value_view change.now) }
-    requires stands { StandsAt (string_bytes text) place.now.path (value_view here.now) }
-    ensures { IfOk result (λ new. IsChanged (string_bytes text) (string_bytes new)
-        (MergesInto place.now.patch.now place.now.path (value_view here.now) (value_view change.now))) }
+) -> Result<(), AllocError>
+    requires texts { AreTexts texts.old }
+    requires named { StandsAt (text_of texts.old.patch) path.now (value_view change.now) }
+    requires stands { (i : Json) × StandsAt (text_of texts.old.document) path.now i }
+    requires shape { (i : Json) → StandsAt (text_of texts.old.document) path.now i
+        → here ≡ shape_of i }
+    ensures { OnOk result (Becomes texts.old texts.new (λ patch text new. (i : Json) → StandsAt text path.now i
+        → IsChanged text new (MergesInto patch path.now i (value_view change.now)))) }
 {
     if let Value::Object(changes) = change {
-        if let Value::Object(_) = here {
-            return merge_members(alloc, text, place, here, changes);
+        if let Shape::Object = here {
+            return merge_members(alloc, texts, path, changes);
         }
-        let put = place.replace_in(alloc, text.as_str())?;
-        return prune(alloc, put, place, changes);
+        texts.replace(alloc, path)?;
+        return prune(alloc, texts, path, changes);
     }
-    if same_tree(alloc, here, change)? {
-        return Ok(text);
+    if texts.has_same(alloc, path, change)? {
+        return Ok(());
     }
-    place.replace_in(alloc, text.as_str())
+    texts.replace(alloc, path)
 }
 
-/// The text with each member of the patch's object merged into the object that stands there.
+/// Each member of the patch's object at a place merged into the document's object there.
 #[cycle(merging)]
 fn merge_members<'a>(
     alloc: Global,
-    text: String,
-    place: &Place<'_>,
-    here: &Value,
+    texts: &mut Texts<'_>,
+    path: &PointerBuf,
     changes: &Vec<(&'a str, Value<'a>)>,
-) -> Result<String, AllocError>
-    requires named { StandsAt place.now.patch.now place.now.path
+) -> Result<(), AllocError>
+    requires texts { AreTexts texts.old }
+    requires named { StandsAt (text_of texts.old.patch) path.now
         (object (members_view changes.now.items)) }
-    requires stands { StandsAt (string_bytes text) place.now.path (value_view here.now) }
-    requires object { (is : Members) × (value_view here.now ≡ object is) }
-    ensures { IfOk result (λ new. (is : Members) → value_view here.now ≡ object is
-        → IsChanged (string_bytes text) (string_bytes new)
-        (MergesObject place.now.patch.now place.now.path is (members_view changes.now.items))) }
+    requires stands { (is : Members) × StandsAt (text_of texts.old.document) path.now (object is) }
+    ensures { OnOk result (Becomes texts.old texts.new (λ patch text new. (is : Members) → StandsAt text path.now (object is)
+        → IsChanged text new (MergesObject patch path.now is (members_view changes.now.items)))) }
 {
-    let mut now = text;
     for index in 0..changes.len() {
         let member = &changes[index];
         // Of several of one name the last counts.
         if comes_again(changes, index, member.0) {
             continue;
         }
-        let there = place.member(alloc, member.0)?;
-        now = merge_member(alloc, now, &there, here.get(member.0), &member.1)?;
+        let there = member_of(alloc, path, member.0)?;
+        merge_member(alloc, texts, &there, &member.1)?;
     }
-    Ok(now)
+    Ok(())
 }
 
-/// The text with a member of the patch merged into what stands there, if anything does.
+/// A member of the patch merged into what the document has there, if it has anything.
 #[cycle(merging)]
 fn merge_member(
     alloc: Global,
-    text: String,
-    place: &Place<'_>,
-    here: Option<&Value>,
+    texts: &mut Texts<'_>,
+    path: &PointerBuf,
     change: &Value,
-) -> Result<String, AllocError>
-    requires named { StandsAt place.now.patch.now place.now.path (value_view change.now) }
-    requires stands { MayStandAt (string_bytes text) place.now.path
-        (option_map (λ v. value_view v.now) here) }
-    ensures { IfOk result (λ new. IsChanged (string_bytes text) (string_bytes new)
-        (MergesMember place.now.patch.now place.now.path
-        (option_map (λ v. value_view v.now) here.entry) (value_view change.now)
-        (λ i. MergesInto place.now.patch.now place.now.path i (value_view change.now)))) }
+) -> Result<(), AllocError>
+    requires texts { AreTexts texts.old }
+    requires named { StandsAt (text_of texts.old.patch) path.now (value_view change.now) }
+    requires stands { (was : Option Json) × MayStandAt (text_of texts.old.document) path.now was }
+    ensures { OnOk result (Becomes texts.old texts.new (λ patch text new. (was : Option Json) → MayStandAt text path.now was
+        → IsChanged text new (MergesMember patch path.now was (value_view change.now)
+        (λ i. MergesInto patch path.now i (value_view change.now))))) }
 {
+    let here = texts.shape(alloc, path)?;
     if change.is_null() {
         return match here {
-            None => Ok(text),
-            Some(_) => place.remove_from(alloc, text.as_str()),
+            None => Ok(()),
+            Some(_) => texts.remove(alloc, path),
         };
     }
     if let Some(here) = here {
-        return merge_into(alloc, text, place, here, change);
+        return merge_into(alloc, texts, path, here, change);
     }
     // What is put in as it is written still has its null members.
-    let put = place.add_to(alloc, text.as_str())?;
-    prune_value(alloc, put, place, change)
+    texts.add(alloc, path)?;
+    prune_value(alloc, texts, path, change)
 }
 
-/// The text with what the patch has at this place, which stands there as it is written, merged into
-/// itself: without its null members.
+/// What the patch has at a place, which the document has there as it is written, merged into itself:
+/// without its null members.
 #[cycle(pruning)]
 fn prune_value(
     alloc: Global,
-    text: String,
-    place: &Place<'_>,
+    texts: &mut Texts<'_>,
+    path: &PointerBuf,
     change: &Value,
-) -> Result<String, AllocError>
-    requires named { StandsAt place.now.patch.now place.now.path (value_view change.now) }
-    requires stands { StandsAt (string_bytes text) place.now.path (value_view change.now) }
-    ensures { IfOk result (λ new. IsChanged (string_bytes text) (string_bytes new)
-        (MergesInto place.now.patch.now place.now.path (value_view change.now) (value_view change.now))) }
+) -> Result<(), AllocError>
+    requires texts { AreTexts texts.old }
+    requires named { StandsAt (text_of texts.old.patch) path.now (value_view change.now) }
+    requires stands { StandsAt (text_of texts.old.document) path.now (value_view change.now) }
+    ensures { OnOk result (Becomes texts.old texts.new (λ patch text new. IsChanged text new
+        (MergesInto patch path.now (value_view change.now) (value_view change.now)))) }
 {
     match change {
-        Value::Object(members) => prune(alloc, text, place, members),
-        _ => Ok(text),
+        Value::Object(members) => prune(alloc, texts, path, members),
+        _ => Ok(()),
     }
 }
 
@@ -138,29 +141,29 @@ fn prune_value(
 #[cycle(pruning)]
 fn prune<'a>(
     alloc: Global,
-    text: String,
-    place: &Place<'_>,
+    texts: &mut Texts<'_>,
+    path: &PointerBuf,
     members: &Vec<(&'a str, Value<'a>)>,
-) -> Result<String, AllocError>
-    requires named { StandsAt place.now.patch.now place.now.path
+) -> Result<(), AllocError>
+    requires texts { AreTexts texts.old }
+    requires named { StandsAt (text_of texts.old.patch) path.now
         (object (members_view members.now.items)) }
-    requires stands { StandsAt (string_bytes text) place.now.path
+    requires stands { StandsAt (text_of texts.old.document) path.now
         (object (members_view members.now.items)) }
-    ensures { IfOk result (λ new. IsChanged (string_bytes text) (string_bytes new)
-        (MergesObject place.now.patch.now place.now.path (members_view members.now.items) (members_view members.now.items))) }
+    ensures { OnOk result (Becomes texts.old texts.new (λ patch text new. IsChanged text new
+        (MergesObject patch path.now (members_view members.now.items) (members_view members.now.items)))) }
 {
-    let mut now = text;
     for index in 0..members.len() {
         let member = &members[index];
         if comes_again(members, index, member.0) {
             continue;
         }
-        let there = place.member(alloc, member.0)?;
+        let there = member_of(alloc, path, member.0)?;
         if member.1.is_null() {
-            now = there.remove_from(alloc, now.as_str())?;
+            texts.remove(alloc, &there)?;
             continue;
         }
-        now = prune_value(alloc, now, &there, &member.1)?;
+        prune_value(alloc, texts, &there, &member.1)?;
     }
-    Ok(now)
+    Ok(())
 }

@@ -9,13 +9,14 @@ ghost use Rattle.json_merge_text.specs.Merging.{IsChanged, MergesInto};
 ghost use Rattle.json_merge_text.specs.Steps.{as_document, as_patch};
 ghost use Rattle.json_lexemes.specs.Skipped.{nesting};
 ghost use Rattle.json_lexemes.specs.Spelled.{IsShallowText};
+ghost use Rattle.json_text.specs.Checked.{text_in};
 
 use crate::fault::MergeTextFault;
 use crate::merging::merge_into;
-use crate::place::Place;
+use crate::texts::Texts;
 use json::{Error, Scratch, Value};
-use json_text::{TextFault, value_text};
-use jsonptr::{Pointer, PointerBuf};
+use json_text::{CheckedText, Shape, TextFault};
+use jsonptr::PointerBuf;
 use std::alloc::{AllocError, Global};
 
 /// The fault where the document's text isn't read.
@@ -52,34 +53,21 @@ fn parse_failure(error: Error) -> AllocError
     }
 }
 
-/// The text with the patch merged in; both are JSON and nest no deeper than 128 levels.
-fn merged(alloc: Global, text: &str, patch: &str) -> Result<String, AllocError>
-    requires text { (i : Json) × IsShallowText text.now i }
-    requires patch { (p : Json) × IsShallowText patch.now p }
-    ensures { IfOk result (λ new. (i p : Json) → IsShallowText text.now i → IsShallowText patch.now p
-        → IsChanged text.now (string_bytes new) (MergesInto patch.now [] i p)) }
+/// The text with the patch merged in.
+fn merged(alloc: Global, text: CheckedText, patch: CheckedText) -> Result<String, AllocError>
+    ensures { IfOk result (λ new. (i p : Json) → IsShallowText (text_in text.entry) i
+        → IsShallowText (text_in patch.entry) p
+        → IsChanged (text_in text.entry) (string_bytes new) (MergesInto (text_in patch.entry) [] i p)) }
 {
-    let mut first = Scratch::new(alloc);
-    let mut second = Scratch::new(alloc);
-    let here = match Value::parse(alloc, text, &mut first) {
+    let mut scratch = Scratch::new(alloc);
+    let change = match Value::parse(alloc, patch.as_str(), &mut scratch) {
         Ok(value) => value,
         Err(error) => return Err(parse_failure(error)),
     };
-    let change = match Value::parse(alloc, patch, &mut second) {
-        Ok(value) => value,
-        Err(error) => return Err(parse_failure(error)),
-    };
-    let place = Place {
-        patch,
-        path: PointerBuf::new(),
-    };
-    merge_into(
-        alloc,
-        String::from_str(alloc, text)?,
-        &place,
-        &here,
-        &change,
-    )
+    let here = Shape::of(text.as_str());
+    let mut texts = Texts::new(text, patch);
+    merge_into(alloc, &mut texts, &PointerBuf::new(), here, &change)?;
+    texts.document.to_text(alloc)
 }
 
 /// The text with the merge patch merged in, and every byte kept that the merge doesn't change.
@@ -112,11 +100,13 @@ pub fn merge_text(alloc: Global, text: &str, patch: &str) -> Result<String, Merg
     // Why there is none.
     ensures fault { IfErr result (IsMergeTextFault text.now patch.now) }
 {
-    if let Err(fault) = value_text(alloc, text, Pointer::root()) {
-        return Err(document_fault(fault));
-    }
-    if let Err(fault) = value_text(alloc, patch, Pointer::root()) {
-        return Err(patch_fault(fault));
-    }
+    let text = match CheckedText::new(alloc, text) {
+        Ok(text) => text,
+        Err(fault) => return Err(document_fault(fault)),
+    };
+    let patch = match CheckedText::new(alloc, patch) {
+        Ok(patch) => patch,
+        Err(fault) => return Err(patch_fault(fault)),
+    };
     Ok(merged(alloc, text, patch)?)
 }

@@ -1,14 +1,19 @@
 use Rattle.std.proofs.Common.{◌≡◌, ◌*◌, suc, drop}
-use Rattle.std.specs.String.{string_bytes}
 use Rattle.json.specs.Json.{Members, object}
 use Rattle.json.specs.Tree.{depth, members_depth}
 use Rattle.json.specs.Value.{value_view, members_view}
-use Rattle.json_merge_text.specs.Steps.{IsUpTo}
+use Rattle.json_merge_text.specs.Stands.{IsUpTo, StandsAt}
+use Rattle.json_merge_text.specs.Steps.{AreTexts}
+use Rattle.json_pieces.specs.Whole.{text_of}
 use Rattle.json_merge_text.proofs.merging.+merging.Given as goal
 
 abbrev pub invariant-merge_members-loop-index : goal.invariant-merge_members-loop-index
-invariant-merge_members-loop-index l =
-    (is : Members) → value_view l.here ≡ object is → IsUpTo l.place.patch.now l.place.path is (members_view l.changes.items) (members_view (drop l.index l.changes.items)) (string_bytes l.fn.text) (string_bytes l.now)
+invariant-merge_members-loop-index l = record {
+  texts : AreTexts l.texts;
+  same : text_of l.texts.patch ≡ text_of l.fn.texts.patch;
+  done : (is : Members) → StandsAt (text_of l.fn.texts.document) l.path (object is)
+      → IsUpTo (text_of l.fn.texts.patch) l.path is (members_view l.changes.items) (members_view (drop l.index l.changes.items)) (text_of l.fn.texts.document) (text_of l.texts.document);
+}
 
 abbrev pub decreases-merge_into : goal.decreases-merge_into
 decreases-merge_into l = 3 * depth (value_view l.change.now)
