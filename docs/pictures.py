@@ -19,6 +19,7 @@ CAPTIONS = {
     "json_number": ("numbers compared exactly", "library"),
     "json_lexemes": ("a text's lexemes by their places", "library"),
     "json_text": ("one place of a text, read or replaced", "library"),
+    "json_pieces": ("a text in pieces, for many changes", "library"),
     "json_reading": ("texts' numbers as documents have them", "library"),
     "json_patch_text": ("what patching a text means", "library"),
     "json_merge_text": ("a text merged in place", "library"),
