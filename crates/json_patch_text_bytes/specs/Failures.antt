@@ -1,5 +1,5 @@
 -- For private clauses: the failure for a fault, and why a pointer leads to no value's text.
-use Rattle.std.specs.Prelude.{ℕ, List, unwrap_or}
+use Rattle.std.specs.Prelude.{◌≡◌, ◌⊎◌, ℕ, List, unwrap_or, ⊤}
 use Rattle.json_merge_text.specs.declared.fault.MergeTextFault.{MergeTextFault}
 use Rattle.json_merge_text.specs.declared.fault.MergeTextFault.TheVariants as merge
 use Rattle.json_patch.specs.LimitKind.TheVariants as limit
@@ -14,7 +14,7 @@ use Rattle.json_patch_bytes.specs.Texts.{IsNoPointer}
 use Rattle.json_patch_bytes.specs.declared.failure.Failure.{Failure}
 use Rattle.json_patch_bytes.specs.declared.failure.Failure.TheVariants.{NoDocument, NoPatch, Refused, Over, Memory}
 use Rattle.json_patch_text_bytes.specs.Reasons.{of_text}
-use Rattle.json_patch_text_bytes.specs.Texts.{IsNothingAt}
+use Rattle.json_patch_text_bytes.specs.Texts.{IsJsonText, IsNothingAt}
 use Rattle.json_patch_text_bytes.specs.declared.lookup.LookupFault.{LookupFault}
 use Rattle.json_patch_text_bytes.specs.declared.lookup.LookupFault.TheVariants as lookup
 
@@ -47,6 +47,21 @@ abbrev pub of_merge_fault : MergeTextFault → Failure
 of_merge_fault (merge.Document f) = as_document f
 of_merge_fault (merge.Patch f) = as_patch f
 of_merge_fault (merge.Memory m) = Memory
+
+-- ---- what is told
+
+-- it speaks of a text
+abbrev pub IsOfText : Failure → Type 0
+IsOfText (NoDocument kind) = ⊤
+IsOfText (NoPatch operation kind) = ⊤
+IsOfText (Refused e) = ⊥
+IsOfText (Over e) = ⊥
+IsOfText Memory = ⊥
+
+-- where a call fails so, the document's own failure is told, or this one, which speaks of a text only where the document's is JSON
+abbrev pub IsTold : ℕ → List ℕ → Failure → Failure → Type 0
+IsTold levels document failure told = IsFailure (of_text levels document) told
+    ⊎ ((told ≡ failure) × (IsOfText failure → IsJsonText levels document))
 
 -- ---- a value's text
 

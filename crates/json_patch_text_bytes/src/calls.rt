@@ -8,10 +8,10 @@ ghost use Rattle.json_patch_text_bytes.specs.Texts.{IsMergedInto, IsPatched, IsV
 
 use crate::failures::{of_document, of_merge, of_run};
 use crate::lookup::LookupFault;
-use crate::texts::{flat_text, json_text};
+use crate::texts::{flat_text, told};
 use json_merge_text::merge_text;
 use json_patch::Limits;
-use json_patch_bytes::failure::Failure;
+use json_patch_bytes::failure::{Failure, NOT_JSON};
 use json_patch_text::patch_text_within;
 use json_text::value_text;
 use jsonptr::Pointer;
@@ -35,17 +35,17 @@ pub fn patched(
     ensures text { IfOk result (λ s. IsPatched limits document.now patch.now (string_bytes s)) }
     ensures failure { IfErr result (IsFailure (of_patch limits document.now patch.now)) }
 {
-    let document = match json_text(alloc, document, limits.depth) {
-        Ok(document) => document,
-        Err(failure) => return Err(failure),
+    let Ok(text) = str::from_utf8(document) else {
+        return Err(Failure::NoDocument(NOT_JSON));
     };
     let patch = match flat_text(patch, MOST_OF_PATCH) {
         Ok(patch) => patch,
-        Err(kind) => return Err(Failure::NoPatch(0, kind)),
+        Err(kind) => return Err(told(alloc, document, limits.depth, Failure::NoPatch(0, kind))),
     };
-    match patch_text_within(alloc, document, patch, limits) {
-        Ok(text) => Ok(text),
-        Err(fault) => Err(of_run(fault)),
+    // This reads the document's text itself, so it isn't read here before.
+    match patch_text_within(alloc, text, patch, limits) {
+        Ok(new) => Ok(new),
+        Err(fault) => Err(told(alloc, document, limits.depth, of_run(fault))),
     }
 }
 
@@ -64,17 +64,17 @@ pub fn merged(
     ensures text { IfOk result (λ s. IsMergedInto levels document.now patch.now (string_bytes s)) }
     ensures failure { IfErr result (IsFailure (of_merge levels document.now patch.now)) }
 {
-    let document = match json_text(alloc, document, levels) {
-        Ok(document) => document,
-        Err(failure) => return Err(failure),
+    let text = match flat_text(document, levels) {
+        Ok(text) => text,
+        Err(kind) => return Err(Failure::NoDocument(kind)),
     };
     let patch = match flat_text(patch, levels) {
         Ok(patch) => patch,
-        Err(kind) => return Err(Failure::NoPatch(0, kind)),
+        Err(kind) => return Err(told(alloc, document, levels, Failure::NoPatch(0, kind))),
     };
-    match merge_text(alloc, document, patch) {
-        Ok(text) => Ok(text),
-        Err(fault) => Err(of_merge(fault)),
+    match merge_text(alloc, text, patch) {
+        Ok(new) => Ok(new),
+        Err(fault) => Err(told(alloc, document, levels, of_merge(fault))),
     }
 }
 

@@ -3,6 +3,7 @@
 ghost use Rattle.std.specs.Prelude.{◌≡◌, ◌≤◌, IfErr, IfOk, IsUtf8};
 ghost use Rattle.json_lexemes.specs.Skipped.{nesting};
 ghost use Rattle.json_patch_bytes.specs.Failures.{IsFailure};
+ghost use Rattle.json_patch_text_bytes.specs.Failures.{IsTold};
 ghost use Rattle.json_patch_text_bytes.specs.Reasons.{of_text};
 ghost use Rattle.json_patch_text_bytes.specs.Texts.{IsJsonText, IsNoFlatText};
 
@@ -28,10 +29,10 @@ pub(crate) fn flat_text(bytes: &[u8], levels: usize) -> Result<&str, u8>
     Ok(text)
 }
 
-/// The JSON text that the bytes are, of at most so many levels.
-pub(crate) fn json_text(alloc: Global, bytes: &[u8], levels: usize) -> Result<&str, Failure>
+/// Whether the bytes are a JSON text of at most so many levels, and else why not.
+fn check_text(alloc: Global, bytes: &[u8], levels: usize) -> Result<(), Failure>
     requires { levels ≤ 124 }
-    ensures text { IfOk result (λ text. (text.now ≡ bytes.now) × IsJsonText levels bytes.now) }
+    ensures text { IfOk result (λ _. IsJsonText levels bytes.now) }
     ensures failure { IfErr result (IsFailure (of_text levels bytes.now)) }
 {
     let text = match flat_text(bytes, levels) {
@@ -39,7 +40,23 @@ pub(crate) fn json_text(alloc: Global, bytes: &[u8], levels: usize) -> Result<&s
         Err(kind) => return Err(Failure::NoDocument(kind)),
     };
     match value_text(alloc, text, Pointer::root()) {
-        Ok(_) => Ok(text),
+        Ok(_) => Ok(()),
         Err(fault) => Err(of_document(fault)),
+    }
+}
+
+/// The failure that is told where a call fails so: one that speaks of a text only where the document's
+/// bytes are a JSON text, and else why they are none.
+pub(crate) fn told(alloc: Global, document: &[u8], levels: usize, failure: Failure) -> Failure
+    requires { levels ≤ 124 }
+    ensures { IsTold levels document.now failure result }
+{
+    match failure {
+        Failure::NoDocument(_) | Failure::NoPatch(_, _) => {}
+        _ => return failure,
+    }
+    match check_text(alloc, document, levels) {
+        Ok(()) => failure,
+        Err(own) => own,
     }
 }
