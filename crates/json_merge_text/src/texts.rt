@@ -92,6 +92,8 @@ impl<'a> Texts<'a> {
     }
 
     /// Whether the document has the same as `value` at a place.
+    // Kept out of the merge's recursion, whose every level would else hold the reader's room.
+    #[inline(never)]
     pub(crate) fn has_same(
         &mut self,
         alloc: Global,
