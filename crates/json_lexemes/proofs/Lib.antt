@@ -5,6 +5,7 @@ pub mod Lexing
 pub mod Skipping
 pub mod Read
 pub mod Steps
+mod Runs
 mod Ascii
 pub mod Closed
 pub mod FirstBytes

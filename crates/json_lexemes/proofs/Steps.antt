@@ -85,7 +85,7 @@ blank_mode : (m : Mode) (c : Class) → c ≡ space → ((m ≡ between) ⊎ (m 
 blank_mode m c e (inl f) = ap₂ next_mode f e
 blank_mode m c e (inr f) = ap₂ next_mode f e
 
-end_modes : (t : List ℕ) (i : ℕ) → i < length t → IsEnd t i → (mode_at t i ≡ between) ⊎ (mode_at t i ≡ in_word)
+pub end_modes : (t : List ℕ) (i : ℕ) → i < length t → IsEnd t i → (mode_at t i ≡ between) ⊎ (mode_at t i ≡ in_word)
 end_modes t i h (inl e) = inl e
 end_modes t i h (inr (inl e)) = inr e.0
 end_modes t i h (inr (inr e)) = let never : ⊥ = omega arith in absurd never
@@ -215,8 +215,8 @@ string_depth n None = refl
 string_depth n (Some s) = refl
 
 -- it opens and closes nothing
-record IsFlat (k : Token) : Type 0 where
-  stays : (n : ℕ) → open_after n k ≡ n
+pub record IsFlat (k : Token) : Type 0 where
+  pub stays : (n : ℕ) → open_after n k ≡ n
 
 either_flat : (b : Bool) (k l : Token) → IsFlat k → IsFlat l → IsFlat (cond b k l)
 either_flat true k l e f = e
@@ -232,7 +232,7 @@ flat_number t (Some r) = either_flat (ends_word r) _ _ (record { stays = λ n. r
 flat_literal : (name : List ℕ) (k : Token) (t : List ℕ) → IsFlat k → IsFlat (literal name k t)
 flat_literal name k t e = either_flat (starts_with nat_eq t name && ends_word (drop (length name) t)) k bad e flat_bad
 
-flat_word : (t : List ℕ) → IsFlat (word t)
+pub flat_word : (t : List ℕ) → IsFlat (word t)
 unfolding word
 flat_word t =
     either_flat (head t == 116) _ _ (flat_literal (116 ∷ 114 ∷ 117 ∷ 101 ∷ []) (boolean true) t (record { stays = λ n. refl }))

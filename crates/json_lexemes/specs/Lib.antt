@@ -1,5 +1,6 @@
 pub mod Lexing
 pub mod Skipped
 pub mod Places
+pub mod Runs
 pub mod Spelled
 pub mod Found

@@ -9,6 +9,22 @@ ghost use Rattle.json.specs.Lex.{Lexeme, between, in_word, in_string, lex, opera
 ghost use Rattle.json_lexemes.specs.Lexing.{Outside};
 ghost use Rattle.json_lexemes.specs.Places.{mode_at, left_at, depth_by, Closes, HasEnd, IsEnd, Steps};
 ghost use Rattle.json_lexemes.specs.Skipped.{nesting, skip};
+ghost use Rattle.json_lexemes.specs.Runs.{goes_on, is_bracket, is_flat, is_of_word, run_mode, InRun, InString, Passes};
+
+/// Of each byte outside of strings: `0` for a quote or a bracket, `1` for a blank, a comma or a colon, `2`
+/// for a part of a word. One load takes the place of up to ten comparisons.
+static KIND: [u8; 256] = *b"\
+    22222222211221222222222222222222\
+    12022222222212222222222222122222\
+    22222222222222222222222222202022\
+    22222222222222222222222222202022\
+    22222222222222222222222222222222\
+    22222222222222222222222222222222\
+    22222222222222222222222222222222\
+    22222222222222222222222222222222";
+
+/// How many bytes are tested between two tests for the text's end: as many as LLVM unrolls.
+const STRIDE: usize = 8;
 
 /// Whether this is a blank: a space, a tab, a line feed or a carriage return.
 #[inline(always)]
@@ -77,10 +93,64 @@ pub fn after(text: &[u8], from: usize, c: u8) -> Option<usize>
     }
 }
 
+/// The first place from `from` on where a quote stands.
+#[inline(always)]
+fn quote_from(text: &[u8], from: usize) -> Option<usize>
+    requires { from ≤ length text.now }
+    ensures bounds { IfSome result (λ i. (from ≤ i) × (i < length text.now)) }
+    ensures inside { IfSome result (λ i. InString text.now from i) }
+    ensures quote { IfSome result (λ i. get_or text.now i 0 ≡ 34) }
+{
+    let mut i = from;
+    while text.len() - i >= STRIDE {
+        let stop = i + STRIDE;
+        while i < stop {
+            if text[i] == b'"' {
+                return Some(i);
+            }
+            i += 1;
+        }
+    }
+    while i < text.len() {
+        if text[i] == b'"' {
+            return Some(i);
+        }
+        i += 1;
+    }
+    None
+}
+
 /// The place after the quote that closes a string whose inside begins at `from`, or the text's end where
 /// none does.
 #[inline(always)]
 pub fn string_end(text: &[u8], from: usize) -> usize
+    requires { from ≤ length text.now }
+    ensures bounds { (from ≤ result) × (result ≤ length text.now) }
+    ensures left { left_at text.now result ≡ lex in_string (drop from text.now) }
+    ensures mode { mode_at text.now from ≡ in_string → Closes text.now result }
+    ensures boundary { IsUtf8 text.now → IsCharBoundary text.now result }
+{
+    let Some(i) = quote_from(text, from) else {
+        return escaped_end(text, from);
+    };
+    // The first quote closes the string if no backslash stands before it, whatever comes before that.
+    if may_be_escaped(text, from, i) {
+        return escaped_end(text, from);
+    }
+    i + 1
+}
+
+/// Whether a backslash stands before `i`, in a string whose inside begins at `from`.
+#[inline(always)]
+fn may_be_escaped(text: &[u8], from: usize, i: usize) -> bool
+    requires { i ≤ length text.now }
+    ensures { result ≡ false → from < i → get_or text.now (i - 1) 0 ≢ 92 }
+{
+    from < i && text[i - 1] == b'\\'
+}
+
+/// As `string_end`, byte by byte: where a backslash stands before the first quote, or none closes it.
+fn escaped_end(text: &[u8], from: usize) -> usize
     requires { from ≤ length text.now }
     ensures bounds { (from ≤ result) × (result ≤ length text.now) }
     ensures left { left_at text.now result ≡ lex in_string (drop from text.now) }
@@ -143,6 +213,21 @@ fn lexeme_end(text: &[u8], from: usize) -> usize
     }
 }
 
+/// How many brackets are open after the bracket `c`, of `depth` before it.
+#[inline(always)]
+fn open_after_bracket(depth: usize, c: u8) -> usize
+    requires bound { depth + 1 < 2 ^ 64 }
+    requires bracket { is_bracket c ≡ true }
+    ensures value { result ≡ depth_by depth c }
+    ensures bound { result ≤ depth + 1 }
+{
+    if c == b'{' || c == b'[' {
+        depth + 1
+    } else {
+        depth.saturating_sub(1)
+    }
+}
+
 /// How many brackets are open after a lexeme that begins with `c`, of `depth` before it.
 #[inline(always)]
 fn open_after(depth: usize, c: u8) -> usize
@@ -159,6 +244,118 @@ fn open_after(depth: usize, c: u8) -> usize
     }
 }
 
+/// Whether this is no quote and no bracket.
+#[inline(always)]
+fn is_flat(c: u8) -> bool
+    ensures { result ≡ is_flat c }
+{
+    KIND[usize::from(c)] != b'0'
+}
+
+/// Whether this is a part of a word wherever it stands outside of strings.
+#[inline(always)]
+fn is_of_word(c: u8) -> bool
+    ensures { result ≡ is_of_word c }
+{
+    KIND[usize::from(c)] == b'2'
+}
+
+/// The first place from `from` on where a quote or a bracket stands. What is passed leaves the count of
+/// brackets as it is.
+#[inline(always)]
+fn flat_end(text: &[u8], from: usize) -> Option<usize>
+    requires { from ≤ length text.now }
+    ensures bounds { IfSome result (λ i. (from ≤ i) × (i < length text.now)) }
+    ensures run { IfSome result (λ i. InRun text.now from i) }
+    ensures stops { IfSome result (λ i. is_flat (get_or text.now i 0) ≡ false) }
+    ensures none { IfNone result (InRun text.now from (length text.now)) }
+{
+    let mut i = from;
+    while text.len() - i >= STRIDE {
+        let stop = i + STRIDE;
+        while i < stop {
+            if !is_flat(text[i]) {
+                return Some(i);
+            }
+            i += 1;
+        }
+    }
+    while i < text.len() {
+        if !is_flat(text[i]) {
+            return Some(i);
+        }
+        i += 1;
+    }
+    None
+}
+
+/// Whether a word goes on at `at`, of a run of flat bytes that began at `from`.
+#[inline(always)]
+fn goes_on(text: &[u8], from: usize, at: usize) -> bool
+    requires order { from ≤ at }
+    requires within { at ≤ length text.now }
+    ensures { result ≡ goes_on text.now from at }
+{
+    from < at && is_of_word(text[at - 1])
+}
+
+/// The place after what the quote at `at` belongs to: a string, or else the word that goes on there. The
+/// lexeme before began at `from` or later.
+#[inline(always)]
+fn past_quote(text: &[u8], from: usize, at: usize) -> usize
+    requires order { from ≤ at }
+    requires within { at < length text.now }
+    requires quote { get_or text.now at 0 ≡ 34 }
+    ensures bounds { (at < result) × (result ≤ length text.now) }
+    ensures passes { Passes (lex (run_mode text.now from at) (drop at text.now)) (left_at text.now result) }
+    ensures end { mode_at text.now at ≡ run_mode text.now from at → IsEnd text.now result }
+{
+    if goes_on(text, from, at) {
+        word_end(text, at + 1)
+    } else {
+        string_end(text, at + 1)
+    }
+}
+
+/// The first place from `from` on where a bracket stands outside of strings, or the text's end.
+#[inline(always)]
+fn bracket_from(text: &[u8], from: usize) -> usize
+    requires { from ≤ length text.now }
+    ensures bounds { (from ≤ result) × (result ≤ length text.now) }
+    ensures passes { Passes (left_at text.now from) (left_at text.now result) }
+    ensures stops { result < length text.now → is_bracket (get_or text.now result 0) ≡ true }
+    ensures end { IsEnd text.now from → IsEnd text.now result }
+{
+    let mut i = from;
+    loop {
+        let Some(at) = flat_end(text, i) else {
+            return text.len();
+        };
+        if text[at] != b'"' {
+            return at;
+        }
+        i = past_quote(text, i, at);
+    }
+}
+
+/// The place after the last lexeme, or `from` where none is left.
+fn last_lexeme_end(text: &[u8], from: usize) -> usize
+    requires { from ≤ length text.now }
+    ensures bounds { (from ≤ result) × (result ≤ length text.now) }
+    ensures left { left_at text.now result ≡ [] }
+    ensures end { IsEnd text.now from
+        → IsEnd text.now result × ((result ≡ from) ⊎ HasEnd text.now result) }
+    ensures boundary { IsUtf8 text.now → IsCharBoundary text.now from → IsCharBoundary text.now result }
+{
+    let mut end = from;
+    let mut i = blank_end(text, from);
+    while i < text.len() {
+        end = lexeme_end(text, i);
+        i = blank_end(text, end);
+    }
+    end
+}
+
 /// The place after the value that begins at `from`, blanks before it aside, or after the last lexeme where
 /// brackets stay open.
 pub fn value_end(text: &[u8], from: usize) -> usize
@@ -169,16 +366,19 @@ pub fn value_end(text: &[u8], from: usize) -> usize
         → IsEnd text.now result × ((result ≡ from) ⊎ HasEnd text.now result) }
     ensures boundary { IsUtf8 text.now → IsCharBoundary text.now from → IsCharBoundary text.now result }
 {
-    let mut depth: usize = 0;
-    let mut end = from;
-    let mut i = blank_end(text, from);
-    while i < text.len() {
-        depth = open_after(depth, text[i]);
-        end = lexeme_end(text, i);
-        if depth == 0 {
-            return end;
+    let start = blank_end(text, from);
+    if start == text.len() {
+        return from;
+    }
+    let mut depth = open_after(0, text[start]);
+    let mut end = lexeme_end(text, start);
+    while depth > 0 {
+        let i = bracket_from(text, end);
+        if i == text.len() {
+            return last_lexeme_end(text, end);
         }
-        i = blank_end(text, end);
+        depth = open_after_bracket(depth, text[i]);
+        end = i + 1;
     }
     end
 }
@@ -201,19 +401,18 @@ pub fn last_end(text: &[u8], from: usize) -> usize
     end
 }
 
-/// Whether more brackets than `most` are open at once, of any text. Each byte is looked at once.
+/// Whether more brackets than `most` are open at once, of any text. No byte is passed over more than twice.
 pub fn is_deeper(text: &[u8], most: usize) -> bool
     ensures { Decides result (most < nesting text.now) }
 {
     let mut depth: usize = 0;
-    let mut i = blank_end(text, 0);
+    let mut i = bracket_from(text, 0);
     while i < text.len() {
-        depth = open_after(depth, text[i]);
-        let end = lexeme_end(text, i);
+        depth = open_after_bracket(depth, text[i]);
         if depth > most {
             return true;
         }
-        i = blank_end(text, end);
+        i = bracket_from(text, i + 1);
     }
     false
 }

@@ -24,6 +24,16 @@ fn lexemes(rt: HostRuntime) {
     assert!(rt; is_name(text, 21, b"a") && !is_name(text, 21, b"b"));
 }
 
+#[test]
+fn any_bytes(rt: HostRuntime) {
+    // a quote within a word opens no string
+    assert_eq!(rt; value_end(b"[1\"]\"]", 0), 4);
+    assert_eq!(rt; value_end(b"[\"a longer \\\"]\"] ", 0), 16);
+    assert_eq!(rt; value_end(b"[1 ", 0), 2);
+    assert_eq!(rt; string_end(b"\\\\\"", 0), 3);
+    assert!(rt; is_deeper(b"[[\"[\"", 1) && !is_deeper(b"[[\"[\"", 2));
+}
+
 /// The bytes at a place.
 fn at(place: Option<Span>) -> Option<&'static str> {
     let place = place?;

@@ -1,33 +1,37 @@
-use Rattle.std.proofs.Common.{◌≡◌, get_or, ap, ◌∙◌, refl, arith}
+use Rattle.std.proofs.Common.{◌≡◌, ◌+◌, get_or, ap, ◌∙◌, refl, sym, arith}
 use Rattle.std.proofs.lemmas.Bool.{false≢true}
 use Rattle.json_lexemes.specs.Skipped.{most_open}
 use Rattle.json_lexemes.specs.Places.{left_at, depth_by}
-use Rattle.json_lexemes.proofs.Steps.{most_nothing, most_step, most_least}
+use Rattle.json_lexemes.proofs.Steps.{most_nothing, most_step, most_least, operator_first}
+use Rattle.json_lexemes.proofs.Runs.{bracket_operator}
 use Rattle.json_lexemes.proofs.lexemes.is_deeper.Goals as goal
 
 pub returns-then-depth-most : goal.returns-then-depth-most
 returns-then-depth-most c =
     let t = c.args.text.now in
-    let k = c.lexeme_end-end.result in
-    let s = most_step t c.loop-i.i k c.loop-i.depth c.lexeme_end-end.ensures.steps in
-    let d = c.open_after-depth.ensures.value in
-    let l = most_least (depth_by c.loop-i.depth (get_or t c.loop-i.i 0)) (left_at t k) in
-    (λ e. c.loop-i.invariant.forth (omega (arith, s, d, l)), λ h. refl)
+    let i = c.loop-i.i in
+    let h = c.loop-i-test.true in
+    let s = most_step t i (i + 1) c.loop-i.depth (operator_first t i h (bracket_operator (get_or t i 0) (c.loop-i.invariant.stops h))) in
+    let d = c.open_after_bracket-depth.ensures.value in
+    let l = most_least (depth_by c.loop-i.depth (get_or t i 0)) (left_at t (i + 1)) in
+    (λ e. c.loop-i.invariant.forth (omega (arith, s, d, l)), λ m. refl)
 
 pub loop-i-preserved : goal.loop-i-preserved
 loop-i-preserved c =
     let t = c.args.text.now in
-    let k = c.lexeme_end-end.result in
-    let s = most_step t c.loop-i.i k c.loop-i.depth c.lexeme_end-end.ensures.steps in
-    let n : most_open c.open_after-depth.result (left_at t c.blank_end-i-in-loop-i.result) ≡ most_open (depth_by c.loop-i.depth (get_or t c.loop-i.i 0)) (left_at t k) =
-    ap (most_open c.open_after-depth.result) c.blank_end-i-in-loop-i.ensures.left ∙ ap (λ d. most_open d (left_at t k)) c.open_after-depth.ensures.value in
+    let i = c.loop-i.i in
+    let h = c.loop-i-test.true in
+    let b = c.bracket_from-i-in-loop-i.ensures.bounds in
+    let s = most_step t i (i + 1) c.loop-i.depth (operator_first t i h (bracket_operator (get_or t i 0) (c.loop-i.invariant.stops h))) in
+    let n : most_open c.open_after_bracket-depth.result (left_at t c.bracket_from-i-in-loop-i.result) ≡ most_open (depth_by c.loop-i.depth (get_or t i 0)) (left_at t (i + 1)) =
+    sym (c.bracket_from-i-in-loop-i.ensures.passes.most c.open_after_bracket-depth.result) ∙ ap (λ d. most_open d (left_at t (i + 1))) c.open_after_bracket-depth.ensures.value in
     record {
-      high = c.blank_end-i-in-loop-i.ensures.bounds.1;
-      depth = omega (arith, c.open_after-depth.ensures.bound, c.lexeme_end-end.ensures.bounds, c.blank_end-i-in-loop-i.ensures.bounds);
+      high = b.1;
+      depth = omega (arith, c.open_after_bracket-depth.ensures.bound, b);
       under = omega arith;
-      stops = c.blank_end-i-in-loop-i.ensures.stops;
-      forth = λ h. c.loop-i.invariant.forth (omega (arith, s, n));
-      back = λ h. let b = c.loop-i.invariant.back h in omega (arith, s, n, b);
+      stops = c.bracket_from-i-in-loop-i.ensures.stops;
+      forth = λ m. c.loop-i.invariant.forth (omega (arith, s, n));
+      back = λ m. let f = c.loop-i.invariant.back m in omega (arith, s, n, f);
     }
 
 pub returns : goal.returns

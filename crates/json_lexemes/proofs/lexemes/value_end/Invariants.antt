@@ -1,23 +1,18 @@
-use Rattle.std.proofs.Common.{length, ◌-◌, ◌≡◌, ◌⊎◌, ◌<◌, ◌≤◌, get_or, false}
+use Rattle.std.proofs.Common.{length, ◌-◌, ◌≡◌, ◌≤◌}
 use Rattle.std.specs.Str.{IsUtf8, IsCharBoundary}
-use Rattle.json.specs.Word.{is_space}
 use Rattle.json_lexemes.specs.Places.{left_at, HasEnd, IsEnd}
-use Rattle.json_lexemes.specs.Skipped.{skip}
+use Rattle.json_lexemes.specs.Skipped.{if_open, skip}
 use Rattle.json_lexemes.proofs.lexemes.value_end.Given as goal
 
-abbrev pub invariant-loop-i : goal.invariant-loop-i
-invariant-loop-i l = record {
+abbrev pub invariant-loop-depth : goal.invariant-loop-depth
+invariant-loop-depth l = record {
   low : l.from ≤ l.end;
-  mid : l.end ≤ l.i;
-  high : l.i ≤ length l.text;
+  high : l.end ≤ length l.text;
   depth : l.depth ≤ l.end;
-  stops : l.i < length l.text → is_space (get_or l.text l.i 0) ≡ false;
-  boundary : IsUtf8 l.text → IsCharBoundary l.text l.from → IsCharBoundary l.text l.end;
-  same : left_at l.text l.i ≡ left_at l.text l.end;
-  left : skip l.depth (left_at l.text l.i) ≡ skip 0 (left_at l.text l.from);
-  here : IsEnd l.text l.from → IsEnd l.text l.i;
-  ends : IsEnd l.text l.from → IsEnd l.text l.end × ((l.end ≡ l.from) ⊎ HasEnd l.text l.end);
+  boundary : IsUtf8 l.text → IsCharBoundary l.text l.end;
+  left : if_open l.depth (left_at l.text l.end) (skip l.depth (left_at l.text l.end)) ≡ skip 0 (left_at l.text l.from);
+  ends : IsEnd l.text l.from → IsEnd l.text l.end × HasEnd l.text l.end;
 }
 
-abbrev pub decreases-loop-i : goal.decreases-loop-i
-decreases-loop-i l = length l.text - l.i
+abbrev pub decreases-loop-depth : goal.decreases-loop-depth
+decreases-loop-depth l = length l.text - l.end

@@ -1,7 +1,7 @@
 use Rattle.std.proofs.Common.{length, drop, ◌-◌, ◌≡◌, ◌≤◌}
 use Rattle.json.specs.Lex.{in_string, lex}
 use Rattle.json_lexemes.specs.Places.{mode_at}
-use Rattle.json_lexemes.proofs.lexemes.string_end.Given as goal
+use Rattle.json_lexemes.proofs.lexemes.escaped_end.Given as goal
 
 abbrev pub invariant-loop-i : goal.invariant-loop-i
 invariant-loop-i l = record {
