@@ -5,7 +5,7 @@ ghost use Rattle.std.specs.Str.{IsUtf8, IsCharBoundary};
 ghost use Rattle.json.specs.Json.{Json};
 ghost use Rattle.json.specs.Lex.{between, colon};
 ghost use Rattle.json_lexemes.specs.Found.{IsCut, IsWithin};
-ghost use Rattle.json_text.specs.Listing.{AreTextsIn, AreListed, NamesAt, shape_of};
+ghost use Rattle.json_text.specs.Listing.{AreStretchesIn, AreTextsIn, AreListed, NamesAt, shape_of};
 ghost use Rattle.json_lexemes.specs.Places.{mode_at, left_at};
 ghost use Rattle.json_text.specs.Rows.{Child, IsSolid, inside};
 ghost use Rattle.json_lexemes.specs.Spelled.{Says};
@@ -71,7 +71,9 @@ pub(crate) fn name_from(text: &[u8], start: usize, named: bool) -> Span
 /// // ("\"a\"", "1.50") and ("\"b\"", "[ ]")
 /// ```
 pub fn child_texts<'a>(alloc: Global, text: &'a str) -> Result<Vec<(&'a str, &'a str)>, AllocError>
-    ensures { IfOk result (λ found. (j : Json) → Says text.now j → AreTextsIn j found.items) }
+    ensures texts { IfOk result (λ found. (j : Json) → Says text.now j → AreTextsIn j found.items) }
+    ensures stretches { IfOk result (λ found. (j : Json) → Says text.now j
+        → AreStretchesIn text.now j found.items) }
 {
     let bytes = text.as_bytes();
     let mut found = Vec::new(alloc);
