@@ -17,3 +17,4 @@ pub mod Steps
 pub mod Whole
 pub mod WholeNumbers
 pub mod Within
+pub mod Written

@@ -2,7 +2,7 @@
 use Rattle.std.proofs.Common.{◌≡◌, ◌<◌, ◌≤◌, ◌+◌, [], length, drop, get_or, Bor, BTreeMap, ◌↔◌, ℕ, List, ◌∷◌, Bool, true, false, cond, bytes_eq, Option, Some, None, option_map, refl, sym, ap, ap₂, ◌∙◌, subst, arith, Result, Ok, Err, String, Global, string_bytes}
 use Rattle.std.proofs.lemmas.Bool.{false≢true}
 use Rattle.std.proofs.lemmas.Slice.Eq.{bytes_eq-Decides}
-use Rattle.std.specs.Prelude.{IfOk, codes, if◌then◌else◌, unwrap_or, IsErrAnd}
+use Rattle.std.specs.Prelude.{IfOk, IfSome, codes, if◌then◌else◌, unwrap_or, IsErrAnd}
 use Rattle.std.specs.declared.alloc.AllocError.{AllocError}
 use Rattle.std.proofs.lemmas.List.{drop_more}
 use Rattle.std.proofs.lemmas.Option.{none-some, same_Some}
@@ -25,8 +25,8 @@ use Rattle.json_patch_operation.specs.declared.read_error.ReadFault.{ReadFault}
 use Rattle.json_patch_operation.specs.declared.read_error.ReadFault.TheVariants.{Refused, Memory}
 use Rattle.json_patch_operation.specs.declared.read_error.ReadKind.{ReadKind}
 use Rattle.json_patch_text.specs.Operations.{TreeOperation, add, remove, replace, move, copy, test, tree_fields, HasFields}
-use Rattle.json_patch_text.specs.Outline.{outline, or_before, IsAhead, IsObjectTree, IsOutlined, IsWritten}
-use Rattle.json_patch_text.specs.TextOperations.{IsTexted, IsValueText, IsWrittenAs}
+use Rattle.json_patch_text.specs.Outline.{outline, or_before, IsAhead, IsObjectTree, IsOutlined, IsValueIn, IsWritten}
+use Rattle.json_patch_text.specs.TextOperations.{HasValueAt, IsTexted, IsValueText, IsWrittenAs}
 use Rattle.json_patch_text.specs.declared.operation.TextOperation.{TextOperation}
 use Rattle.json_patch_text.specs.declared.operation.TextOperation.TheVariants.{Add, Remove, Replace, Move, Copy, Test}
 use Rattle.json_patch_text.specs.declared.reading.Outline.{Outline}
@@ -35,8 +35,8 @@ use Rattle.json_patch_text.proofs.Patches.{there, string_back, back, text_back, 
 use Rattle.json_reading.specs.Reading.{Reading}
 use Rattle.json_reading.specs.Trees.{data_of}
 use Rattle.json_reading.proofs.Documents.{IsDocument-data_of, at_name}
-use Rattle.json_text.specs.Listing.{Texts, AreTextsOfMembers}
-use Rattle.json_text.specs.Pointed.{IsTight}
+use Rattle.json_text.specs.Listing.{Texts, AreStretchesOfMembers, AreTextsOfMembers}
+use Rattle.json_text.specs.Pointed.{IsTight, IsWrittenAt}
 use Rattle.json.specs.Json.{Json, null, boolean, number, string, array, object, document}
 use Rattle.json_lexemes.specs.Spelled.{IsShallowText, Says}
 
@@ -68,16 +68,28 @@ written_at : (w : Json) (s : List ℕ) (last : Option Json) (value : Option (Lis
 written_at w s last value true h g = (w, refl, h)
 written_at w s last value false h g = g
 
+-- where the last value that was seen stands, if none is ahead that has its name
+abbrev Stands : List ℕ → Json → Members → Option (List ℕ) → Type 0
+Stands text j ahead value = IfSome value (λ s. tree.get_member (codes "value") ahead ≡ None → IsValueIn text j s)
+
+stands_at : (text : List ℕ) (j : Json) (l : List ℕ) (w : Json) (more : Members) (s : List ℕ) (value : Option (List ℕ)) (b : Bool) → b ≡ bytes_eq l (codes "value") → (tree.get_member l more ≡ None → IsWrittenAt text j (l ∷ []) s) → Stands text j (member l w more) value
+    → Stands text j more (if b then Some s else value)
+stands_at text j l w more s value true e here before = λ none.
+    let is : l ≡ codes "value" = (bytes_eq-Decides l (codes "value")).0 (sym e) in
+    subst (λ k. IsWrittenAt text j (k ∷ []) s) is (here (ap (λ k. tree.get_member k more) is ∙ none))
+stands_at text j l w more s None false e here before = tt
+stands_at text j l w more s (Some u) false e here before = λ none. before (ap₂ (λ o b. tree.later_or o (cond b (Some w) None)) none (sym e))
+
 -- one member more is seen
-pub next_seen : (j : Json) (e : Texts) (es : List Texts) (before after : values.Members) (value : Option (List ℕ)) (k : List ℕ) (v : Data) (b : Bool) → IsAhead j (e ∷ es) before value → IsShallowText e.0.now (string k) → ((w : Json) → IsShallowText e.1.now w → v ≡ outline w)
-    → after ≡ put k v before → b ≡ bytes_eq k (codes "value") → IsAhead j es after (if b then Some e.1.now else value)
-next_seen j e es before after value k v b h named is put_is tested = by h.rest h.texts h.shallow h.members h.valued
+pub next_seen : (text : List ℕ) (j : Json) (e : Texts) (es : List Texts) (before after : values.Members) (value : Option (List ℕ)) (k : List ℕ) (v : Data) (b : Bool) → IsAhead text j (e ∷ es) before value → IsShallowText e.0.now (string k) → ((w : Json) → IsShallowText e.1.now w → v ≡ outline w)
+    → after ≡ put k v before → b ≡ bytes_eq k (codes "value") → IsAhead text j es after (if b then Some e.1.now else value)
+next_seen text j e es before after value k v b h named is put_is tested = by h.rest h.texts h.shallow h.members h.valued h.stretches h.stands
   where
     by : (rest : Members) → AreTextsOfMembers (e ∷ es) rest → members_depth rest ≤ json.max_depth
         → ((q : List ℕ) → option_map outline (tree.get_member q h.all) ≡ or_before (option_map outline (tree.get_member q rest)) (get_member q before))
-        → tree.get_member (codes "value") h.all ≡ tree.later_or (tree.get_member (codes "value") rest) h.last → IsAhead j es after (if b then Some e.1.now else value)
-    by no_members texts low members valued = absurd texts
-    by (member l w more) texts low members valued =
+        → tree.get_member (codes "value") h.all ≡ tree.later_or (tree.get_member (codes "value") rest) h.last → AreStretchesOfMembers text j (e ∷ es) rest → Stands text j rest value → IsAhead text j es after (if b then Some e.1.now else value)
+    by no_members texts low members valued stretches stands = absurd texts
+    by (member l w more) texts low members valued stretches stands =
         let same : k ≡ l = same_string e.0.now k l named.0 texts.0.0 in
         let shallow : IsShallowText e.1.now w = (texts.1.0, omega (arith, low)) in
         let put_w : after ≡ put l (outline w) before = put_is ∙ ap₂ (λ n d. put n d before) same (is w shallow) in
@@ -92,28 +104,30 @@ next_seen j e es before after value k v b h named is put_is tested = by h.rest h
           last = tree.later_or (cond b (Some w) None) h.last;
           valued = valued ∙ valued_at l (codes "value") w (tree.get_member (codes "value") more) h.last (bytes_eq l (codes "value")) ∙ ap (λ c. tree.later_or (tree.get_member (codes "value") more) (tree.later_or (cond c (Some w) None) h.last)) (sym asked);
           written = written_at w e.1.now h.last value b (shallow, texts.1.1) h.written;
+          stretches = stretches.1;
+          stands = stands_at text j l w more e.1.now value b asked stretches.0 stands;
         }
 
 chosen : (b : Bool) (x : Bor (List ℕ)) (found new : Option (Bor (List ℕ))) → new ≡ (if b then Some x else found) → (if b then Some x.now else option_map (λ s. s.now) found) ≡ option_map (λ s. s.now) new
 chosen true x found new e = ap (option_map (λ s. s.now)) (sym e)
 chosen false x found new e = ap (option_map (λ s. s.now)) (sym e)
 
-pub member_seen : (j : Json) (es : List Texts) (i : ℕ) (d : Texts) (before after : values.Members) (found new : Option (Bor (List ℕ))) (k : List ℕ) (v : Data) (b : Bool) → IsAhead j (drop i es) before (option_map (λ s. s.now) found) → i < length es
+pub member_seen : (text : List ℕ) (j : Json) (es : List Texts) (i : ℕ) (d : Texts) (before after : values.Members) (found new : Option (Bor (List ℕ))) (k : List ℕ) (v : Data) (b : Bool) → IsAhead text j (drop i es) before (option_map (λ s. s.now) found) → i < length es
     → IsShallowText (get_or es i d).0.now (string k) → ((w : Json) → IsShallowText (get_or es i d).1.now w → v ≡ outline w) → after ≡ put k v before → b ≡ bytes_eq k (codes "value") → new ≡ (if b then Some (get_or es i d).1 else found)
-    → IsAhead j (drop (i + 1) es) after (option_map (λ s. s.now) new)
-member_seen j es i d before after found new k v b h low named is put_is tested chosen_is =
+    → IsAhead text j (drop (i + 1) es) after (option_map (λ s. s.now) new)
+member_seen text j es i d before after found new k v b h low named is put_is tested chosen_is =
     let e = get_or es i d in
-    subst (IsAhead j (drop (i + 1) es) after) (chosen b e.1 found new chosen_is)
-    (next_seen j e (drop (i + 1) es) before after (option_map (λ s. s.now) found) k v b
-    (subst (λ x. IsAhead j x before (option_map (λ s. s.now) found)) (drop_more es i d low) h) named is put_is tested)
+    subst (IsAhead text j (drop (i + 1) es) after) (chosen b e.1 found new chosen_is)
+    (next_seen text j e (drop (i + 1) es) before after (option_map (λ s. s.now) found) k v b
+    (subst (λ x. IsAhead text j x before (option_map (λ s. s.now) found)) (drop_more es i d low) h) named is put_is tested)
 
 no_rest : (es : List Texts) (rest : Members) → es ≡ [] → AreTextsOfMembers es rest → rest ≡ no_members
 no_rest [] no_members e h = refl
 no_rest [] (member k w ms) e h = absurd h
 no_rest (x ∷ es) rest e h = cc
 
-pub all_seen : (j : Json) (m : BTreeMap (String Global) Value) (value : Option (Bor (List ℕ))) (es : List Texts) → IsAhead j es (members_view m.entries) (option_map (λ s. s.now) value) → es ≡ [] → IsOutlined (record { seen = Object m; value = value }) j
-all_seen j m value es h e =
+pub all_seen : (text : List ℕ) (j : Json) (m : BTreeMap (String Global) Value) (value : Option (Bor (List ℕ))) (es : List Texts) → IsAhead text j es (members_view m.entries) (option_map (λ s. s.now) value) → es ≡ [] → IsOutlined text (record { seen = Object m; value = value }) j
+all_seen text j m value es h e =
     let none : h.rest ≡ no_members = no_rest es h.rest e h.texts in
     let found : (k : List ℕ) → option_map outline (tree.get_member k h.all) ≡ get_member k (members_view m.entries) = λ k. h.members k ∙ ap (λ r. or_before (option_map outline (tree.get_member k r)) (get_member k (members_view m.entries))) none in
     let last : tree.get_member (codes "value") h.all ≡ h.last = h.valued ∙ ap (λ r. tree.later_or (tree.get_member (codes "value") r) h.last) none in
@@ -121,7 +135,12 @@ all_seen j m value es h e =
       object = (λ _. (h.all, h.is), λ _. (members_view m.entries, view-Object m));
       members = λ k. ap (get k) (view-Object m) ∙ sym (found k) ∙ ap (λ x. option_map outline (tree.get k x)) (sym h.is);
       value = subst (λ o. IsWritten o (option_map (λ s. s.now) value)) (sym last ∙ ap (tree.get (codes "value")) (sym h.is)) h.written;
+      stands = stood (option_map (λ s. s.now) value) h.stands;
     }
+  where
+    stood : (s : Option (List ℕ)) → Stands text j h.rest s → IfSome s (IsValueIn text j)
+    stood None g = tt
+    stood (Some s) g = g (ap (tree.get_member (codes "value")) (no_rest es h.rest e h.texts))
 
 -- ---- the outline is read as the tree is
 
@@ -157,7 +176,7 @@ object_tree r (string t) (ms, e) = cc
 object_tree r (array js) (ms, e) = cc
 object_tree r (object ms) h = (ms, refl)
 
-module _ (o : Outline) (j : Json) (h : IsOutlined o j) where
+module _ (text : List ℕ) (o : Outline) (j : Json) (h : IsOutlined text o j) where
   seen_there : (k : List ℕ) (d : Data) → get k (view o.seen) ≡ Some d → (w : Json) × (tree.get k j ≡ Some w) × (outline w ≡ d)
   seen_there k d e = seen_back (tree.get k j) d (sym (h.members k) ∙ e)
 
@@ -185,20 +204,20 @@ module _ (o : Outline) (j : Json) (h : IsOutlined o j) where
   pub refused_too : (r : Reading) (kind : ReadKind) → RefusesOperation (view o.seen) kind → RefusesOperation (data_of r j) kind
   refused_too r kind f = refuses_alike (to_document r) (from_document r) kind f
 
-  value_there : (d : Data) → get (codes "value") (view o.seen) ≡ Some d → (w : Json) × (tree.get (codes "value") j ≡ Some w) × IsValueText (unwrap_or (option_map (λ s. s.now) o.value) []) w
-  value_there d e = by (option_map (λ s. s.now) o.value) h.value (seen_there (codes "value") d e)
+  value_there : (d : Data) → get (codes "value") (view o.seen) ≡ Some d → (w : Json) × (tree.get (codes "value") j ≡ Some w) × IsValueText (unwrap_or (option_map (λ s. s.now) o.value) []) w × IsValueIn text j (unwrap_or (option_map (λ s. s.now) o.value) [])
+  value_there d e = by (option_map (λ s. s.now) o.value) h.value h.stands (seen_there (codes "value") d e)
     where
-      by : (s : Option (List ℕ)) → IsWritten (tree.get (codes "value") j) s → (w : Json) × (tree.get (codes "value") j ≡ Some w) × (outline w ≡ d) → (w : Json) × (tree.get (codes "value") j ≡ Some w) × IsValueText (unwrap_or s []) w
-      by None none (w, at, is) = absurd (none-some w (sym none ∙ at))
-      by (Some s) there (w, at, is) = there
+      by : (s : Option (List ℕ)) → IsWritten (tree.get (codes "value") j) s → IfSome s (IsValueIn text j) → (w : Json) × (tree.get (codes "value") j ≡ Some w) × (outline w ≡ d) → (w : Json) × (tree.get (codes "value") j ≡ Some w) × IsValueText (unwrap_or s []) w × IsValueIn text j (unwrap_or s [])
+      by None none stands (w, at, is) = absurd (none-some w (sym none ∙ at))
+      by (Some s) there stands (w, at, is) = (there.0, there.1, there.2, stands)
 
-  pub operation_there : (op : Operation) (t : TextOperation) → ReadsOperation (view o.seen) op → IsTexted op (unwrap_or (option_map (λ s. s.now) o.value) []) t → (top : TreeOperation) × HasFields j (tree_fields top) × IsWrittenAs t top
-  operation_there (d.add P v) (Add Q s) ((a, (b, (c, u))), whole) is = let (w, at, text) = value_there v c in (add P w, (text_there _ _ a, (text_there _ _ b, (at, tt))), (is.0, subst (λ x. IsValueText x w) (sym is.1) text))
-  operation_there (d.remove P) (Remove Q) ((a, (b, u)), whole) is = (remove P, (text_there _ _ a, (text_there _ _ b, tt)), is)
-  operation_there (d.replace P v) (Replace Q s) ((a, (b, (c, u))), whole) is = let (w, at, text) = value_there v c in (replace P w, (text_there _ _ a, (text_there _ _ b, (at, tt))), (is.0, subst (λ x. IsValueText x w) (sym is.1) text))
-  operation_there (d.move F P) (Move G Q) ((a, (f, (b, u))), whole) is = (move F P, (text_there _ _ a, (text_there _ _ f, (text_there _ _ b, tt))), is)
-  operation_there (d.copy F P) (Copy G Q) ((a, (f, (b, u))), whole) is = (copy F P, (text_there _ _ a, (text_there _ _ f, (text_there _ _ b, tt))), is)
-  operation_there (d.test P v) (Test Q s) ((a, (b, (c, u))), whole) is = let (w, at, text) = value_there v c in (test P w, (text_there _ _ a, (text_there _ _ b, (at, tt))), (is.0, subst (λ x. IsValueText x w) (sym is.1) text))
+  pub operation_there : (op : Operation) (t : TextOperation) → ReadsOperation (view o.seen) op → IsTexted op (unwrap_or (option_map (λ s. s.now) o.value) []) t → (top : TreeOperation) × HasFields j (tree_fields top) × IsWrittenAs t top × HasValueAt text j (codes "value" ∷ []) t
+  operation_there (d.add P v) (Add Q s) ((a, (b, (c, u))), whole) is = let (w, at, said, stands) = value_there v c in (add P w, (text_there _ _ a, (text_there _ _ b, (at, tt))), (is.0, subst (λ x. IsValueText x w) (sym is.1) said), subst (IsValueIn text j) (sym is.1) stands)
+  operation_there (d.remove P) (Remove Q) ((a, (b, u)), whole) is = (remove P, (text_there _ _ a, (text_there _ _ b, tt)), is, tt)
+  operation_there (d.replace P v) (Replace Q s) ((a, (b, (c, u))), whole) is = let (w, at, said, stands) = value_there v c in (replace P w, (text_there _ _ a, (text_there _ _ b, (at, tt))), (is.0, subst (λ x. IsValueText x w) (sym is.1) said), subst (IsValueIn text j) (sym is.1) stands)
+  operation_there (d.move F P) (Move G Q) ((a, (f, (b, u))), whole) is = (move F P, (text_there _ _ a, (text_there _ _ f, (text_there _ _ b, tt))), is, tt)
+  operation_there (d.copy F P) (Copy G Q) ((a, (f, (b, u))), whole) is = (copy F P, (text_there _ _ a, (text_there _ _ f, (text_there _ _ b, tt))), is, tt)
+  operation_there (d.test P v) (Test Q s) ((a, (b, (c, u))), whole) is = let (w, at, said, stands) = value_there v c in (test P w, (text_there _ _ a, (text_there _ _ b, (at, tt))), (is.0, subst (λ x. IsValueText x w) (sym is.1) said), subst (IsValueIn text j) (sym is.1) stands)
   operation_there _ _ h is = absurd is
 
 pub alone_weaker : {P Q : ReadKind → Type 0} (f : ReadFault) → OfKind P f → ((k : ReadKind) → P k → Q k) → OfKind Q f

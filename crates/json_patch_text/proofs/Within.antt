@@ -26,17 +26,17 @@ no_text l text (fault.Memory m) h = h
 
 -- its operations end early
 fault_within : (b : Bounds) (text patch : List ℕ) (os : List TextOperation) (f : TextLimitFault) → most_of b ≡ most_bytes b.limits text patch → HasTexts patch os → ((ops : List TreeOperation) → AreWrittenAs os ops → IsRunFaultUnder (Some b) text os ops f) → IsTextLimitFault b.limits text patch f
-fault_within b text patch os (within.Over e) most (ops, says, w) runs = (os, ops, says, w, subst (λ n. IsTextOverAt b.limits n text os ops e.operation e.kind) most (runs ops w))
-fault_within b text patch os (within.Patch (Document f)) most (ops, says, w) runs = no_text b.limits text f (runs ops w).0
-fault_within b text patch os (within.Patch (Patch f)) most (ops, says, w) runs = absurd (runs ops w).0
-fault_within b text patch os (within.Patch (Unreadable e)) most (ops, says, w) runs = absurd (runs ops w).0
-fault_within b text patch os (within.Patch (Refused e)) most (ops, says, w) runs =
+fault_within b text patch os (within.Over e) most (ops, says, w, in_patch) runs = (os, ops, says, w, in_patch, subst (λ n. IsTextOverAt b.limits n text os ops e.operation e.kind) most (runs ops w))
+fault_within b text patch os (within.Patch (Document f)) most (ops, says, w, in_patch) runs = no_text b.limits text f (runs ops w).0
+fault_within b text patch os (within.Patch (Patch f)) most (ops, says, w, in_patch) runs = absurd (runs ops w).0
+fault_within b text patch os (within.Patch (Unreadable e)) most (ops, says, w, in_patch) runs = absurd (runs ops w).0
+fault_within b text patch os (within.Patch (Refused e)) most (ops, says, w, in_patch) runs =
     let (names, (left, made)) = runs ops w in
-    ((ops, says, names), (os, left, (ops, says, w), subst (λ n. AreMadeWithin b.limits n text (take e.operation os) left) most made))
-fault_within b text patch os (within.Patch (TooDeep k)) most (ops, says, w) runs =
+    ((ops, says, names), (os, left, (ops, says, w, in_patch), subst (λ n. AreMadeWithin b.limits n text (take e.operation os) left) most made))
+fault_within b text patch os (within.Patch (TooDeep k)) most (ops, says, w, in_patch) runs =
     let (found, (left, made, deep)) = runs ops w in
     let shallow : nesting left ≤ b.limits.depth = (last_within b.limits (most_of b) text (take k os) left made).0 in
-    (omega arith, (os, (ops, says, w), found.0, found.1), (os, left, (ops, says, w), subst (λ n. AreMadeWithin b.limits n text (take k os) left) most made))
+    (omega arith, (os, (ops, says, w, in_patch), found.0, found.1), (os, left, (ops, says, w, in_patch), subst (λ n. AreMadeWithin b.limits n text (take k os) left) most made))
 fault_within b text patch os (within.Patch (Memory m)) most h runs = tt
 
 pub run_within : {A : Type 0} (b : Bounds) (text patch : List ℕ) (os : List TextOperation) (r : Result (String A) TextLimitFault) → most_of b ≡ most_bytes b.limits text patch → HasTexts patch os

@@ -4,7 +4,7 @@ use Rattle.json_patch_text.specs.Made.{AreMadeIn, IsNoText, IsTooDeepAt}
 use Rattle.json_patch_text.specs.Operations.{TreeOperation, SaysOperations, SaysNoOperations}
 use Rattle.json_patch_text.specs.Run.{AcceptsText}
 use Rattle.json_patch_text.specs.Stopped.{NamesFirstIn}
-use Rattle.json_patch_text.specs.TextOperations.{AreWrittenAs}
+use Rattle.json_patch_text.specs.TextOperations.{AreWrittenAs, AreWrittenIn}
 use Rattle.json_patch_text.specs.declared.fault.PatchTextFault.{PatchTextFault}
 use Rattle.json_patch_text.specs.declared.fault.PatchTextFault.TheVariants.{Document, Patch, Unreadable, Refused, TooDeep, Memory}
 use Rattle.json_patch_text.specs.declared.operation.TextOperation.{TextOperation}
@@ -13,9 +13,9 @@ use Rattle.json_patch_text.specs.declared.operation.TextOperation.{TextOperation
 abbrev pub AcceptsPatch : List ℕ → List ℕ → List ℕ → Type 0
 AcceptsPatch text patch new = (ops : List TreeOperation) × SaysOperations patch ops × AcceptsText text ops new
 
--- the patch's text says operations, which have these texts for values
+-- the patch's text says operations, which have these texts for values, as they are written in it
 abbrev pub HasTexts : List ℕ → List TextOperation → Type 0
-HasTexts patch os = (ops : List TreeOperation) × SaysOperations patch ops × AreWrittenAs os ops
+HasTexts patch os = (ops : List TreeOperation) × SaysOperations patch ops × AreWrittenAs os ops × AreWrittenIn patch os
 
 -- new is the text with each of them made in turn, and every other byte kept
 abbrev pub IsPatchedText : List ℕ → List ℕ → List ℕ → Type 0

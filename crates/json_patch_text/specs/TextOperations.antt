@@ -1,9 +1,10 @@
--- For private clauses: operations with their values as they are written.
-use Rattle.std.specs.Prelude.{◌≡◌, List, [], ◌∷◌, ⊤, ℕ}
+-- Operations with their values as they are written in the text of a patch.
+use Rattle.std.specs.Prelude.{◌≡◌, List, [], ◌∷◌, ⊤, ℕ, Some, codes, slice_get}
 use Rattle.json.specs.Json.{Json}
+use Rattle.jsonptr.specs.Places.{decimal_token}
 use Rattle.jsonptr.specs.Text.{Pointer}
-use Rattle.json_text.specs.Pointed.{IsTight}
-use Rattle.json_lexemes.specs.Spelled.{IsShallowText}
+use Rattle.json_text.specs.Pointed.{IsTight, IsWrittenAt}
+use Rattle.json_lexemes.specs.Spelled.{IsShallowText, Says}
 use Rattle.json_patch_operation.specs.Operation as document
 use Rattle.json_patch_operation.specs.Operation.{Operation}
 use Rattle.json_patch_text.specs.Operations.{TreeOperation, add, remove, replace, move, copy, test}
@@ -27,6 +28,25 @@ abbrev pub AreWrittenAs : List TextOperation → List TreeOperation → Type 0
 AreWrittenAs [] [] = ⊤
 AreWrittenAs (o ∷ os) (op ∷ ops) = IsWrittenAs o op × AreWrittenAs os ops
 AreWrittenAs os ops = ⊥
+
+-- the operation's value, if it has one, is what the patch's text, which says p, has at P, as it is written there
+abbrev pub HasValueAt : List ℕ → Json → Pointer → TextOperation → Type 0
+HasValueAt patch p P (Add Q s) = IsWrittenAt patch p P s.now
+HasValueAt patch p P (Remove Q) = ⊤
+HasValueAt patch p P (Replace Q s) = IsWrittenAt patch p P s.now
+HasValueAt patch p P (Move F Q) = ⊤
+HasValueAt patch p P (Copy F Q) = ⊤
+HasValueAt patch p P (Test Q s) = IsWrittenAt patch p P s.now
+
+-- the value of the operation at each k is what the patch's text, which says p, has at the tokens k and `value`
+abbrev pub HaveValuesIn : List ℕ → Json → List TextOperation → Type 0
+HaveValuesIn patch p os = (k : ℕ) (o : TextOperation) → slice_get os k ≡ Some o → HasValueAt patch p (decimal_token k ∷ codes "value" ∷ []) o
+
+-- the values of the operations are written so in the patch's text
+abbrev pub AreWrittenIn : List ℕ → List TextOperation → Type 0
+AreWrittenIn patch os = (p : Json) × Says patch p × HaveValuesIn patch p os
+
+-- ---- for private clauses
 
 -- an operation with this text of its value, if it has one
 abbrev pub IsTexted : Operation → List ℕ → TextOperation → Type 0

@@ -9,7 +9,7 @@ use Rattle.json_patch_text.specs.Made.{IsMadeIn}
 use Rattle.json_patch_text.specs.Operations.{TreeOperation, SaysOperations}
 use Rattle.json_patch_text.specs.Patched.{HasTexts, IsPatchTextFault}
 use Rattle.json_patch_text.specs.Run.{AcceptsText}
-use Rattle.json_patch_text.specs.TextOperations.{AreWrittenAs}
+use Rattle.json_patch_text.specs.TextOperations.{AreWrittenAs, AreWrittenIn}
 use Rattle.json_patch_text.specs.declared.fault.PatchTextFault.{PatchTextFault}
 use Rattle.json_patch_text.specs.declared.fault.PatchTextFault.TheVariants.{Document, Patch, Unreadable, Refused, TooDeep, Memory}
 use Rattle.json_patch_text.specs.declared.fault.TextLimitFault.{TextLimitFault}
@@ -59,7 +59,7 @@ IsPatchedWithin l text patch new = (os : List TextOperation) × HasTexts patch o
 
 -- e names the first of them that would leave a text over the limits, and how
 abbrev pub NamesFirstOver : Limits → List ℕ → List ℕ → LimitError → Type 0
-NamesFirstOver l text patch e = (os : List TextOperation) × (ops : List TreeOperation) × SaysOperations patch ops × AreWrittenAs os ops × IsTextOverAt l (most_bytes l text patch) text os ops e.operation e.kind
+NamesFirstOver l text patch e = (os : List TextOperation) × (ops : List TreeOperation) × SaysOperations patch ops × AreWrittenAs os ops × AreWrittenIn patch os × IsTextOverAt l (most_bytes l text patch) text os ops e.operation e.kind
 
 -- those before the one at k are made within the limits
 abbrev pub ReachesWithin : Limits → List ℕ → List ℕ → ℕ → Type 0

@@ -1,13 +1,13 @@
 //! Reading a patch's text (RFC 6902, sections 3 and 4).
 
-ghost use Rattle.std.specs.Prelude.{◌≡◌, [], IfOk, List, Some, if◌then◌else◌, option_map, string_bytes, unwrap_or};
+ghost use Rattle.std.specs.Prelude.{◌≡◌, [], ◌∷◌, codes, IfOk, List, Some, if◌then◌else◌, option_map, string_bytes, unwrap_or};
 ghost use Rattle.json.specs.Json.{Json, string};
 ghost use Rattle.serde_json.specs.View.{view};
 ghost use Rattle.json_patch_operation.specs.Operation.{operation_of};
 ghost use Rattle.json_patch_operation.specs.PatchValue.{IfUnreadAlone, IfUnreadable, RefusesOperation, RefusesPatch};
 ghost use Rattle.json_patch_text.specs.Operations.{HasFields, ReadsTreePatch, TreeOperation, tree_fields};
 ghost use Rattle.json_patch_text.specs.Outline.{IsOutlined, at_number, outline};
-ghost use Rattle.json_patch_text.specs.TextOperations.{AreWrittenAs, IsTexted, IsWrittenAs};
+ghost use Rattle.json_patch_text.specs.TextOperations.{AreWrittenAs, HasValueAt, HaveValuesIn, IsTexted, IsWrittenAs};
 ghost use Rattle.json_reading.specs.Reading.{Reading};
 ghost use Rattle.json_reading.specs.Trees.{data_of};
 ghost use Rattle.json_lexemes.specs.Spelled.{IsShallowText};
@@ -59,7 +59,8 @@ struct Outline<'a> {
 }
 
 fn outline_of<'a>(alloc: Global, text: &'a str) -> Result<Outline<'a>, AllocError>
-    ensures { IfOk result (λ o. (j : Json) → IsShallowText text.now j → IsOutlined o j) }
+    ensures { IfOk result (λ o. (j : Json) → IsShallowText text.now j
+        → IsOutlined text.now o j) }
 {
     let mut members = Map::new(alloc);
     let mut value = None;
@@ -100,7 +101,8 @@ fn texted<'a>(operation: PatchOperation, value: Option<&'a str>) -> TextOperatio
 /// An operation from its text, which is to be JSON.
 fn read_operation<'a>(alloc: Global, text: &'a str) -> Result<TextOperation<'a>, ReadFault>
     ensures read { IfOk result (λ o. (j : Json) → IsShallowText text.now j
-        → (op : TreeOperation) × HasFields j (tree_fields op) × IsWrittenAs o op) }
+        → (op : TreeOperation) × HasFields j (tree_fields op) × IsWrittenAs o op
+        × HasValueAt text.now j (codes "value" ∷ []) o) }
     ensures refused { IfUnreadAlone result (λ kind. (j : Json) → IsShallowText text.now j
         → (r : Reading) → RefusesOperation (data_of r j) kind) }
 {
@@ -125,7 +127,8 @@ fn numbered(number: usize, fault: ReadFault) -> ReadFault
 /// The operations of a patch's text, which is to be JSON.
 pub(crate) fn read<'a>(alloc: Global, text: &'a str) -> Result<Vec<TextOperation<'a>>, ReadFault>
     ensures read { IfOk result (λ os. (p : Json) → IsShallowText text.now p
-        → (ops : List TreeOperation) × ReadsTreePatch p ops × AreWrittenAs os.items ops) }
+        → (ops : List TreeOperation) × ReadsTreePatch p ops × AreWrittenAs os.items ops
+        × HaveValuesIn text.now p os.items) }
     ensures refused { (p : Json) → IsShallowText text.now p → IfUnreadable result (λ e.
         (r : Reading) → RefusesPatch (data_of r p) e.operation e.kind) }
 {

@@ -180,7 +180,7 @@ fn numbers_and_names(rt: HostRuntime) -> Result<(), Fail> {
         ),
         (
             " 1 ",
-            r#"[{"op": "add", "path": "", "value":  { "\u0061" : 1.0} }]"#,
+            r#"[{"value": 0, "op": "add", "path": "", "value":  { "\u0061" : 1.0} }]"#,
             r#" { "\u0061" : 1.0} "#,
         ),
         ("[1, 2]", "[]", "[1, 2]"),

@@ -7,10 +7,10 @@ use Rattle.json_patch_text.proofs.reading.outline_of.Goals as goal
 
 pub loop-member-preserved : goal.loop-member-preserved
 loop-member-preserved c = λ j h.
-    member_seen j c.deref-member-items.result.now c.loop-member.member-index _ (members_view c.loop-member.members.entries) (members_view c.insert.new.self.entries) c.loop-member.value c.latest-value.result (string_bytes c.in_ok-name.name) (view c.in_ok-outlined.field-0) c.eq.result
+    member_seen c.args.text.now j c.deref-member-items.result.now c.loop-member.member-index _ (members_view c.loop-member.members.entries) (members_view c.insert.new.self.entries) c.loop-member.value c.latest-value.result (string_bytes c.in_ok-name.name) (view c.in_ok-outlined.field-0) c.eq.result
     (c.loop-member.invariant j h) (omega (arith, c.loop-member-test.true)) c.in_ok-name.ensures c.in_ok-outlined.ensures
     (ap members_view c.in_ok-insert.ensures.entries ∙ members_view-insert_entry c.loop-member.members.entries c.in_ok-name.name c.in_ok-outlined.field-0) (search (rules, c.eq.ensures, c.as_str.ensures.value)) c.latest-value.ensures
 
 pub returns : goal.returns
 returns c = λ j h.
-    all_seen j c.loop-member.members c.loop-member.value _ (c.loop-member.invariant j h) (drop_all c.loop-member.member-index c.deref-member-items.result.now (omega (arith, c.loop-member-test.false)))
+    all_seen c.args.text.now j c.loop-member.members c.loop-member.value _ (c.loop-member.invariant j h) (drop_all c.loop-member.member-index c.deref-member-items.result.now (omega (arith, c.loop-member-test.false)))

@@ -7,4 +7,4 @@ use Rattle.json_patch_text.proofs.reading.outline_of.Given as goal
 
 abbrev pub invariant-loop-member : goal.invariant-loop-member
 invariant-loop-member l =
-    (j : Json) → IsShallowText l.text j → IsAhead j (drop l.member-index l.member-items) (members_view l.members.entries) (option_map (λ s. s.now) l.value)
+    (j : Json) → IsShallowText l.text j → IsAhead l.text j (drop l.member-index l.member-items) (members_view l.members.entries) (option_map (λ s. s.now) l.value)
