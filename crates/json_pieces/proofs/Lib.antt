@@ -1,8 +1,10 @@
 pub mod Levels
 pub mod Lists
 pub mod Naming
+pub mod Places
 pub mod Openings
 pub mod Rows
 pub mod Lifts
 pub mod Walks
 pub mod Calls
+pub mod Looks

@@ -1,17 +1,20 @@
 -- An edit in a child is one in its object or list.
 use Rattle.std.proofs.Common.{◌≡◌, inl, inr, ℕ, ◌<◌, Bool, List, [], ◌∷◌, ◌++◌, length, Option, Some, None, option_and_then, refl, sym, ap, ◌∙◌, subst, append_assoc}
-use Rattle.std.specs.Prelude.{String}
+use Rattle.std.specs.Prelude.{String, option_map}
 use Rattle.std.specs.declared.alloc.Global.{Global}
 use Rattle.json.specs.Json.{Json}
 use Rattle.jsonptr.specs.Text.{Pointer}
 use Rattle.json_text.specs.Cuts.{AllSuit, IsBlank, Piece, row_text}
 use Rattle.json_text.specs.Less.{IsNumberOf}
+use Rattle.json_text.specs.Listing.{shape_of}
 use Rattle.json_text.specs.Pointed.{child, put_at, tree_at}
 use Rattle.json_text.specs.Rows.{Child, tree_in}
+use Rattle.json_text.specs.declared.listing.Shape.{Shape}
 use Rattle.json_lexemes.specs.Spelled.{Says}
 use Rattle.json_text.proofs.Along.{put_step}
 use Rattle.json_lexemes.proofs.Nests.{one_tree}
 use Rattle.json_pieces.specs.Edits.{Alters, Fails, IsRightWay, Makes}
+use Rattle.json_pieces.specs.Looks.{Looks}
 use Rattle.json_pieces.specs.declared.edit.Edit.{Edit}
 use Rattle.json_pieces.specs.PieceLists.{with_value}
 use Rattle.json_pieces.proofs.Rows.Numbers.{Stands, stands, value_at}
@@ -52,7 +55,7 @@ module _ (b : Bool) (hollow t : List ℕ) (n : ℕ) (cs : List Child) (ps : List
   lift_fails e P s (inl none) = inl (below t P (tree_in b cs) s.child_tree None s.is none)
   lift_fails e P s (inr (v, leads, misses)) = inr (v, below t P (tree_in b cs) s.child_tree (Some v) s.is leads, misses)
 
-  lift_makes : (e : Edit) (P : Pointer) (found : Option (String Global)) → (s : Stands b t n cs ps) → Makes e (value_at n ps) s.child_tree P x found → Makes e (row_text b hollow ps) (tree_in b cs) (t ∷ P) (row_text b hollow (with_value n x ps)) found
+  pub lift_makes : (e : Edit) (P : Pointer) (found : Option (String Global)) → (s : Stands b t n cs ps) → Makes e (value_at n ps) s.child_tree P x found → Makes e (row_text b hollow ps) (tree_in b cs) (t ∷ P) (row_text b hollow (with_value n x ps)) found
   lift_makes e P None s (same, fails) =
       (s.split.put hollow x ∙ ap (λ y. s.split.before ++ (y ++ s.split.behind)) same ∙ sym (s.split.whole hollow), lift_fails e P s fails)
   lift_makes e P (Some out) s m = record {
@@ -65,12 +68,18 @@ module _ (b : Bool) (hollow t : List ℕ) (n : ℕ) (cs : List Child) (ps : List
     right = right_below m.way t P (tree_in b cs) s.child_tree s.is m.right;
   }
 
-pub lift : (b : Bool) (hollow t : List ℕ) (n : ℕ) (cs : List Child) (ps : List Piece) (x : List ℕ) (e : Edit) (P : Pointer) (found : Option (String Global)) → AllSuit b cs ps → IsBlank hollow → n < length ps → IsNumberOf b cs t n
-    → ((j : Json) → Says (value_at n ps) j → Makes e (value_at n ps) j P x found) → (j : Json) → Says (row_text b hollow ps) j → Makes e (row_text b hollow ps) j (t ∷ P) (row_text b hollow (with_value n x ps)) found
-lift b hollow t n cs ps x e P found h k l number made j says =
+  pub lift_looks : (P : Pointer) (found : Option Shape) → (s : Stands b t n cs ps) → Looks (value_at n ps) s.child_tree P x found → Looks (row_text b hollow ps) (tree_in b cs) (t ∷ P) (row_text b hollow (with_value n x ps)) found
+  lift_looks P found s (same, shape) =
+      (s.split.put hollow x ∙ ap (λ y. s.split.before ++ (y ++ s.split.behind)) same ∙ sym (s.split.whole hollow), shape ∙ sym (ap (option_map shape_of) (below t P (tree_in b cs) s.child_tree (tree_at P s.child_tree) s.is refl)))
+
+-- what holds of the child, M, makes what holds of its object or list, N
+pub lift : (b : Bool) (hollow t : List ℕ) (n : ℕ) (cs : List Child) (ps : List Piece) (x : List ℕ) (M N : List ℕ → Json → List ℕ → Type 0) → AllSuit b cs ps → IsBlank hollow → n < length ps → IsNumberOf b cs t n
+    → ((s : Stands b t n cs ps) → M (value_at n ps) s.child_tree x → N (row_text b hollow ps) (tree_in b cs) (row_text b hollow (with_value n x ps)))
+    → ((j : Json) → Says (value_at n ps) j → M (value_at n ps) j x) → (j : Json) → Says (row_text b hollow ps) j → N (row_text b hollow ps) j (row_text b hollow (with_value n x ps))
+lift b hollow t n cs ps x M N h k l number lifts made j says =
     let s = stands b t n cs ps h l number in
-    subst (λ i. Makes e (row_text b hollow ps) i (t ∷ P) (row_text b hollow (with_value n x ps)) found) (one_tree (row_text b hollow ps) (tree_in b cs) j (row_says b hollow cs ps h k) says)
-    (lift_makes b hollow t n cs ps x e P found s (made s.child_tree s.value.0))
+    subst (λ i. N (row_text b hollow ps) i (row_text b hollow (with_value n x ps))) (one_tree (row_text b hollow ps) (tree_in b cs) j (row_says b hollow cs ps h k) says)
+    (lifts s (made s.child_tree s.value.0))
 
 -- where no child is, nothing is made
 pub none_there : (b : Bool) (hollow t : List ℕ) (cs : List Child) (ps : List Piece) (e : Edit) (P : Pointer) → AllSuit b cs ps → IsBlank hollow → child t (tree_in b cs) ≡ None → (j : Json) → Says (row_text b hollow ps) j → (row_text b hollow ps ≡ row_text b hollow ps) × Fails e j (t ∷ P)

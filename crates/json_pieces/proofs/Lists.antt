@@ -5,7 +5,7 @@ use Rattle.std.proofs.Math.Seq.{take-length}
 use Rattle.json_text.specs.Cuts.{Piece, closes, opens, piece_text, pieces_text, row_text}
 use Rattle.json_pieces.specs.Nodes.{AreSound, IsSound, Tree, lead_of, mark_before, text_bytes, parts_of, piece_with, pieces, tree_text, view}
 use Rattle.json_pieces.specs.declared.node.Node.{Node}
-use Rattle.json_pieces.specs.declared.node.Seam.{Seam}
+use Rattle.json_pieces.specs.declared.seams.Seam.{Seam}
 use Rattle.json_pieces.specs.PieceLists.{with_value}
 use Rattle.json_pieces.proofs.Rows.Numbers.{value_at}
 

@@ -20,8 +20,8 @@ use Rattle.json_text.specs.Rows.{Child, items_in, last_named, tree_in}
 use Rattle.json_text.proofs.Rows.Trees.{no_item, no_member}
 use Rattle.json_pieces.specs.Nodes.{AreNames, text_bytes}
 use Rattle.json_pieces.specs.declared.node.Node.{Node}
-use Rattle.json_pieces.specs.declared.node.Seam.{Seam}
-use Rattle.json_pieces.proofs.Lists.{AreSoundIn, pieces_in, seams_are}
+use Rattle.json_pieces.specs.declared.seams.Seam.{Seam}
+use Rattle.json_pieces.proofs.Lists.{AreSoundIn, pieces_in}
 
 pub names_are : (ss : List Seam) (vs : List Node) (cs : List Child) → AreSoundIn ss vs → AllSuit true cs (pieces_in ss vs) → AreNames ss cs
 names_are [] [] [] h k = tt
@@ -58,7 +58,7 @@ name_at (t ∷ ss) [] i s h l e = absurd h
 name_at (t ∷ ss) (c ∷ cs) zero s h l e = (c, cs, refl, subst (λ x. IsTextOf (text_bytes x.name) (string c.0)) (sym e) h.0)
 name_at (t ∷ ss) (c ∷ cs) (suc i) s h l e = name_at ss cs i s h.1 (omega (arith, l)) e
 
-names_count : (ss : List Seam) (cs : List Child) → AreNames ss cs → length ss ≡ length cs
+pub names_count : (ss : List Seam) (cs : List Child) → AreNames ss cs → length ss ≡ length cs
 names_count [] [] h = refl
 names_count [] (c ∷ cs) h = absurd h
 names_count (s ∷ ss) [] h = absurd h
@@ -120,9 +120,17 @@ by_item true k cs r n p e = absurd (true≢false n)
 by_item false k cs None n p e = e
 by_item false k cs (Some m) n p e = p
 
-pub names_within : (ss copy : List Seam) (vs : List Node) (r : Option ℕ) (n : ℕ) → copy ≡ ss → n ≡ length vs → AreSoundIn ss vs → IfSome r (λ i. i < length copy) → IfSome r (λ i. i < n)
-names_within ss copy vs None n e f h l = tt
-names_within ss copy vs (Some i) n e f h l = omega (arith, seams_are ss vs h, ap length e, f, l)
+last_below : (k : List ℕ) (cs : List Child) → IfSome (last_named k cs) (λ i. i < length cs)
+last_below k [] = tt
+last_below k (c ∷ cs) = by (last_named k cs) (bytes_eq c.0 k) (last_below k cs)
+  where
+    by : (o : Option ℕ) (b : Bool) → IfSome o (λ i. i < length cs) → IfSome (or_else (option_map suc o) (cond b (Some zero) None)) (λ i. i < length (c ∷ cs))
+    by (Some i) b h = omega (arith, h)
+    by None true h = omega arith
+    by None false h = tt
+
+pub named_within : (k : List ℕ) (cs : List Child) (r : Option ℕ) (n : ℕ) → r ≡ last_named k cs → length cs ≡ n → IfSome r (λ i. i < n)
+named_within k cs r n e f = subst (λ o. IfSome o (λ i. i < n)) (sym e) (subst (λ m. IfSome (last_named k cs) (λ i. i < m)) f (last_below k cs))
 
 pub none_counted : (k : List ℕ) (cs : List Child) (r : Option ℕ) (n m : ℕ) → n ≡ m → IfNone r ((ds : List Child) → length ds ≡ n → child k (tree_in false ds) ≡ None) → length cs ≡ m → IfNone r (child k (tree_in false cs) ≡ None)
 none_counted k cs None n m e h l = h cs (l ∙ sym e)

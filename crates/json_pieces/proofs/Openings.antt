@@ -22,7 +22,7 @@ use Rattle.json_lexemes.proofs.Steps.{drop_step, operator_end, operator_left}
 use Rattle.json_pieces.specs.Nodes.{IsRow, IsRowOf, IsSound, shut, piece_with, row_view, text_bytes, tree_text, view}
 use Rattle.json_pieces.specs.declared.node.Node.{Node}
 use Rattle.json_pieces.specs.declared.node.Row.{Row}
-use Rattle.json_pieces.specs.declared.node.Seam.{Seam}
+use Rattle.json_pieces.specs.declared.seams.Seam.{Seam}
 use Rattle.json_pieces.proofs.Lists.{AreSoundIn, nth, pieces_are, pieces_in}
 
 -- ---- the bracket
@@ -177,13 +177,13 @@ pub behind_mark : (t : List ℕ) (b : Bool) (cs : List Child) (ps : List Piece) 
 behind_mark t b cs ps from h s = ((tree_in b cs, h.0), h.1, s.left, s.begins)
 
 -- the row that is handed out
-pub row_made : (t : List ℕ) (b : Bool) (cs : List Child) (hollow : List ℕ) (ss : List Seam) (vs : List Node) (r : Row) → InParts t b cs hollow (pieces_in ss vs) → AreSoundIn ss vs → r.named ≡ b → r.length ≡ length t → text_bytes r.hollow ≡ hollow → r.seams.items ≡ ss → r.values.items ≡ vs → IsRowOf t r
+pub row_made : (t : List ℕ) (b : Bool) (cs : List Child) (hollow : List ℕ) (ss : List Seam) (vs : List Node) (r : Row) → InParts t b cs hollow (pieces_in ss vs) → AreSoundIn ss vs → r.named ≡ b → r.length ≡ length t → text_bytes r.hollow ≡ hollow → r.seams.list.items ≡ ss → r.values.items ≡ vs → IsRowOf t r
 row_made t b cs hollow ss vs r p h named size blank seams values =
-    let parts : pieces_in r.seams.items r.values.items ≡ pieces_in ss vs = ap₂ pieces_in seams values in
-    let sound : AreSoundIn r.seams.items r.values.items = subst (λ x. AreSoundIn x r.values.items) (sym seams) (subst (λ x. AreSoundIn ss x) (sym values) h) in
-    let here : InParts t r.named cs (text_bytes r.hollow) (pieces_in r.seams.items r.values.items) =
-    subst (λ x. InParts t x cs (text_bytes r.hollow) (pieces_in r.seams.items r.values.items)) (sym named) (subst (λ x. InParts t b cs x (pieces_in r.seams.items r.values.items)) (sym blank) (subst (InParts t b cs hollow) (sym parts) p)) in
-    row_of_parts t r.named cs (text_bytes r.hollow) r.length r.seams.items r.values.items here sound size
+    let parts : pieces_in r.seams.list.items r.values.items ≡ pieces_in ss vs = ap₂ pieces_in seams values in
+    let sound : AreSoundIn r.seams.list.items r.values.items = subst (λ x. AreSoundIn x r.values.items) (sym seams) (subst (λ x. AreSoundIn ss x) (sym values) h) in
+    let here : InParts t r.named cs (text_bytes r.hollow) (pieces_in r.seams.list.items r.values.items) =
+    subst (λ x. InParts t x cs (text_bytes r.hollow) (pieces_in r.seams.list.items r.values.items)) (sym named) (subst (λ x. InParts t b cs x (pieces_in r.seams.list.items r.values.items)) (sym blank) (subst (InParts t b cs hollow) (sym parts) p)) in
+    row_of_parts t r.named cs (text_bytes r.hollow) r.length r.seams.list.items r.values.items here sound size
 
 -- ---- what is opened
 
@@ -251,8 +251,8 @@ one_owned ss own_seams new_seams vs own_values new_values i k s own v w text n h
           ∙ ap (λ x. take i (pieces_in ss vs) ++ (x ∷ [])) (alike text ∙ ap (piece_with s) is) ∙ sym (take_next i (piece_with s (tree_text (view v))) (pieces_in ss vs) (nth ss vs i s v h l e f)) ∙ ap (λ m. take m (pieces_in ss vs)) (sym next),
     )
 
-pub row_same : (r new : Row) (ss : List Seam) (vs : List Node) (i : ℕ) → IsSound (row_view r) → AreSoundIn ss vs → pieces_in ss vs ≡ take i (pieces_in r.seams.items r.values.items) → length r.values.items ≤ i → new.named ≡ r.named → new.length ≡ r.length → text_bytes new.hollow ≡ text_bytes r.hollow → new.seams.items ≡ ss → new.values.items ≡ vs → IsRowOf (tree_text (row_view r)) new
+pub row_same : (r new : Row) (ss : List Seam) (vs : List Node) (i : ℕ) → IsSound (row_view r) → AreSoundIn ss vs → pieces_in ss vs ≡ take i (pieces_in r.seams.list.items r.values.items) → length r.values.items ≤ i → new.named ≡ r.named → new.length ≡ r.length → text_bytes new.hollow ≡ text_bytes r.hollow → new.seams.list.items ≡ ss → new.values.items ≡ vs → IsRowOf (tree_text (row_view r)) new
 row_same r new ss vs i h g same l named size blank seams values =
-    let all : pieces_in ss vs ≡ pieces_in r.seams.items r.values.items = same ∙ take_all i (pieces_in r.seams.items r.values.items) (omega (arith, pieces_are r.seams.items r.values.items h.1, l)) in
+    let all : pieces_in ss vs ≡ pieces_in r.seams.list.items r.values.items = same ∙ take_all i (pieces_in r.seams.list.items r.values.items) (omega (arith, pieces_are r.seams.list.items r.values.items h.1, l)) in
     row_made (tree_text (row_view r)) r.named h.0.cs (text_bytes r.hollow) ss vs new
     (record { is = ap (row_text r.named (text_bytes r.hollow)) all; suit = subst (AllSuit r.named h.0.cs) (sym all) h.0.suit; blank = h.0.blank }) g named (size ∙ h.0.size) blank seams values

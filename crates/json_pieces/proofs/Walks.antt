@@ -28,7 +28,7 @@ use Rattle.json_pieces.specs.PieceLists.{with_value}
 use Rattle.json_pieces.proofs.Lifts.{lift, none_there}
 use Rattle.json_pieces.proofs.Lists.{pieces_are, pieces_in, set_pieces, set_sound, value_sound, value_there}
 use Rattle.json_pieces.proofs.Rows.Answers.{value_of_some}
-use Rattle.json_pieces.proofs.Rows.Numbers.{has_text, put_size, value_at, value_fits}
+use Rattle.json_pieces.proofs.Rows.Numbers.{Stands, has_text, put_size, value_at, value_fits}
 use Rattle.json_pieces.proofs.Rows.Says.{row_is}
 
 -- ---- one level
@@ -42,15 +42,15 @@ open_whole node r e h = subst IsWhole (sym (ap view e ∙ view_open r)) (row_who
 pub open_sound : (node : Node) (r : Row) → node ≡ Open r → IsWhole (view node) → IsSound (row_view r)
 open_sound node r e h = (subst IsWhole (ap view e ∙ view_open r) h).0
 
--- what is made of the row is made of the value
-pub row_made : (e : Edit) (old opened new : Node) (copy r s : Row) (P : Pointer) (found : Option (String Global)) → tree_text (view opened) ≡ tree_text (view old) → copy ≡ r → opened ≡ Open r → new ≡ Open s
-    → ((j : Json) → Says (tree_text (row_view copy)) j → Makes e (tree_text (row_view copy)) j P (tree_text (row_view s)) found) → (j : Json) → Says (tree_text (view old)) j → Makes e (tree_text (view old)) j P (tree_text (view new)) found
-row_made e old opened new copy r s P found same copied is left given j says =
-    let made : (j : Json) → Says (tree_text (row_view r)) j → Makes e (tree_text (row_view r)) j P (tree_text (row_view s)) found =
-    subst (λ x. (j : Json) → Says (tree_text (row_view x)) j → Makes e (tree_text (row_view x)) j P (tree_text (row_view s)) found) copied given in
+-- what is made of the row, M, is made of the value
+pub row_made : (M : List ℕ → Json → List ℕ → Type 0) (old opened new : Node) (copy r s : Row) → tree_text (view opened) ≡ tree_text (view old) → copy ≡ r → opened ≡ Open r → new ≡ Open s
+    → ((j : Json) → Says (tree_text (row_view copy)) j → M (tree_text (row_view copy)) j (tree_text (row_view s))) → (j : Json) → Says (tree_text (view old)) j → M (tree_text (view old)) j (tree_text (view new))
+row_made M old opened new copy r s same copied is left given j says =
+    let made : (j : Json) → Says (tree_text (row_view r)) j → M (tree_text (row_view r)) j (tree_text (row_view s)) =
+    subst (λ x. (j : Json) → Says (tree_text (row_view x)) j → M (tree_text (row_view x)) j (tree_text (row_view s))) copied given in
     let text : tree_text (row_view r) ≡ tree_text (view old) = ap tree_text (sym (ap view is ∙ view_open r)) ∙ same in
     let after : tree_text (row_view s) ≡ tree_text (view new) = ap tree_text (sym (ap view left ∙ view_open s)) in
-    subst (λ x. Makes e (tree_text (view old)) j P x found) after (subst (λ x. Makes e x j P (tree_text (row_view s)) found) text (made j (subst (λ x. Says x j) (sym text) says)))
+    subst (λ x. M (tree_text (view old)) j x) after (subst (λ x. M x j (tree_text (row_view s))) text (made j (subst (λ x. Says x j) (sym text) says)))
 
 -- ---- where nothing can be made
 
@@ -133,61 +133,64 @@ answered e text j new false found some none m = subst (Makes e text j [] new) (s
 -- the value of this number is a whole one
 pub value_whole : (r : Row) (n : ℕ) (v : Node) → IsSound (row_view r) → n < length r.values.items → v ≡ get_or r.values.items n v → IsWhole (view v)
 value_whole r n v h l e =
-    let at = has_text r.named n h.0.cs (pieces_in r.seams.items r.values.items) h.0.suit (omega (arith, pieces_are r.seams.items r.values.items h.1, l)) in
-    (value_sound r.seams.items r.values.items n v h.1 l e, (at.0, subst (λ x. IsTextOf x at.0) (value_there r.seams.items r.values.items n v h.1 l e) at.1))
+    let at = has_text r.named n h.0.cs (pieces_in r.seams.list.items r.values.items) h.0.suit (omega (arith, pieces_are r.seams.list.items r.values.items h.1, l)) in
+    (value_sound r.seams.list.items r.values.items n v h.1 l e, (at.0, subst (λ x. IsTextOf x at.0) (value_there r.seams.list.items r.values.items n v h.1 l e) at.1))
 
 pub value_low : (r : Row) (n m : ℕ) (v : Node) → IsSound (row_view r) → n < length r.values.items → v ≡ get_or r.values.items n v → m ≡ length (tree_text (view v)) → m ≤ r.length
 value_low r n m v h l e is =
-    let low = value_fits r.named (text_bytes r.hollow) n r.length (pieces_in r.seams.items r.values.items) (omega (arith, pieces_are r.seams.items r.values.items h.1, l)) h.0.size in
-    omega (arith, low, is, ap length (value_there r.seams.items r.values.items n v h.1 l e))
+    let low = value_fits r.named (text_bytes r.hollow) n r.length (pieces_in r.seams.list.items r.values.items) (omega (arith, pieces_are r.seams.list.items r.values.items h.1, l)) h.0.size in
+    omega (arith, low, is, ap length (value_there r.seams.list.items r.values.items n v h.1 l e))
 
 -- the row with another value there
 module _ (r : Row) (n : ℕ) (v w : Node) (h : IsSound (row_view r)) (l : n < length r.values.items) (e : v ≡ get_or r.values.items n v) where
-  count : n < length (pieces_in r.seams.items r.values.items)
-  count = omega (arith, pieces_are r.seams.items r.values.items h.1, l)
+  count : n < length (pieces_in r.seams.list.items r.values.items)
+  count = omega (arith, pieces_are r.seams.list.items r.values.items h.1, l)
 
-  set_text : row_text r.named (text_bytes r.hollow) (pieces_in r.seams.items (slice_set r.values.items n w)) ≡ row_text r.named (text_bytes r.hollow) (with_value n (tree_text (view w)) (pieces_in r.seams.items r.values.items))
-  set_text = ap (row_text r.named (text_bytes r.hollow)) (set_pieces r.seams.items r.values.items n w)
+  set_text : row_text r.named (text_bytes r.hollow) (pieces_in r.seams.list.items (slice_set r.values.items n w)) ≡ row_text r.named (text_bytes r.hollow) (with_value n (tree_text (view w)) (pieces_in r.seams.list.items r.values.items))
+  set_text = ap (row_text r.named (text_bytes r.hollow)) (set_pieces r.seams.list.items r.values.items n w)
 
-  pub set_is_sound : (k : ℕ) → IsWhole (view w) → k + length (tree_text (view v)) ≡ r.length + length (tree_text (view w)) → IsSound (wide r.named k (text_bytes r.hollow) (parts_of r.seams.items (map view (slice_set r.values.items n w))))
+  pub set_is_sound : (k : ℕ) → IsWhole (view w) → k + length (tree_text (view v)) ≡ r.length + length (tree_text (view w)) → IsSound (wide r.named k (text_bytes r.hollow) (parts_of r.seams.list.items (map view (slice_set r.values.items n w))))
   set_is_sound k whole size =
-      let old = pieces_in r.seams.items r.values.items in
+      let old = pieces_in r.seams.list.items r.values.items in
       let x = tree_text (view w) in
-      let there : length (value_at n old) ≡ length (tree_text (view v)) = ap length (value_there r.seams.items r.values.items n v h.1 l e) in
+      let there : length (value_at n old) ≡ length (tree_text (view v)) = ap length (value_there r.seams.list.items r.values.items n v h.1 l e) in
       let fits : k ≡ length (row_text r.named (text_bytes r.hollow) (with_value n x old)) = put_size r.named (text_bytes r.hollow) n r.length k old x count h.0.size (omega (arith, size, there)) in
       let some = value_of_some r.named old n x whole.1.0 (h.0.cs, h.0.suit) count whole.1.1 in (
         record {
           cs = some.0;
-          suit = subst (AllSuit r.named some.0) (sym (set_pieces r.seams.items r.values.items n w)) some.1;
+          suit = subst (AllSuit r.named some.0) (sym (set_pieces r.seams.list.items r.values.items n w)) some.1;
           blank = h.0.blank;
           size = fits ∙ ap length (sym set_text);
         },
-        set_sound r.seams.items r.values.items n w h.1 whole.0,
+        set_sound r.seams.list.items r.values.items n w h.1 whole.0,
       )
 
-  pub set_makes : (e : Edit) (t k : List ℕ) (P : Pointer) (found : Option (String Global)) → k ≡ t
-      → ((cs : List Child) → AllSuit r.named cs (pieces_in r.seams.items r.values.items) → IsNumberOf r.named cs k n)
-      → ((j : Json) → Says (tree_text (view v)) j → Makes e (tree_text (view v)) j P (tree_text (view w)) found) → (j : Json) → Says (tree_text (row_view r)) j
-      → Makes e (tree_text (row_view r)) j (t ∷ P) (row_text r.named (text_bytes r.hollow) (pieces_in r.seams.items (slice_set r.values.items n w))) found
-  set_makes d t k P found is names made j says =
-      let old = pieces_in r.seams.items r.values.items in
+  -- what is made of the value, M, makes N of the row
+  pub set_makes : (M N : List ℕ → Json → List ℕ → Type 0) (t k : List ℕ) → k ≡ t
+      → ((cs : List Child) → AllSuit r.named cs (pieces_in r.seams.list.items r.values.items) → IsNumberOf r.named cs k n)
+      → ((cs : List Child) (s : Stands r.named t n cs (pieces_in r.seams.list.items r.values.items)) → M (value_at n (pieces_in r.seams.list.items r.values.items)) s.child_tree (tree_text (view w))
+      → N (tree_text (row_view r)) (tree_in r.named cs) (row_text r.named (text_bytes r.hollow) (with_value n (tree_text (view w)) (pieces_in r.seams.list.items r.values.items))))
+      → ((j : Json) → Says (tree_text (view v)) j → M (tree_text (view v)) j (tree_text (view w))) → (j : Json) → Says (tree_text (row_view r)) j
+      → N (tree_text (row_view r)) j (row_text r.named (text_bytes r.hollow) (pieces_in r.seams.list.items (slice_set r.values.items n w)))
+  set_makes M N t k is names lifts made j says =
+      let old = pieces_in r.seams.list.items r.values.items in
       let x = tree_text (view w) in
-      let there : value_at n old ≡ tree_text (view v) = value_there r.seams.items r.values.items n v h.1 l e in
-      let inner : (j : Json) → Says (value_at n old) j → Makes d (value_at n old) j P x found = subst (λ y. (j : Json) → Says y j → Makes d y j P x found) (sym there) made in
-      subst (λ y. Makes d (tree_text (row_view r)) j (t ∷ P) y found) (sym set_text)
-      (lift r.named (text_bytes r.hollow) t n h.0.cs old x d P found h.0.suit h.0.blank count (subst (λ y. IsNumberOf r.named h.0.cs y n) is (names h.0.cs h.0.suit)) inner j says)
+      let there : value_at n old ≡ tree_text (view v) = value_there r.seams.list.items r.values.items n v h.1 l e in
+      let inner : (j : Json) → Says (value_at n old) j → M (value_at n old) j x = subst (λ y. (j : Json) → Says y j → M y j x) (sym there) made in
+      subst (λ y. N (tree_text (row_view r)) j y) (sym set_text)
+      (lift r.named (text_bytes r.hollow) t n h.0.cs old x M N h.0.suit h.0.blank count (subst (λ y. IsNumberOf r.named h.0.cs y n) is (names h.0.cs h.0.suit)) (lifts h.0.cs) inner j says)
 
 pub value_set : (vs : List Node) (n : ℕ) (v w : Node) → n < length vs → v ≡ get_or (slice_set vs n w) n v → v ≡ w
 value_set [] n v w l e = absurd (omega (arith, l))
 value_set (x ∷ vs) zero v w l e = e
 value_set (x ∷ vs) (suc n) v w l e = value_set vs n v w (omega (arith, l)) e
 
-pub none_made : (e : Edit) (t k : List ℕ) (P : Pointer) (r : Row) → IsSound (row_view r) → k ≡ t → ((cs : List Child) → AllSuit r.named cs (pieces_in r.seams.items r.values.items) → child k (tree_in r.named cs) ≡ None) → (j : Json) → Says (tree_text (row_view r)) j → Makes e (tree_text (row_view r)) j (t ∷ P) (tree_text (row_view r)) None
+pub none_made : (e : Edit) (t k : List ℕ) (P : Pointer) (r : Row) → IsSound (row_view r) → k ≡ t → ((cs : List Child) → AllSuit r.named cs (pieces_in r.seams.list.items r.values.items) → child k (tree_in r.named cs) ≡ None) → (j : Json) → Says (tree_text (row_view r)) j → Makes e (tree_text (row_view r)) j (t ∷ P) (tree_text (row_view r)) None
 none_made e t k P r h is none j says =
-    none_there r.named (text_bytes r.hollow) t h.0.cs (pieces_in r.seams.items r.values.items) e P h.0.suit h.0.blank (subst (λ y. child y (tree_in r.named h.0.cs) ≡ None) is (none h.0.cs h.0.suit)) j says
+    none_there r.named (text_bytes r.hollow) t h.0.cs (pieces_in r.seams.list.items r.values.items) e P h.0.suit h.0.blank (subst (λ y. child y (tree_in r.named h.0.cs) ≡ None) is (none h.0.cs h.0.suit)) j says
 
 -- the same of what a call answers, by the tokens that it was given
-pub row_made_at : (c : Result (Option (String Global)) AllocError) (e : Edit) (old opened new : Node) (copy r s : Row) (P Q : Pointer) → Q ≡ P → tree_text (view opened) ≡ tree_text (view old) → copy ≡ r → opened ≡ Open r → new ≡ Open s
-    → IfOk c (λ found. (j : Json) → Says (tree_text (row_view copy)) j → Makes e (tree_text (row_view copy)) j P (tree_text (row_view s)) found) → IfOk c (λ found. (j : Json) → Says (tree_text (view old)) j → Makes e (tree_text (view old)) j Q (tree_text (view new)) found)
-row_made_at c e old opened new copy r s P Q tokens same copied is left given =
-    IfOk-weaker c _ _ (λ found made j says. subst (λ T. Makes e (tree_text (view old)) j T (tree_text (view new)) found) (sym tokens) (row_made e old opened new copy r s P found same copied is left made j says)) given
+pub row_made_at : {X : Type 0} (c : Result X AllocError) (M : Pointer → X → List ℕ → Json → List ℕ → Type 0) (old opened new : Node) (copy r s : Row) (P Q : Pointer) → Q ≡ P → tree_text (view opened) ≡ tree_text (view old) → copy ≡ r → opened ≡ Open r → new ≡ Open s
+    → IfOk c (λ found. (j : Json) → Says (tree_text (row_view copy)) j → M P found (tree_text (row_view copy)) j (tree_text (row_view s))) → IfOk c (λ found. (j : Json) → Says (tree_text (view old)) j → M Q found (tree_text (view old)) j (tree_text (view new)))
+row_made_at c M old opened new copy r s P Q tokens same copied is left given =
+    IfOk-weaker c _ _ (λ found made j says. subst (λ T. M T found (tree_text (view old)) j (tree_text (view new))) (sym tokens) (row_made (M P found) old opened new copy r s same copied is left made j says)) given

@@ -1,7 +1,7 @@
 -- What stands around a value, and how long it is.
 use Rattle.std.specs.Prelude.{◌≡◌, ℕ, ◌+◌, List, [], length, slice_index_or, slice_set}
 use Rattle.json_pieces.specs.Nodes.{text_bytes}
-use Rattle.json_pieces.specs.declared.node.Seam.{Seam}
+use Rattle.json_pieces.specs.declared.seams.Seam.{Seam}
 use Rattle.json_pieces.specs.declared.text.Text.{Text}
 
 abbrev pub seam_length : Seam → ℕ

@@ -1,23 +1,17 @@
 -- A value in pieces as a tree, and the text that it makes.
 use Rattle.std.specs.Prelude.{◌≡◌, ℕ, zero, suc, List, [], ◌∷◌, ◌++◌, length, map, Bool, ⊤}
-use Rattle.std.specs.String.{string_bytes}
-use Rattle.json.specs.Json.{Json, string}
+use Rattle.json.specs.Json.{Json}
 use Rattle.json_text.specs.Cuts.{AllSuit, IsBlank, Piece, opens, row_text}
 use Rattle.json_text.specs.Less.{IsLeaf}
 use Rattle.json_text.specs.Listing.{IsTextOf}
 use Rattle.json_text.specs.Rows.{Child}
 use Rattle.json_lexemes.specs.Spelled.{Says}
+pub use Rattle.json_pieces.specs.Names.{text_bytes, AreNames}
 use Rattle.json_pieces.specs.declared.node.Node.{Node}
 use Rattle.json_pieces.specs.declared.node.Node.TheOpen.{Node-F, Row-F}
 use Rattle.json_pieces.specs.declared.node.Node.TheFolds.{fold-Node}
 use Rattle.json_pieces.specs.declared.node.Row.{Row}
-use Rattle.json_pieces.specs.declared.node.Seam.{Seam}
-use Rattle.json_pieces.specs.declared.text.Text.{Text}
-use Rattle.json_pieces.specs.declared.text.Text.TheVariants.{Kept, Made}
-
-abbrev pub text_bytes : Text → List ℕ
-text_bytes (Kept s) = s.now
-text_bytes (Made s) = string_bytes s
+use Rattle.json_pieces.specs.declared.seams.Seam.{Seam}
 
 -- a part with this value
 abbrev pub piece_with : Seam → List ℕ → Piece
@@ -46,13 +40,13 @@ view_step (Node-F.Closed s) = shut (text_bytes s)
 view_step (Node-F.Open r) = r
 
 abbrev pub row_step : Row-F Tree Tree → Tree
-row_step r = wide r.named r.length (text_bytes r.hollow) (parts_of r.seams.items r.values.items)
+row_step r = wide r.named r.length (text_bytes r.hollow) (parts_of r.seams.list.items r.values.items)
 
 abbrev pub view : Node → Tree
 view = fold-Node Tree Tree view_step row_step
 
 abbrev pub row_parts : Row → Parts
-row_parts r = parts_of r.seams.items (map view r.values.items)
+row_parts r = parts_of r.seams.list.items (map view r.values.items)
 
 abbrev pub row_view : Row → Tree
 row_view r = wide r.named r.length (text_bytes r.hollow) (row_parts r)
@@ -103,13 +97,6 @@ lead_of s = text_bytes s.blank ++ (text_bytes s.name ++ text_bytes s.colons)
 
 abbrev pub row_pieces : Row → List Piece
 row_pieces r = pieces (row_parts r)
-
--- the seams have these children's names
-abbrev pub AreNames : List Seam → List Child → Type 0
-AreNames [] [] = ⊤
-AreNames [] (c ∷ cs) = ⊥
-AreNames (s ∷ ss) [] = ⊥
-AreNames (s ∷ ss) (c ∷ cs) = IsTextOf (text_bytes s.name) (string c.0) × AreNames ss cs
 
 -- neither an object nor a list is shut in it
 abbrev pub IsOpened : Tree → Type 0

@@ -20,6 +20,8 @@ mod node;
 mod opening;
 mod pieces;
 mod row;
+mod seams;
+mod shape;
 #[cfg(test)]
 mod tests;
 mod text;

@@ -5,21 +5,9 @@ ghost use Rattle.std.specs.String.{string_bytes};
 ghost use Rattle.json_pieces.specs.Nodes.{IsSound, lead_of, mark_before, row_view, text_bytes, tree_text, view};
 ghost use Rattle.json_text.specs.Cuts.{closes, row_text};
 
+use crate::seams::{Seam, Seams};
 use crate::text::Text;
 use std::alloc::{AllocError, Global};
-
-/// What stands around a value in an object or a list.
-#[derive(Drop)]
-pub(crate) struct Seam<'a> {
-    /// The blanks behind the bracket or the comma before it.
-    pub blank: Text<'a>,
-    /// A member's name as it is written; of an item nothing.
-    pub name: Text<'a>,
-    /// A member's colon, with the blanks around it; of an item nothing.
-    pub colons: Text<'a>,
-    /// The blanks behind the value.
-    pub trail: Text<'a>,
-}
 
 /// A value.
 #[derive(Drop)]
@@ -39,7 +27,7 @@ pub(crate) struct Row<'a> {
     pub length: usize,
     /// The blanks between the brackets where no value stands there.
     pub hollow: Text<'a>,
-    pub seams: Vec<Seam<'a>>,
+    pub seams: Seams<'a>,
     pub values: Vec<Node<'a>>,
 }
 
@@ -83,7 +71,7 @@ fn write_row(row: &Row<'_>, out: &mut String) -> Result<(), AllocError>
         return write_hollow(row, out);
     }
     for i in 0..count {
-        let seam = &row.seams[i];
+        let seam = &row.seams.list[i];
         out.push_str(mark(row.named, i))?;
         write_lead(seam, out)?;
         write(&row.values[i], out)?;

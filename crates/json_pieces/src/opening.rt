@@ -9,7 +9,8 @@ ghost use Rattle.json_text.specs.Listing.{IsTextOf};
 ghost use Rattle.json_text.specs.Rows.{Child, tree_in};
 ghost use Rattle.json_lexemes.specs.Spelled.{Says};
 
-use crate::node::{Node, Row, Seam, written};
+use crate::node::{Node, Row, written};
+use crate::seams::{Seam, Seams};
 use crate::text::Text;
 use json_text::{Cut, Shape, blanks_at, cut_at};
 use std::alloc::{AllocError, Global};
@@ -56,7 +57,7 @@ fn row_with<'a>(
     ensures named { result.named ≡ named }
     ensures length { result.length ≡ length }
     ensures hollow { text_bytes result.hollow ≡ text_bytes hollow.entry }
-    ensures seams { result.seams.items ≡ parts.entry.0.items }
+    ensures seams { result.seams.list.items ≡ parts.entry.0.items }
     ensures values { result.values.items ≡ parts.entry.1.items }
 {
     let (seams, values) = parts;
@@ -64,7 +65,7 @@ fn row_with<'a>(
         named,
         length,
         hollow,
-        seams,
+        seams: Seams::new(seams),
         values,
     }
 }
@@ -103,7 +104,7 @@ fn owned<'a>(alloc: Global, row: &Row<'_>) -> Result<Row<'a>, AllocError>
     let mut values = Vec::new(alloc);
     for i in 0..row.values.len() {
         let text = written(alloc, &row.values[i])?;
-        seams.push(owned_seam(alloc, &row.seams[i])?)?;
+        seams.push(owned_seam(alloc, &row.seams.list[i])?)?;
         values.push(Node::Closed(Text::Made(text)))?;
     }
     let hollow = Text::made(alloc, row.hollow.as_str())?;
@@ -126,13 +127,26 @@ fn row_for<'a>(alloc: Global, node: &Node<'a>) -> Result<Option<Row<'a>>, AllocE
     }
 }
 
-/// Opens the value, if it is an object or a list.
+/// Counts a question for a member.
+fn ask(alloc: Global, row: &mut Row<'_>) -> Result<(), AllocError>
+    ensures { row_view row.new ≡ row_view row.old }
+{
+    if row.named {
+        row.seams.ask(alloc)?;
+    }
+    Ok(())
+}
+
+/// Opens the value, if it is an object or a list, so that a token can be looked for in it.
 pub(crate) fn open(alloc: Global, node: &mut Node<'_>) -> Result<(), AllocError>
     requires { IsWhole (view node.old) }
     ensures whole { OnOk result (IsWhole (view node.new)) }
     ensures text { OnOk result (tree_text (view node.new) ≡ tree_text (view node.old)) }
     ensures opened { OnOk result (IsOpened (view node.new)) }
 {
+    if let Node::Open(row) = node {
+        return ask(alloc, row);
+    }
     if let Some(row) = row_for(alloc, node)? {
         *node = Node::Open(row);
     }

@@ -2,17 +2,21 @@
 
 use crate::edit::{Edit, edit_at};
 use crate::node::{Node, write};
+use crate::shape::shape_at;
 use crate::text::Text;
-use json_text::{CheckedText, split_blanks};
+use json_text::{CheckedText, Shape, split_blanks};
 use jsonptr::{Pointer, Tokens};
 use std::alloc::{AllocError, Global};
 
 /// A JSON text in pieces.
 ///
 /// At first the text is one piece. A call goes down by the pointer's tokens and opens each object and
-/// list that it comes to: one pass over its text, after which it stays open. In an open object a member
-/// is found by comparing names, in an open list an item at once. An open one takes some 170 bytes of
-/// memory for each member or item.
+/// list that it comes to: one pass over its text, after which it stays open. In an open list an item is
+/// found at once, in an open object a member by comparing names. Once an object of at least 32 members
+/// has been asked for 16, it gets an index of its names, and a member is found in as many steps as the
+/// logarithm of their number. The index learns the names that are added; a removal drops it, until 16
+/// more are asked for. An open one takes some 170 bytes of memory for each member or item, and an index
+/// some 80 for each name, with the name once more.
 ///
 /// A call that runs out of memory leaves pieces of which nothing is known: let them go. `replace` and
 /// `add` may leave a text that nests deeper than 128 levels, and the next call asks for one that
@@ -25,7 +29,7 @@ pub struct Pieces<'a> {
 }
 
 impl<'a> Pieces<'a> {
-    ghost use Rattle.std.specs.Prelude.{◌≡◌, None, IfOk, MatchOption, OnOk, length};
+    ghost use Rattle.std.specs.Prelude.{◌≡◌, None, IfOk, MatchOption, OnOk, length, option_map};
     ghost use Rattle.std.specs.String.{string_bytes};
     ghost use Rattle.json.specs.Json.{Json};
     ghost use Rattle.jsonptr.specs.Pointers.{tokens_left, tokens_of};
@@ -34,6 +38,7 @@ impl<'a> Pieces<'a> {
     ghost use Rattle.json_pieces.specs.Changes.{Adds, Removes, Replaces};
     ghost use Rattle.json_pieces.specs.Whole.{ArePieces, text_of};
     ghost use Rattle.json_text.specs.Checked.{text_in};
+    ghost use Rattle.json_text.specs.Listing.{shape_of};
     ghost use Rattle.json_text.specs.Pointed.{tree_at, IsWrittenAt};
     ghost use Rattle.json_lexemes.specs.Spelled.{IsShallowText};
 
@@ -123,6 +128,25 @@ impl<'a> Pieces<'a> {
             (λ s. IsWrittenAt (text_of self.old) j (tokens_of pointer.entry) (string_bytes s))) }
     {
         self.edit(alloc, pointer.tokens(), Edit::Read)
+    }
+
+    /// What stands where the pointer leads (RFC 6901, section 4): an object, a list, a string or an atom;
+    /// `None` where nothing stands there. It copies nothing. The text stays as it is, though more of it
+    /// is open: the objects and lists on the way, and not the value.
+    ///
+    /// ```rust
+    /// let shape = pieces.shape(alloc, place)?;
+    /// // List
+    /// ```
+    pub fn shape(&mut self, alloc: Global, pointer: Pointer) -> Result<Option<Shape>, AllocError>
+        requires pieces { ArePieces self.old }
+        requires shallow { (j : Json) × IsShallowText (text_of self.old) j }
+        ensures pieces { IfOk result (λ found. ArePieces self.new) }
+        ensures kept { IfOk result (λ found. text_of self.new ≡ text_of self.old) }
+        ensures shape { IfOk result (λ found. (j : Json) → Says (text_of self.old) j
+            → found ≡ option_map shape_of (tree_at (tokens_of pointer.entry) j)) }
+    {
+        shape_at(alloc, &mut self.root, pointer.tokens())
     }
 
     /// Exchanges the value where the pointer leads for another, as it is written, without the blanks

@@ -4,7 +4,7 @@ ghost use Rattle.std.specs.Prelude.{◌≡◌, ◌<◌, ◌≤◌, ◌+◌, ◌^
 ghost use Rattle.jsonptr.specs.Places.{place_of};
 ghost use Rattle.json.specs.Json.{Json};
 ghost use Rattle.json_pieces.specs.Edits.{PutsIn, TakesOut};
-ghost use Rattle.json_pieces.specs.Nodes.{AreNames, IsSound, piece_with, row_pieces, row_view, text_bytes, tree_text};
+ghost use Rattle.json_pieces.specs.Nodes.{IsSound, piece_with, row_pieces, row_view, text_bytes, tree_text};
 ghost use Rattle.json_pieces.specs.Lengths.{HasGained, HasLost, seam_length};
 ghost use Rattle.json_pieces.specs.PieceLists.{item_between, item_pushed, item_put, member_pushed, taken, with_value};
 ghost use Rattle.json_pieces.specs.declared.node.Node.TheVariants.{Closed};
@@ -15,11 +15,12 @@ ghost use Rattle.json_lexemes.specs.Spelled.{Says};
 ghost use Rattle.json_text.specs.Cuts.{AllSuit};
 ghost use Rattle.json_text.specs.Less.{IsNumberOf};
 ghost use Rattle.json_text.specs.Pointed.{child};
-ghost use Rattle.json_text.specs.Rows.{Child, last_named, tree_in};
+ghost use Rattle.json_text.specs.Rows.{Child, tree_in};
 
-use crate::node::{Node, Row, Seam};
+use crate::node::{Node, Row};
+use crate::seams::Seam;
 use crate::text::Text;
-use json_text::{is_name_text, quoted};
+use json_text::quoted;
 use jsonptr::index::Index;
 use std::alloc::{AllocError, Global};
 use std::mem;
@@ -33,22 +34,6 @@ pub(crate) fn resized(length: usize, less: usize, more: usize) -> Result<usize, 
         Some(length) => Ok(length),
         None => Err(AllocError),
     }
-}
-
-/// The number of the last member of this name.
-fn last_named(seams: &[Seam<'_>], name: &str) -> Option<usize>
-    ensures number { (cs : List Child) → AreNames seams.now cs → result ≡ last_named name.now cs }
-    ensures within { IfSome result (λ n. n < length seams.now) }
-{
-    let mut i = seams.len();
-    while i > 0 {
-        let seam = &seams[i - 1];
-        if is_name_text(seam.name.as_str(), name) {
-            return Some(i - 1);
-        }
-        i -= 1;
-    }
-    None
 }
 
 /// The number of the item that a token names, of so many.
@@ -74,7 +59,7 @@ pub(crate) fn number_of(row: &Row<'_>, name: &str) -> Option<usize>
     ensures within { IfSome result (λ n. n < vec_len row.now.values) }
 {
     if row.named {
-        last_named(row.seams.as_slice(), name)
+        row.seams.last_named(name)
     } else {
         item_number(name, row.values.len())
     }
@@ -102,7 +87,8 @@ fn take_before(row: &mut Row<'_>, number: usize)
     let length = row.length;
     let mut seam = row.seams.remove(number);
     let value = row.values.remove(number);
-    mem::swap(&mut row.seams[number].blank, &mut seam.blank);
+    let seams = &mut row.seams;
+    mem::swap(&mut seams.list[number].blank, &mut seam.blank);
     row.length = length - (seam.len() + value.len() + 1);
 }
 
@@ -120,7 +106,8 @@ fn take_last(row: &mut Row<'_>, number: usize)
     let length = row.length;
     let mut seam = row.seams.remove(number);
     let value = row.values.remove(number);
-    mem::swap(&mut row.seams[number - 1].trail, &mut seam.trail);
+    let seams = &mut row.seams;
+    mem::swap(&mut seams.list[number - 1].trail, &mut seam.trail);
     row.length = length - (seam.len() + value.len() + 1);
 }
 
@@ -226,19 +213,16 @@ fn put_part<'a>(
     value: Text<'a>,
     commas: usize,
 ) -> Result<(), AllocError>
-    requires seams { number ≤ vec_len row.old.seams }
+    requires seams { number ≤ vec_len row.old.seams.list }
     requires values { number ≤ vec_len row.old.values }
     ensures named { OnOk result (row.new.named ≡ row.old.named) }
     ensures hollow { OnOk result (row.new.hollow ≡ row.old.hollow) }
-    ensures seams { OnOk result (row.new.seams.items ≡ insert row.old.seams.items number seam.entry) }
+    ensures seams { OnOk result (row.new.seams.list.items ≡ insert row.old.seams.list.items number seam.entry) }
     ensures values { OnOk result (row.new.values.items ≡ insert row.old.values.items number (Closed value.entry)) }
     ensures length { OnOk result (row.new.length ≡ row.old.length + (seam_length seam.entry + length (text_bytes value.entry) + commas)) }
 {
     let length = lengthened(row.length, &seam, value.len(), commas)?;
-    match row.seams.insert(number, seam) {
-        Ok(_) => {}
-        Err(_) => return Err(AllocError),
-    }
+    row.seams.insert(number, seam)?;
     match row.values.insert(number, Node::Closed(value)) {
         Ok(_) => {}
         Err(_) => return Err(AllocError),
@@ -295,13 +279,14 @@ fn hollowed<'a>(row: &mut Row<'a>) -> Text<'a>
 fn trail_of<'a>(row: &mut Row<'a>, number: usize) -> Text<'a>
     requires sound { IsSound (row_view row.old) }
     requires last { number < vec_len row.old.values }
-    ensures trail { HasLost row.old.seams.items number result row.new.seams.items }
+    ensures trail { HasLost row.old.seams.list.items number result row.new.seams.list.items }
     ensures named { row.new.named ≡ row.old.named }
     ensures hollow { row.new.hollow ≡ row.old.hollow }
     ensures values { row.new.values ≡ row.old.values }
     ensures length { row.new.length + length (text_bytes result) ≡ row.old.length }
 {
-    let trail = mem::replace(&mut row.seams[number].trail, Text::Kept(""));
+    let seams = &mut row.seams;
+    let trail = mem::replace(&mut seams.list[number].trail, Text::Kept(""));
     row.length -= trail.len();
     trail
 }
@@ -350,8 +335,8 @@ fn next_member<'a>(
     ensures sound { OnOk result (IsSound (row_view row.new)) }
 {
     let name = Text::Made(quoted(alloc, name)?);
-    let blank = row.seams[last].blank.copied(alloc)?;
-    let colons = row.seams[last].colons.copied(alloc)?;
+    let blank = row.seams.list[last].blank.copied(alloc)?;
+    let colons = row.seams.list[last].colons.copied(alloc)?;
     let trail = trail_of(row, last);
     put_part(
         row,
@@ -393,7 +378,7 @@ fn next_item<'a>(
     ensures pieces { OnOk result (row_pieces row.new ≡ item_pushed (text_bytes row.old.hollow) (text_bytes value.entry) (row_pieces row.old)) }
     ensures sound { OnOk result (IsSound (row_view row.new)) }
 {
-    let blank = row.seams[last].blank.copied(alloc)?;
+    let blank = row.seams.list[last].blank.copied(alloc)?;
     let trail = trail_of(row, last);
     put_part(row, last + 1, around(blank, trail), value, 1)?;
     Ok(())
@@ -414,14 +399,15 @@ fn like_number(number: usize, count: usize) -> usize
 fn blank_of<'a>(row: &mut Row<'a>, number: usize, blank: Text<'a>) -> Result<Text<'a>, AllocError>
     requires sound { IsSound (row_view row.old) }
     requires within { number < vec_len row.old.values }
-    ensures blank { IfOk result (λ old. HasGained row.old.seams.items number (text_bytes blank.entry) old row.new.seams.items) }
+    ensures blank { IfOk result (λ old. HasGained row.old.seams.list.items number (text_bytes blank.entry) old row.new.seams.list.items) }
     ensures named { row.new.named ≡ row.old.named }
     ensures hollow { row.new.hollow ≡ row.old.hollow }
     ensures values { row.new.values ≡ row.old.values }
     ensures length { IfOk result (λ old. row.new.length + length (text_bytes old) ≡ row.old.length + length (text_bytes blank.entry)) }
 {
-    let length = resized(row.length, row.seams[number].blank.len(), blank.len())?;
-    let old = mem::replace(&mut row.seams[number].blank, blank);
+    let length = resized(row.length, row.seams.list[number].blank.len(), blank.len())?;
+    let seams = &mut row.seams;
+    let old = mem::replace(&mut seams.list[number].blank, blank);
     row.length = length;
     Ok(old)
 }
@@ -443,7 +429,7 @@ fn item_before<'a>(
     ensures sound { OnOk result (IsSound (row_view row.new)) }
 {
     let like = like_number(number, row.values.len());
-    let behind = row.seams[like].blank.copied(alloc)?;
+    let behind = row.seams.list[like].blank.copied(alloc)?;
     let blank = blank_of(row, number, behind)?;
     put_part(row, number, around(blank, Text::Kept("")), value, 1)?;
     Ok(())

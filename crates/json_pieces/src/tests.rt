@@ -6,7 +6,7 @@ ghost use Rattle.json_lexemes.specs.Spelled.{IsShallowText};
 ghost use Rattle.json_pieces.specs.Whole.{ArePieces, text_of};
 
 use crate::Pieces;
-use json_text::{CheckedText, TextFault};
+use json_text::{CheckedText, Shape, TextFault};
 use jsonptr::Pointer;
 use std::alloc::{AllocError, Global};
 use std::process::Abort;
@@ -103,6 +103,50 @@ const OBJECT_CHANGES: [&str; 30] = [
     "- /x 3",
 ];
 
+/// The changes that an object of many members is put through: between removals its names are indexed.
+const WIDE_CHANGES: [&str; 24] = [
+    "= /m3 \"x\"",
+    "+ /new 1",
+    "+ /m0 {}",
+    "+ /m0/k 1",
+    "= /new 2",
+    "+ /\u{e9}\"\\ 4",
+    "= /\u{e9}\"\\ [5]",
+    "+ /a~1b~0/- 3",
+    "- /m29 0",
+    "= /m29 0",
+    "+ /m29 7",
+    "= /m89 1",
+    "= /m29 {\"k\" : [ ]}",
+    "- /m7 0",
+    "- /new 0",
+    "- /new 0",
+    "= /m0 8",
+    "+ /new 9",
+    "+ /m7 10",
+    "- /m89 0",
+    "- /\u{e9}\"\\ 0",
+    "+ /m89 { }",
+    "+ /m89/new 11",
+    "- /a~1b~0/0 0",
+];
+
+/// An object of many members. Some names come twice, some have an escape, and some both.
+fn wide(a: Global) -> Result<String, AllocError> {
+    let mut text = String::from_str(a, "{ ")?;
+    for i in 0..120 {
+        let number = i % 90;
+        let member = if i % 7 == 0 {
+            format!(in a; "\"\\u006d{number}\" : {i} ,")?
+        } else {
+            format!(in a; "\"m{number}\":{i},\n  ")?
+        };
+        text.push_str(member.as_str())?;
+    }
+    text.push_str("\"a\\/b~\": [1, 2]}")?;
+    Ok(text)
+}
+
 /// The change of this kind, of the pieces.
 fn change_pieces(
     a: Global,
@@ -174,7 +218,7 @@ fn makes(rt: &impl Abort, a: Global, pieces: &Pieces, text: &str, line: &str) ->
     }
 }
 
-/// The texts of what a pointer leads to in both are one.
+/// What a pointer leads to has one text in both, and the shape of that.
 fn reads_alike(
     rt: &impl Abort,
     a: Global,
@@ -189,13 +233,46 @@ fn reads_alike(
 {
     let pointer = Pointer::parse(place).map_err(|_| "no pointer")?;
     let whole = CheckedText::new(a, text).map_err(|_| "no text")?;
+    let shape = pieces.shape(a, pointer)?;
     match (pieces.value(a, pointer)?, whole.value(a, pointer)?) {
-        (Some(found), Some(wanted)) => assert_eq!(rt; found.as_str(), wanted.as_str()),
-        (None, None) => {}
+        (Some(found), Some(wanted)) => {
+            assert_eq!(rt; found.as_str(), wanted.as_str());
+            let wanted = Shape::of(wanted.as_str());
+            assert_eq!(rt; shape_name(shape), shape_name(Some(wanted)), "{place}");
+        }
+        (None, None) => assert!(rt; shape.is_none(), "{place}"),
         _ => return Err(Fail::from("found in one alone")),
     }
     Ok(())
 }
+
+fn shape_name(shape: Option<Shape>) -> &'static str {
+    match shape {
+        Some(Shape::Object) => "object",
+        Some(Shape::List) => "list",
+        Some(Shape::String) => "string",
+        Some(Shape::Atom) => "atom",
+        None => "nothing",
+    }
+}
+
+/// Where each text is read.
+const PLACES: [&str; 14] = [
+    "",
+    "/0",
+    "/a",
+    "/a/0",
+    "/-",
+    "/b/c",
+    "/list/1/x",
+    "/m0",
+    "/m3",
+    "/m29",
+    "/m89",
+    "/new",
+    "/a~1b~0",
+    "/\u{e9}\"\\",
+];
 
 /// The same at several places.
 fn read_alike(rt: &impl Abort, a: Global, pieces: &mut Pieces, text: &str) -> Result<(), Fail>
@@ -204,7 +281,7 @@ fn read_alike(rt: &impl Abort, a: Global, pieces: &mut Pieces, text: &str) -> Re
     ensures pieces { OnOk result (ArePieces pieces.new) }
     ensures kept { OnOk result (text_of pieces.new ≡ text_of pieces.old) }
 {
-    for place in ["", "/0", "/a", "/a/0", "/-", "/b/c", "/list/1/x"] {
+    for place in PLACES {
         reads_alike(rt, a, pieces, text, place)?;
     }
     Ok(())
@@ -242,6 +319,34 @@ fn objects(rt: HostRuntime) -> Result<(), Fail> {
     Ok(())
 }
 
+#[test]
+fn wide_objects(rt: HostRuntime) -> Result<(), Fail> {
+    let first = wide(rt.alloc())?;
+    run(&rt, rt.alloc(), first.as_str(), &WIDE_CHANGES)
+}
+
+/// Members are added one by one, and then put in place of those of their names.
+fn grow(rt: &impl Abort, a: Global) -> Result<(), Fail> {
+    let Ok(checked) = CheckedText::new(a, "{}") else {
+        return Err(Fail::from("no text"));
+    };
+    let mut pieces = Pieces::new(checked);
+    let mut text = String::from_str(a, "{}")?;
+    for i in 0..100 {
+        let line = format!(in a; "+ /k{} {i}", i % 60)?;
+        if let Some(new) = step(rt, a, &mut pieces, text.as_str(), line.as_str())? {
+            text = new;
+        }
+        makes(rt, a, &pieces, text.as_str(), line.as_str())?;
+    }
+    Ok(())
+}
+
+#[test]
+fn grown_objects(rt: HostRuntime) -> Result<(), Fail> {
+    grow(&rt, rt.alloc())
+}
+
 // ---- the examples of the comments
 
 fn value_at(alloc: Global, place: Pointer) -> Result<Option<String>, TextFault> {
@@ -249,6 +354,13 @@ fn value_at(alloc: Global, place: Pointer) -> Result<Option<String>, TextFault> 
     let mut pieces = Pieces::new(text);
     let list = pieces.value(alloc, place)?;
     Ok(list)
+}
+
+fn shape_at(alloc: Global, place: Pointer) -> Result<Option<Shape>, TextFault> {
+    let text = CheckedText::new(alloc, r#"{"list": [1.50, 2] }"#)?;
+    let mut pieces = Pieces::new(text);
+    let shape = pieces.shape(alloc, place)?;
+    Ok(shape)
 }
 
 fn replaced(alloc: Global, place: Pointer) -> Result<(bool, String), TextFault> {
@@ -306,6 +418,10 @@ fn examples(rt: HostRuntime) -> Result<(), Fail> {
     let second = Pointer::parse("/list/1").map_err(|_| "no pointer")?;
     let found = value_at(a, list).map_err(|_| "refused")?.ok_or("nothing")?;
     assert_eq!(rt; found.as_str(), "[1.50, 2]");
+    let shape = shape_at(a, list).map_err(|_| "refused")?;
+    assert_eq!(rt; shape_name(shape), "list");
+    let shape = shape_at(a, first).map_err(|_| "refused")?;
+    assert_eq!(rt; shape_name(shape), "atom");
     assert!(rt; is_left(replaced(a, second), r#"{"list": [1.50, 7] }"#));
     assert!(rt; is_left(removed(a, second), r#"{"list": [1.50] }"#));
     assert!(rt; is_left(added(a, second), r#"{"list": [1.50, 7, 2] }"#));

@@ -5,7 +5,7 @@ use Rattle.json_text.specs.Cuts.{Piece, row_text}
 use Rattle.json_pieces.specs.Nodes.{piece_with, text_bytes, tree_text, view}
 use Rattle.json_pieces.specs.PieceLists.{item_between, item_pushed, item_put, item_put_by, led, member_like, member_pushed, taken, taken_by, trailed}
 use Rattle.json_pieces.specs.declared.node.Node.{Node}
-use Rattle.json_pieces.specs.declared.node.Seam.{Seam}
+use Rattle.json_pieces.specs.declared.seams.Seam.{Seam}
 use Rattle.json_pieces.proofs.Lists.{AreSoundIn, no_pieces, pieces_are, pieces_in}
 use Rattle.json_pieces.proofs.Rows.Moves.{own_like}
 use Rattle.json_pieces.proofs.Rows.Parts.{first_same, joined, no_cons, rest_same, row_split, trail_set}

@@ -6,7 +6,7 @@ use Rattle.json_text.specs.Cuts.{Piece}
 use Rattle.json_pieces.specs.Nodes.{IsSound, piece_with, text_bytes, tree_text, view}
 use Rattle.json_pieces.specs.PieceLists.{blank_like, item_between, item_pushed, item_put, item_put_by, led, member_alone, member_like, member_pushed, taken, taken_by, trailed}
 use Rattle.json_pieces.specs.declared.node.Node.{Node}
-use Rattle.json_pieces.specs.declared.node.Seam.{Seam}
+use Rattle.json_pieces.specs.declared.seams.Seam.{Seam}
 use Rattle.json_pieces.proofs.Lists.{AreSoundIn, pieces_are, pieces_in}
 use Rattle.json_pieces.proofs.Rows.Parts.{first_same, no_cons, rest_same}
 

@@ -13,7 +13,7 @@ use Rattle.json_pieces.specs.Nodes.{IsSound, piece_with, text_bytes, tree_text, 
 use Rattle.json_pieces.specs.PieceLists.{item_between, item_pushed, item_put, member_alone, member_like, member_pushed, with_value}
 use Rattle.json_pieces.specs.declared.node.Node.{Node}
 use Rattle.json_pieces.specs.declared.node.Node.TheVariants.{Closed}
-use Rattle.json_pieces.specs.declared.node.Seam.{Seam}
+use Rattle.json_pieces.specs.declared.seams.Seam.{Seam}
 use Rattle.json_pieces.specs.declared.text.Text.{Text}
 use Rattle.json_pieces.proofs.Levels.{view_closed}
 use Rattle.json_pieces.proofs.Lists.{AreSoundIn, pieces_are, pieces_in, seams_are, set_pieces, set_sound, value_there}

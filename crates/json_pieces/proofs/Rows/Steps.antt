@@ -7,7 +7,7 @@ use Rattle.json_pieces.specs.Lengths.{seam_length}
 use Rattle.json_pieces.specs.Nodes.{IsRow, tree_text, view}
 use Rattle.json_pieces.specs.PieceLists.{taken}
 use Rattle.json_pieces.specs.declared.node.Node.{Node}
-use Rattle.json_pieces.specs.declared.node.Seam.{Seam}
+use Rattle.json_pieces.specs.declared.seams.Seam.{Seam}
 use Rattle.json_pieces.specs.declared.text.Text.{Text}
 use Rattle.json_pieces.proofs.Lists.{AreSoundIn, pieces_are, pieces_in}
 use Rattle.json_pieces.proofs.Rows.Answers.{AreOfSome, taken_of_some}

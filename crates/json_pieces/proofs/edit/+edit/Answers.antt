@@ -1,11 +1,13 @@
-use Rattle.std.proofs.Common.{None, ◌≡◌, ◌<◌, length, sym, ap, ◌∙◌, subst, arith, rules}
+use Rattle.std.proofs.Common.{None, ◌∷◌, ◌≡◌, ◌<◌, length, sym, ap, ◌∙◌, subst, arith, rules}
 use Rattle.std.proofs.lemmas.Result.{on_ok_weaker}
 use Rattle.std.specs.Prelude.{IfOk}
 use Rattle.json.specs.Json.{Json}
 use Rattle.json_lexemes.specs.Spelled.{Says}
+use Rattle.jsonptr.specs.Pointers.{token_of, tokens_left}
 use Rattle.json_pieces.specs.Edits.{Makes}
-use Rattle.json_pieces.specs.Nodes.{IsSound, row_view, tree_text, view}
+use Rattle.json_pieces.specs.Nodes.{IsSound, row_view, text_bytes, tree_text, view}
 use Rattle.json_pieces.specs.declared.node.Node.{the_lemmas}
+use Rattle.json_pieces.proofs.Lifts.{lift_makes}
 use Rattle.json_pieces.proofs.Walks.{none_made, nowhere, open_sound, open_whole, row_made_at, set_is_sound, set_makes, value_low, value_set, value_whole}
 use Rattle.json_pieces.proofs.edit.+edit.Goals as goal
 
@@ -33,7 +35,12 @@ edit_in-returns-clause-sound t c =
 pub edit_in-returns-clause-makes : goal.edit_in-returns-clause-makes
 edit_in-returns-clause-makes t c =
     let within : c.in-Some.number < length c.args.row.now.values.items = omega (arith, c.in-Some.ensures.within, c.args.row.now.values.ok.0) in
-    set_makes c.args.row.now c.in-Some.number c.index_mut.result.now c.edit_at.new.node c.requires.sound within c.index_mut.ensures.value c.args.edit _ c.as_str.result.now _ c.in_ok-done.done (c.as_str.ensures.value ∙ c.in_ok-name.ensures) c.in-Some.ensures.number c.in_ok-done.ensures.makes
+    let r = c.args.row.now in
+    let t = token_of c.args.token in
+    let P = tokens_left c.args.rest in
+    let found = c.in_ok-done.done in
+    set_makes r c.in-Some.number c.index_mut.result.now c.edit_at.new.node c.requires.sound within c.index_mut.ensures.value (λ text j new. Makes c.args.edit text j P new found) (λ text j new. Makes c.args.edit text j (t ∷ P) new found) t c.as_str.result.now
+    (c.as_str.ensures.value ∙ c.in_ok-name.ensures) c.in-Some.ensures.number (λ cs s. lift_makes r.named (text_bytes r.hollow) t c.in-Some.number cs _ _ c.args.edit P found s) c.in_ok-done.ensures.makes
 
 pub edit_at-returns-in_default-clause-makes : goal.edit_at-returns-in_default-clause-makes
 edit_at-returns-in_default-clause-makes t c =
@@ -52,4 +59,4 @@ edit_at-returns-in-Open-clause-whole t c = on_ok_weaker c.edit_in.result (open_w
 
 pub edit_at-returns-in-Open-clause-makes : goal.edit_at-returns-in-Open-clause-makes
 edit_at-returns-in-Open-clause-makes t c =
-    row_made_at c.edit_in.result c.args.edit c.args.node.now c.open.new.node _ _ c.in-Open.row c.edit_in.new.row _ _ c.in-Some.ensures.steps c.in_ok-open.ensures.text c.in-Open.row-is c.in-Open.is (search (rules, the_lemmas)) c.edit_in.ensures.makes
+    row_made_at c.edit_in.result (λ P found text j new. Makes c.args.edit text j P new found) c.args.node.now c.open.new.node _ _ c.in-Open.row c.edit_in.new.row _ _ c.in-Some.ensures.steps c.in_ok-open.ensures.text c.in-Open.row-is c.in-Open.is (search (rules, the_lemmas)) c.edit_in.ensures.makes

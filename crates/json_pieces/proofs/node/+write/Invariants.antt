@@ -11,4 +11,4 @@ abbrev pub decreases-write_row : goal.decreases-write_row
 decreases-write_row l = goal.size-write_row l
 
 abbrev pub invariant-write_row-loop-i : goal.invariant-write_row-loop-i
-invariant-write_row-loop-i l = string_bytes l.out ≡ string_bytes l.initial.out ++ pieces_text (opens l.row.named) (take l.i (pieces_in l.row.seams.items l.row.values.items))
+invariant-write_row-loop-i l = string_bytes l.out ≡ string_bytes l.initial.out ++ pieces_text (opens l.row.named) (take l.i (pieces_in l.row.seams.list.items l.row.values.items))

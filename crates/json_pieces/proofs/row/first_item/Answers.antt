@@ -13,8 +13,8 @@ returns-clause-pieces c =
     let p = c.put_part.new.row in
     let e = c.hollowed-trail.ensures in
     let g = c.in_ok-put_part.ensures in
-    first_item_put r.named p.named r.length h.length p.length (text_bytes r.hollow) (text_bytes p.hollow) r.seams.items h.seams.items p.seams.items r.values.items h.values.items p.values.items c.around.result c.args.value
-    c.requires.sound (omega (arith, r.values.ok.0, c.requires.empty)) (ap (λ v. v.items) e.seams) (ap (λ v. v.items) e.values) g.seams g.values (λ u. c.around.ensures.piece u ∙ ap (λ t. item_between [] u (text_bytes t)) e.hollow)
+    first_item_put r.named p.named r.length h.length p.length (text_bytes r.hollow) (text_bytes p.hollow) r.seams.list.items h.seams.list.items p.seams.list.items r.values.items h.values.items p.values.items c.around.result c.args.value
+    c.requires.sound (omega (arith, r.values.ok.0, c.requires.empty)) (ap (λ v. v.list.items) e.seams) (ap (λ v. v.items) e.values) g.seams g.values (λ u. c.around.ensures.piece u ∙ ap (λ t. item_between [] u (text_bytes t)) e.hollow)
 
 pub returns-clause-sound : goal.returns-clause-sound
 returns-clause-sound c =
@@ -23,7 +23,7 @@ returns-clause-sound c =
     let p = c.put_part.new.row in
     let e = c.hollowed-trail.ensures in
     let g = c.in_ok-put_part.ensures in
-    first_item_kept r.named p.named r.length h.length p.length (text_bytes r.hollow) (text_bytes p.hollow) r.seams.items h.seams.items p.seams.items r.values.items h.values.items p.values.items c.around.result c.args.value
+    first_item_kept r.named p.named r.length h.length p.length (text_bytes r.hollow) (text_bytes p.hollow) r.seams.list.items h.seams.list.items p.seams.list.items r.values.items h.values.items p.values.items c.around.result c.args.value
     c.requires.value.0 c.requires.list (g.named ∙ e.named)
-    c.requires.sound (omega (arith, r.values.ok.0, c.requires.empty)) (ap (λ v. v.items) e.seams) (ap (λ v. v.items) e.values) g.seams g.values (λ u. c.around.ensures.piece u ∙ ap (λ t. item_between [] u (text_bytes t)) e.hollow)
+    c.requires.sound (omega (arith, r.values.ok.0, c.requires.empty)) (ap (λ v. v.list.items) e.seams) (ap (λ v. v.items) e.values) g.seams g.values (λ u. c.around.ensures.piece u ∙ ap (λ t. item_between [] u (text_bytes t)) e.hollow)
     (subst IsBlank (sym (ap text_bytes g.hollow ∙ e.left)) blank_nil) c.requires.value.1 e.length g.length

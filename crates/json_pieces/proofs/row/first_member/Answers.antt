@@ -13,8 +13,8 @@ returns-clause-pieces c =
     let p = c.put_part.new.row in
     let e = c.hollowed-trail.ensures in
     let g = c.in_ok-put_part.ensures in
-    first_member_put r.named p.named r.length h.length p.length (text_bytes r.hollow) (text_bytes p.hollow) r.seams.items h.seams.items p.seams.items r.values.items h.values.items p.values.items _ c.args.value _
-    c.requires.sound (omega (arith, r.values.ok.0, c.requires.empty)) (ap (λ v. v.items) e.seams) (ap (λ v. v.items) e.values) g.seams g.values (λ u. ap₂ (λ t n. member_alone t n u) (ap text_bytes e.hollow) c.in_ok-quoted.ensures)
+    first_member_put r.named p.named r.length h.length p.length (text_bytes r.hollow) (text_bytes p.hollow) r.seams.list.items h.seams.list.items p.seams.list.items r.values.items h.values.items p.values.items _ c.args.value _
+    c.requires.sound (omega (arith, r.values.ok.0, c.requires.empty)) (ap (λ v. v.list.items) e.seams) (ap (λ v. v.items) e.values) g.seams g.values (λ u. ap₂ (λ t n. member_alone t n u) (ap text_bytes e.hollow) c.in_ok-quoted.ensures)
 
 pub returns-clause-sound : goal.returns-clause-sound
 returns-clause-sound c =
@@ -23,7 +23,7 @@ returns-clause-sound c =
     let p = c.put_part.new.row in
     let e = c.hollowed-trail.ensures in
     let g = c.in_ok-put_part.ensures in
-    first_member_kept r.named p.named r.length h.length p.length (text_bytes r.hollow) (text_bytes p.hollow) r.seams.items h.seams.items p.seams.items r.values.items h.values.items p.values.items _ c.args.value
+    first_member_kept r.named p.named r.length h.length p.length (text_bytes r.hollow) (text_bytes p.hollow) r.seams.list.items h.seams.list.items p.seams.list.items r.values.items h.values.items p.values.items _ c.args.value
     c.args.name.now c.requires.value.0 c.requires.object (g.named ∙ e.named)
-    c.requires.sound (omega (arith, r.values.ok.0, c.requires.empty)) (ap (λ v. v.items) e.seams) (ap (λ v. v.items) e.values) g.seams g.values (λ u. ap₂ (λ t n. member_alone t n u) (ap text_bytes e.hollow) c.in_ok-quoted.ensures)
+    c.requires.sound (omega (arith, r.values.ok.0, c.requires.empty)) (ap (λ v. v.list.items) e.seams) (ap (λ v. v.items) e.values) g.seams g.values (λ u. ap₂ (λ t n. member_alone t n u) (ap text_bytes e.hollow) c.in_ok-quoted.ensures)
     (subst IsBlank (sym (ap text_bytes g.hollow ∙ e.left)) blank_nil) c.requires.value.1 e.length g.length

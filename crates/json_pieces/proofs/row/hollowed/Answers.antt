@@ -6,9 +6,9 @@ use Rattle.json_pieces.proofs.row.hollowed.Goals as goal
 pub overflow_sub-row : goal.overflow_sub-row
 overflow_sub-row c =
     let r = c.args.row.now in
-    omega (arith, c.requires.sound.0.size, hollow_fits r.named (text_bytes r.hollow) r.seams.items r.values.items (omega (arith, r.values.ok.0, c.requires.empty)), c.len.ensures, ap (λ t. length (text_bytes t)) c.replace-trail.ensures.value)
+    omega (arith, c.requires.sound.0.size, hollow_fits r.named (text_bytes r.hollow) r.seams.list.items r.values.items (omega (arith, r.values.ok.0, c.requires.empty)), c.len.ensures, ap (λ t. length (text_bytes t)) c.replace-trail.ensures.value)
 
 pub returns-clause-length : goal.returns-clause-length
 returns-clause-length c =
     let r = c.args.row.now in
-    omega (arith, c.requires.sound.0.size, hollow_fits r.named (text_bytes r.hollow) r.seams.items r.values.items (omega (arith, r.values.ok.0, c.requires.empty)), c.len.ensures, ap (λ t. length (text_bytes t)) c.replace-trail.ensures.value)
+    omega (arith, c.requires.sound.0.size, hollow_fits r.named (text_bytes r.hollow) r.seams.list.items r.values.items (omega (arith, r.values.ok.0, c.requires.empty)), c.len.ensures, ap (λ t. length (text_bytes t)) c.replace-trail.ensures.value)

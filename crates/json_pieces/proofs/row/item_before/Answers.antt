@@ -10,13 +10,13 @@ use Rattle.json_pieces.proofs.row.item_before.Goals as goal
 pub index-requires : goal.index-requires
 index-requires c =
     let r = c.args.row.now in
-    omega (arith, seams_are r.seams.items r.values.items c.requires.sound.1, r.seams.ok.0, r.values.ok.0, c.like_number-like.ensures.within, c.len.ensures)
+    omega (arith, seams_are r.seams.list.items r.values.items c.requires.sound.1, r.seams.list.ok.0, r.values.ok.0, c.like_number-like.ensures.within, c.len.ensures)
 
 pub put_part-requires-clause-seams : goal.put_part-requires-clause-seams
 put_part-requires-clause-seams c =
     let r = c.args.row.now in
     let h = c.blank_of.new.row in
-    omega (arith, seams_are r.seams.items r.values.items c.requires.sound.1, r.values.ok.0, c.requires.within, h.seams.ok.0, gained_count r.seams.items c.args.number _ c.in_ok-blank.blank h.seams.items c.in_ok-blank.ensures.blank)
+    omega (arith, seams_are r.seams.list.items r.values.items c.requires.sound.1, r.values.ok.0, c.requires.within, h.seams.list.ok.0, gained_count r.seams.list.items c.args.number _ c.in_ok-blank.blank h.seams.list.items c.in_ok-blank.ensures.blank)
 
 pub returns-clause-pieces : goal.returns-clause-pieces
 returns-clause-pieces c =
@@ -29,14 +29,14 @@ returns-clause-pieces c =
     let x = c.index.result.now in
     let within : n < length r.values.items = omega (arith, r.values.ok.0, c.requires.within) in
     let count : c.len.result ≡ length r.values.items = omega (arith, c.len.ensures, r.values.ok.0) in
-    let z : IsLike r.seams.items (length r.values.items) n c.like_number-like.result x = record {
+    let z : IsLike r.seams.list.items (length r.values.items) n c.like_number-like.result x = record {
       is = c.index.ensures;
       within = omega (arith, c.like_number-like.ensures.within, count);
       first = λ a m. c.like_number-like.ensures.first a (omega (arith, m, count));
       own = λ f. c.like_number-like.ensures.own (λ a. omega (arith, f a, count));
     } in
-    let o : HasGained r.seams.items n (text_bytes x.blank) c.in_ok-blank.blank h.seams.items = subst (λ y. HasGained r.seams.items n y c.in_ok-blank.blank h.seams.items) c.in_ok-behind.ensures c.in_ok-blank.ensures.blank in
-    item_before_put r.named p.named r.length h.length p.length (text_bytes r.hollow) (text_bytes p.hollow) r.seams.items h.seams.items p.seams.items r.values.items h.values.items p.values.items c.around.result c.args.value n c.like_number-like.result x c.in_ok-blank.blank
+    let o : HasGained r.seams.list.items n (text_bytes x.blank) c.in_ok-blank.blank h.seams.list.items = subst (λ y. HasGained r.seams.list.items n y c.in_ok-blank.blank h.seams.list.items) c.in_ok-behind.ensures c.in_ok-blank.ensures.blank in
+    item_before_put r.named p.named r.length h.length p.length (text_bytes r.hollow) (text_bytes p.hollow) r.seams.list.items h.seams.list.items p.seams.list.items r.values.items h.values.items p.values.items c.around.result c.args.value n c.like_number-like.result x c.in_ok-blank.blank
     c.requires.sound within z o (ap (λ v. v.items) e.values) g.seams g.values (λ u. c.around.ensures.piece u ∙ ap (λ t. item_between (text_bytes t) u []) o.blank_is)
 
 pub returns-clause-sound : goal.returns-clause-sound
@@ -50,14 +50,14 @@ returns-clause-sound c =
     let x = c.index.result.now in
     let within : n < length r.values.items = omega (arith, r.values.ok.0, c.requires.within) in
     let count : c.len.result ≡ length r.values.items = omega (arith, c.len.ensures, r.values.ok.0) in
-    let z : IsLike r.seams.items (length r.values.items) n c.like_number-like.result x = record {
+    let z : IsLike r.seams.list.items (length r.values.items) n c.like_number-like.result x = record {
       is = c.index.ensures;
       within = omega (arith, c.like_number-like.ensures.within, count);
       first = λ a m. c.like_number-like.ensures.first a (omega (arith, m, count));
       own = λ f. c.like_number-like.ensures.own (λ a. omega (arith, f a, count));
     } in
-    let o : HasGained r.seams.items n (text_bytes x.blank) c.in_ok-blank.blank h.seams.items = subst (λ y. HasGained r.seams.items n y c.in_ok-blank.blank h.seams.items) c.in_ok-behind.ensures c.in_ok-blank.ensures.blank in
-    item_before_kept r.named p.named r.length h.length p.length (text_bytes r.hollow) (text_bytes p.hollow) r.seams.items h.seams.items p.seams.items r.values.items h.values.items p.values.items c.around.result c.args.value n c.like_number-like.result x c.in_ok-blank.blank
+    let o : HasGained r.seams.list.items n (text_bytes x.blank) c.in_ok-blank.blank h.seams.list.items = subst (λ y. HasGained r.seams.list.items n y c.in_ok-blank.blank h.seams.list.items) c.in_ok-behind.ensures c.in_ok-blank.ensures.blank in
+    item_before_kept r.named p.named r.length h.length p.length (text_bytes r.hollow) (text_bytes p.hollow) r.seams.list.items h.seams.list.items p.seams.list.items r.values.items h.values.items p.values.items c.around.result c.args.value n c.like_number-like.result x c.in_ok-blank.blank
     c.requires.value.0 c.requires.list (g.named ∙ e.named)
     c.requires.sound within z o (ap (λ v. v.items) e.values) g.seams g.values (λ u. c.around.ensures.piece u ∙ ap (λ t. item_between (text_bytes t) u []) o.blank_is)
     (subst IsBlank (sym (ap text_bytes (g.hollow ∙ e.hollow))) c.requires.sound.0.blank) c.requires.value.1 (c.in_ok-blank.ensures.length ∙ ap (λ t. r.length + length t) c.in_ok-behind.ensures) g.length

@@ -8,18 +8,18 @@ use Rattle.json_pieces.proofs.row.next_member.Goals as goal
 pub index-requires : goal.index-requires
 index-requires c =
     let r = c.args.row.now in
-    omega (arith, seams_are r.seams.items r.values.items c.requires.sound.1, r.seams.ok.0, r.values.ok.0, c.requires.last)
+    omega (arith, seams_are r.seams.list.items r.values.items c.requires.sound.1, r.seams.list.ok.0, r.values.ok.0, c.requires.last)
 
 pub index-requires-2 : goal.index-requires-2
 index-requires-2 c =
     let r = c.args.row.now in
-    omega (arith, seams_are r.seams.items r.values.items c.requires.sound.1, r.seams.ok.0, r.values.ok.0, c.requires.last)
+    omega (arith, seams_are r.seams.list.items r.values.items c.requires.sound.1, r.seams.list.ok.0, r.values.ok.0, c.requires.last)
 
 pub put_part-requires-clause-seams : goal.put_part-requires-clause-seams
 put_part-requires-clause-seams c =
     let r = c.args.row.now in
     let h = c.trail_of-trail.new.row in
-    omega (arith, seams_are r.seams.items r.values.items c.requires.sound.1, r.values.ok.0, c.requires.last, h.seams.ok.0, lost_count r.seams.items c.args.last c.trail_of-trail.result h.seams.items c.trail_of-trail.ensures.trail)
+    omega (arith, seams_are r.seams.list.items r.values.items c.requires.sound.1, r.values.ok.0, c.requires.last, h.seams.list.ok.0, lost_count r.seams.list.items c.args.last c.trail_of-trail.result h.seams.list.items c.trail_of-trail.ensures.trail)
 
 pub returns-clause-pieces : goal.returns-clause-pieces
 returns-clause-pieces c =
@@ -31,10 +31,10 @@ returns-clause-pieces c =
     let o = e.trail in
     let l = c.labelled.ensures in
     let n = c.args.last in
-    let there : n < length r.seams.items = omega (arith, seams_are r.seams.items r.values.items c.requires.sound.1, r.values.ok.0, c.requires.last) in
-    let same = same_seam r.seams.items n o.seam c.index.result.now there o.is c.index.ensures in
-    let same2 = same_seam r.seams.items n o.seam c.index-2.result.now there o.is c.index-2.ensures in
-    next_member_put r.named p.named r.length h.length p.length (text_bytes r.hollow) (text_bytes p.hollow) r.seams.items h.seams.items p.seams.items r.values.items h.values.items p.values.items c.labelled.result c.args.value n (n + 1) c.trail_of-trail.result _ refl
+    let there : n < length r.seams.list.items = omega (arith, seams_are r.seams.list.items r.values.items c.requires.sound.1, r.values.ok.0, c.requires.last) in
+    let same = same_seam r.seams.list.items n o.seam c.index.result.now there o.is c.index.ensures in
+    let same2 = same_seam r.seams.list.items n o.seam c.index-2.result.now there o.is c.index-2.ensures in
+    next_member_put r.named p.named r.length h.length p.length (text_bytes r.hollow) (text_bytes p.hollow) r.seams.list.items h.seams.list.items p.seams.list.items r.values.items h.values.items p.values.items c.labelled.result c.args.value n (n + 1) c.trail_of-trail.result _ refl
     c.requires.sound (omega (arith, r.values.ok.0, c.requires.last)) o (ap (λ v. v.items) e.values) g.seams g.values (like_member c.labelled.result o.seam c.index.result.now c.index-2.result.now _ same same2 (ap text_bytes l.blank ∙ c.in_ok-blank.ensures) (ap text_bytes l.name ∙ c.in_ok-quoted.ensures) (ap text_bytes l.colons ∙ c.in_ok-colons.ensures) (l.trail ∙ o.trail_is))
 
 pub returns-clause-sound : goal.returns-clause-sound
@@ -47,10 +47,10 @@ returns-clause-sound c =
     let o = e.trail in
     let l = c.labelled.ensures in
     let n = c.args.last in
-    let there : n < length r.seams.items = omega (arith, seams_are r.seams.items r.values.items c.requires.sound.1, r.values.ok.0, c.requires.last) in
-    let same = same_seam r.seams.items n o.seam c.index.result.now there o.is c.index.ensures in
-    let same2 = same_seam r.seams.items n o.seam c.index-2.result.now there o.is c.index-2.ensures in
-    next_member_kept r.named p.named r.length h.length p.length (text_bytes r.hollow) (text_bytes p.hollow) r.seams.items h.seams.items p.seams.items r.values.items h.values.items p.values.items c.labelled.result c.args.value n (n + 1) c.trail_of-trail.result c.args.name.now
+    let there : n < length r.seams.list.items = omega (arith, seams_are r.seams.list.items r.values.items c.requires.sound.1, r.values.ok.0, c.requires.last) in
+    let same = same_seam r.seams.list.items n o.seam c.index.result.now there o.is c.index.ensures in
+    let same2 = same_seam r.seams.list.items n o.seam c.index-2.result.now there o.is c.index-2.ensures in
+    next_member_kept r.named p.named r.length h.length p.length (text_bytes r.hollow) (text_bytes p.hollow) r.seams.list.items h.seams.list.items p.seams.list.items r.values.items h.values.items p.values.items c.labelled.result c.args.value n (n + 1) c.trail_of-trail.result c.args.name.now
     c.requires.value.0 c.requires.object (g.named ∙ e.named) refl
     c.requires.sound (omega (arith, r.values.ok.0, c.requires.last)) o (ap (λ v. v.items) e.values) g.seams g.values (like_member c.labelled.result o.seam c.index.result.now c.index-2.result.now _ same same2 (ap text_bytes l.blank ∙ c.in_ok-blank.ensures) (ap text_bytes l.name ∙ c.in_ok-quoted.ensures) (ap text_bytes l.colons ∙ c.in_ok-colons.ensures) (l.trail ∙ o.trail_is))
     (subst IsBlank (sym (ap text_bytes (g.hollow ∙ e.hollow))) c.requires.sound.0.blank) c.requires.value.1 e.length g.length

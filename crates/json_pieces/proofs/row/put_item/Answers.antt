@@ -7,19 +7,19 @@ use Rattle.json_pieces.proofs.row.put_item.Goals as goal
 pub returns-in_default-clause-put : goal.returns-in_default-clause-put
 returns-in_default-clause-put c =
     let r = c.args.row.now in
-    let count : c.len-count.result ≡ length (row_pieces r) = omega (arith, c.len-count.ensures, pieces_are r.seams.items r.values.items c.requires.sound.1, r.values.ok.0) in
+    let count : c.len-count.result ≡ length (row_pieces r) = omega (arith, c.len-count.ensures, pieces_are r.seams.list.items r.values.items c.requires.sound.1, r.values.ok.0) in
     no_item_index r.named r.length (text_bytes r.hollow) (row_pieces r) c.args.name.now c.args.value.now c.requires.list c.requires.sound.0 (omega (arith, count)) c.in_default.ensures.no_index
 
 pub returns-in_default-for_len_incl-clause-put : goal.returns-in_default-for_len_incl-clause-put
 returns-in_default-for_len_incl-clause-put c =
     let r = c.args.row.now in
-    let count : c.len-count.result ≡ length (row_pieces r) = omega (arith, c.len-count.ensures, pieces_are r.seams.items r.values.items c.requires.sound.1, r.values.ok.0) in
+    let count : c.len-count.result ≡ length (row_pieces r) = omega (arith, c.len-count.ensures, pieces_are r.seams.list.items r.values.items c.requires.sound.1, r.values.ok.0) in
     no_item_past r.named r.length (text_bytes r.hollow) (row_pieces r) c.args.name.now c.args.value.now c.in-Ok.index c.len-count.result c.requires.list c.requires.sound.0 count c.in-Ok.ensures.index c.in_default-for_len_incl.ensures.outside
 
 pub returns-then-number-count-clause-put : goal.returns-then-number-count-clause-put
 returns-then-number-count-clause-put c =
     let r = c.args.row.now in
-    let count : c.len-count.result ≡ length (row_pieces r) = omega (arith, c.len-count.ensures, pieces_are r.seams.items r.values.items c.requires.sound.1, r.values.ok.0) in
+    let count : c.len-count.result ≡ length (row_pieces r) = omega (arith, c.len-count.ensures, pieces_are r.seams.list.items r.values.items c.requires.sound.1, r.values.ok.0) in
     let s = c.item_before.new.row in
     let g = c.in_ok-item_before.ensures in
     item_before r.named s.named r.length (text_bytes r.hollow) (text_bytes s.hollow) (row_pieces r) (row_pieces s) c.args.name.now (text_bytes c.in_ok-value.value) c.args.value.now c.in-Ok.index c.len-count.result c.in-Ok-for_len_incl.number
@@ -28,7 +28,7 @@ returns-then-number-count-clause-put c =
 pub returns-then-count-eq0-clause-put : goal.returns-then-count-eq0-clause-put
 returns-then-count-eq0-clause-put c =
     let r = c.args.row.now in
-    let count : c.len-count.result ≡ length (row_pieces r) = omega (arith, c.len-count.ensures, pieces_are r.seams.items r.values.items c.requires.sound.1, r.values.ok.0) in
+    let count : c.len-count.result ≡ length (row_pieces r) = omega (arith, c.len-count.ensures, pieces_are r.seams.list.items r.values.items c.requires.sound.1, r.values.ok.0) in
     let s = c.first_item.new.row in
     let g = c.in_ok-first_item.ensures in
     item_last r.named s.named r.length (text_bytes r.hollow) (text_bytes s.hollow) (row_pieces r) (row_pieces s) c.args.name.now (text_bytes c.in_ok-value.value) c.args.value.now c.in-Ok.index c.len-count.result c.in-Ok-for_len_incl.number
@@ -37,7 +37,7 @@ returns-then-count-eq0-clause-put c =
 pub returns-clause-put : goal.returns-clause-put
 returns-clause-put c =
     let r = c.args.row.now in
-    let count : c.len-count.result ≡ length (row_pieces r) = omega (arith, c.len-count.ensures, pieces_are r.seams.items r.values.items c.requires.sound.1, r.values.ok.0) in
+    let count : c.len-count.result ≡ length (row_pieces r) = omega (arith, c.len-count.ensures, pieces_are r.seams.list.items r.values.items c.requires.sound.1, r.values.ok.0) in
     let s = c.next_item.new.row in
     let g = c.in_ok-next_item.ensures in
     item_last r.named s.named r.length (text_bytes r.hollow) (text_bytes s.hollow) (row_pieces r) (row_pieces s) c.args.name.now (text_bytes c.in_ok-value.value) c.args.value.now c.in-Ok.index c.len-count.result c.in-Ok-for_len_incl.number

@@ -11,7 +11,7 @@ returns-in-Some-clause-put c =
     let s = c.put_value.new.row in
     let g = c.in_ok-put_value.ensures in
     let n = c.in-Some.number in
-    let within : n < length (row_pieces r) = omega (arith, c.in-Some.ensures.within, pieces_are r.seams.items r.values.items c.requires.sound.1, r.values.ok.0) in
+    let within : n < length (row_pieces r) = omega (arith, c.in-Some.ensures.within, pieces_are r.seams.list.items r.values.items c.requires.sound.1, r.values.ok.0) in
     member_exchanged r.named s.named r.length (text_bytes r.hollow) (text_bytes s.hollow) (row_pieces r) (row_pieces s) n c.args.name.now c.args.value.now c.requires.object g.named (ap text_bytes g.hollow) c.requires.sound.0 g.pieces
     (some_named r.named (row_pieces r) c.args.name.now c.number_of.result n c.in-Some.is c.number_of.ensures.number) within
 

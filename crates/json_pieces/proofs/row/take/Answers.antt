@@ -15,7 +15,7 @@ returns-then-not-row-clause-taken c =
     let s = c.take_part.new.row in
     let n = c.in-Some.number in
     let e = c.take_part.ensures in
-    let within : n < length (row_pieces r) = omega (arith, c.in-Some.ensures.within, pieces_are r.seams.items r.values.items c.requires.1, r.values.ok.0) in
+    let within : n < length (row_pieces r) = omega (arith, c.in-Some.ensures.within, pieces_are r.seams.list.items r.values.items c.requires.1, r.values.ok.0) in
     item_taken r.named s.named r.length s.length (text_bytes r.hollow) (text_bytes s.hollow) (row_pieces r) (row_pieces s) n c.args.name.now e.named c.if-not-row.true c.requires.0 e.sound.0 e.pieces e.some
     (some_named r.named (row_pieces r) c.args.name.now c.number_of.result n c.in-Some.is c.number_of.ensures.number) within
 
@@ -25,7 +25,7 @@ loop-number-init c =
     let s = c.take_part.new.row in
     let n = c.in-Some.number in
     let e = c.take_part.ensures in
-    let within : n < length (row_pieces r) = omega (arith, c.in-Some.ensures.within, pieces_are r.seams.items r.values.items c.requires.1, r.values.ok.0) in
+    let within : n < length (row_pieces r) = omega (arith, c.in-Some.ensures.within, pieces_are r.seams.list.items r.values.items c.requires.1, r.values.ok.0) in
     record {
       named = c.if-not-row.false;
       sound = e.sound;
@@ -42,7 +42,7 @@ loop-number-preserved c =
     let i = c.loop-number.invariant in
     let e = c.take_part-in-Some-number_of.ensures in
     let object : r.named ≡ true = sym c.take_part.ensures.named ∙ c.if-not-row.false in
-    let within : n < length (row_pieces s) = omega (arith, c.in-Some-number_of.ensures.within, pieces_are s.seams.items s.values.items i.sound.1, s.values.ok.0) in
+    let within : n < length (row_pieces s) = omega (arith, c.in-Some-number_of.ensures.within, pieces_are s.seams.list.items s.values.items i.sound.1, s.values.ok.0) in
     record {
       named = e.named ∙ i.named;
       sound = e.sound;

@@ -1,110 +1,117 @@
-use Rattle.std.proofs.Common.{◌+◌, ◌-◌, arith}
+use Rattle.std.proofs.Common.{◌+◌, ◌-◌, arith, refl}
 use Rattle.json_pieces.proofs.Lists.{seams_are, value_sound}
-use Rattle.json_pieces.proofs.Rows.Steps.{IsOut, last_kept, last_pieces, last_size, last_some}
+use Rattle.json_pieces.proofs.Rows.Steps.{IsOut, with_trail, last_kept, last_pieces, last_size, last_some}
+use Rattle.json_pieces.proofs.Places.{still_agrees}
 use Rattle.json_pieces.proofs.row.take_last.Goals as goal
 
 pub remove-seam-requires : goal.remove-seam-requires
 remove-seam-requires c =
     let r = c.args.row.now in
-    omega (arith, seams_are r.seams.items r.values.items c.requires.sound.1, r.seams.ok.0, r.values.ok.0, c.requires.last)
+    omega (arith, seams_are r.seams.list.items r.values.items c.requires.sound.1, r.seams.list.ok.0, r.values.ok.0, c.requires.last)
 
 pub len-requires : goal.len-requires
 len-requires c =
     let r = c.args.row.now in
-    let out : IsOut r.seams.items c.remove-seam.new.self.items r.values.items c.remove-value.new.self.items c.args.number c.remove-seam.result c.index_mut.result.now c.remove-value.result (c.args.number - 1) = record {
+    let out : IsOut r.seams.list.items c.remove-seam.new.self.list.items r.values.items c.remove-value.new.self.items c.args.number c.remove-seam.result c.index_mut.result.now c.remove-value.result (c.args.number - 1) = record {
       seams = c.remove-seam.ensures.items;
       values = c.remove-value.ensures.items;
       seam = c.remove-seam.ensures.value;
       value = c.remove-value.ensures.value;
       other = c.index_mut.ensures.value;
     } in
-    let size = last_size r.named r.length _ r.seams.items c.remove-seam.new.self.items r.values.items c.remove-value.new.self.items c.args.number c.remove-seam.result c.index_mut.result.now c.remove-value.result c.swap.new.x c.swap.new.y (c.args.number - 1) (omega (arith, c.requires.first)) c.requires.sound
+    let size = last_size r.named r.length _ r.seams.list.items c.remove-seam.new.self.list.items r.values.items c.remove-value.new.self.items c.args.number c.remove-seam.result c.index_mut.result.now c.remove-value.result c.swap.new.x c.swap.new.y (c.args.number - 1) (omega (arith, c.requires.first)) c.requires.sound
     (omega (arith, r.values.ok.0, c.requires.last)) out c.swap.ensures.y_after in
     omega (arith, size)
 
 pub len-requires-2 : goal.len-requires-2
 len-requires-2 c =
     let r = c.args.row.now in
-    value_sound r.seams.items r.values.items c.args.number c.remove-value.result c.requires.sound.1 (omega (arith, r.values.ok.0, c.requires.last)) c.remove-value.ensures.value
+    value_sound r.seams.list.items r.values.items c.args.number c.remove-value.result c.requires.sound.1 (omega (arith, r.values.ok.0, c.requires.last)) c.remove-value.ensures.value
 
 pub overflow_add-row : goal.overflow_add-row
 overflow_add-row c =
     let r = c.args.row.now in
-    let out : IsOut r.seams.items c.remove-seam.new.self.items r.values.items c.remove-value.new.self.items c.args.number c.remove-seam.result c.index_mut.result.now c.remove-value.result (c.args.number - 1) = record {
+    let out : IsOut r.seams.list.items c.remove-seam.new.self.list.items r.values.items c.remove-value.new.self.items c.args.number c.remove-seam.result c.index_mut.result.now c.remove-value.result (c.args.number - 1) = record {
       seams = c.remove-seam.ensures.items;
       values = c.remove-value.ensures.items;
       seam = c.remove-seam.ensures.value;
       value = c.remove-value.ensures.value;
       other = c.index_mut.ensures.value;
     } in
-    let size = last_size r.named r.length _ r.seams.items c.remove-seam.new.self.items r.values.items c.remove-value.new.self.items c.args.number c.remove-seam.result c.index_mut.result.now c.remove-value.result c.swap.new.x c.swap.new.y (c.args.number - 1) (omega (arith, c.requires.first)) c.requires.sound
+    let size = last_size r.named r.length _ r.seams.list.items c.remove-seam.new.self.list.items r.values.items c.remove-value.new.self.items c.args.number c.remove-seam.result c.index_mut.result.now c.remove-value.result c.swap.new.x c.swap.new.y (c.args.number - 1) (omega (arith, c.requires.first)) c.requires.sound
     (omega (arith, r.values.ok.0, c.requires.last)) out c.swap.ensures.y_after in
     omega (arith, size, c.len.ensures, c.len-2.ensures)
 
 pub overflow_add-row-2 : goal.overflow_add-row-2
 overflow_add-row-2 c =
     let r = c.args.row.now in
-    let out : IsOut r.seams.items c.remove-seam.new.self.items r.values.items c.remove-value.new.self.items c.args.number c.remove-seam.result c.index_mut.result.now c.remove-value.result (c.args.number - 1) = record {
+    let out : IsOut r.seams.list.items c.remove-seam.new.self.list.items r.values.items c.remove-value.new.self.items c.args.number c.remove-seam.result c.index_mut.result.now c.remove-value.result (c.args.number - 1) = record {
       seams = c.remove-seam.ensures.items;
       values = c.remove-value.ensures.items;
       seam = c.remove-seam.ensures.value;
       value = c.remove-value.ensures.value;
       other = c.index_mut.ensures.value;
     } in
-    let size = last_size r.named r.length _ r.seams.items c.remove-seam.new.self.items r.values.items c.remove-value.new.self.items c.args.number c.remove-seam.result c.index_mut.result.now c.remove-value.result c.swap.new.x c.swap.new.y (c.args.number - 1) (omega (arith, c.requires.first)) c.requires.sound
+    let size = last_size r.named r.length _ r.seams.list.items c.remove-seam.new.self.list.items r.values.items c.remove-value.new.self.items c.args.number c.remove-seam.result c.index_mut.result.now c.remove-value.result c.swap.new.x c.swap.new.y (c.args.number - 1) (omega (arith, c.requires.first)) c.requires.sound
     (omega (arith, r.values.ok.0, c.requires.last)) out c.swap.ensures.y_after in
     omega (arith, size, c.len.ensures, c.len-2.ensures)
 
 pub overflow_sub-row : goal.overflow_sub-row
 overflow_sub-row c =
     let r = c.args.row.now in
-    let out : IsOut r.seams.items c.remove-seam.new.self.items r.values.items c.remove-value.new.self.items c.args.number c.remove-seam.result c.index_mut.result.now c.remove-value.result (c.args.number - 1) = record {
+    let out : IsOut r.seams.list.items c.remove-seam.new.self.list.items r.values.items c.remove-value.new.self.items c.args.number c.remove-seam.result c.index_mut.result.now c.remove-value.result (c.args.number - 1) = record {
       seams = c.remove-seam.ensures.items;
       values = c.remove-value.ensures.items;
       seam = c.remove-seam.ensures.value;
       value = c.remove-value.ensures.value;
       other = c.index_mut.ensures.value;
     } in
-    let size = last_size r.named r.length _ r.seams.items c.remove-seam.new.self.items r.values.items c.remove-value.new.self.items c.args.number c.remove-seam.result c.index_mut.result.now c.remove-value.result c.swap.new.x c.swap.new.y (c.args.number - 1) (omega (arith, c.requires.first)) c.requires.sound
+    let size = last_size r.named r.length _ r.seams.list.items c.remove-seam.new.self.list.items r.values.items c.remove-value.new.self.items c.args.number c.remove-seam.result c.index_mut.result.now c.remove-value.result c.swap.new.x c.swap.new.y (c.args.number - 1) (omega (arith, c.requires.first)) c.requires.sound
     (omega (arith, r.values.ok.0, c.requires.last)) out c.swap.ensures.y_after in
     omega (arith, size, c.len.ensures, c.len-2.ensures)
 
 pub returns-clause-pieces : goal.returns-clause-pieces
 returns-clause-pieces c =
     let r = c.args.row.now in
-    let out : IsOut r.seams.items c.remove-seam.new.self.items r.values.items c.remove-value.new.self.items c.args.number c.remove-seam.result c.index_mut.result.now c.remove-value.result (c.args.number - 1) = record {
+    let out : IsOut r.seams.list.items c.remove-seam.new.self.list.items r.values.items c.remove-value.new.self.items c.args.number c.remove-seam.result c.index_mut.result.now c.remove-value.result (c.args.number - 1) = record {
       seams = c.remove-seam.ensures.items;
       values = c.remove-value.ensures.items;
       seam = c.remove-seam.ensures.value;
       value = c.remove-value.ensures.value;
       other = c.index_mut.ensures.value;
     } in
-    last_pieces r.named r.length _ r.seams.items c.remove-seam.new.self.items r.values.items c.remove-value.new.self.items c.args.number c.remove-seam.result c.index_mut.result.now c.remove-value.result c.swap.new.x c.swap.new.y (c.args.number - 1) (omega (arith, c.requires.first)) c.requires.sound (omega (arith, r.values.ok.0, c.requires.last)) out c.swap.ensures.x_after
+    last_pieces r.named r.length _ r.seams.list.items c.remove-seam.new.self.list.items r.values.items c.remove-value.new.self.items c.args.number c.remove-seam.result c.index_mut.result.now c.remove-value.result c.swap.new.x c.swap.new.y (c.args.number - 1) (omega (arith, c.requires.first)) c.requires.sound (omega (arith, r.values.ok.0, c.requires.last)) out c.swap.ensures.x_after
 
 pub returns-clause-some : goal.returns-clause-some
 returns-clause-some c =
     let r = c.args.row.now in
-    let out : IsOut r.seams.items c.remove-seam.new.self.items r.values.items c.remove-value.new.self.items c.args.number c.remove-seam.result c.index_mut.result.now c.remove-value.result (c.args.number - 1) = record {
+    let out : IsOut r.seams.list.items c.remove-seam.new.self.list.items r.values.items c.remove-value.new.self.items c.args.number c.remove-seam.result c.index_mut.result.now c.remove-value.result (c.args.number - 1) = record {
       seams = c.remove-seam.ensures.items;
       values = c.remove-value.ensures.items;
       seam = c.remove-seam.ensures.value;
       value = c.remove-value.ensures.value;
       other = c.index_mut.ensures.value;
     } in
-    λ e. last_some r.named r.length _ r.seams.items c.remove-seam.new.self.items r.values.items c.remove-value.new.self.items c.args.number c.remove-seam.result c.index_mut.result.now c.remove-value.result c.swap.new.x c.swap.new.y (c.args.number - 1) (omega (arith, c.requires.first)) c.requires.sound (omega (arith, r.values.ok.0, c.requires.last)) out c.swap.ensures.x_after
+    λ e. last_some r.named r.length _ r.seams.list.items c.remove-seam.new.self.list.items r.values.items c.remove-value.new.self.items c.args.number c.remove-seam.result c.index_mut.result.now c.remove-value.result c.swap.new.x c.swap.new.y (c.args.number - 1) (omega (arith, c.requires.first)) c.requires.sound (omega (arith, r.values.ok.0, c.requires.last)) out c.swap.ensures.x_after
     (omega (arith, c.remove-value.new.self.ok.0, c.remove-value.ensures.len, c.requires)) e
 
 pub returns-clause-sound : goal.returns-clause-sound
 returns-clause-sound c =
     let r = c.args.row.now in
-    let out : IsOut r.seams.items c.remove-seam.new.self.items r.values.items c.remove-value.new.self.items c.args.number c.remove-seam.result c.index_mut.result.now c.remove-value.result (c.args.number - 1) = record {
+    let out : IsOut r.seams.list.items c.remove-seam.new.self.list.items r.values.items c.remove-value.new.self.items c.args.number c.remove-seam.result c.index_mut.result.now c.remove-value.result (c.args.number - 1) = record {
       seams = c.remove-seam.ensures.items;
       values = c.remove-value.ensures.items;
       seam = c.remove-seam.ensures.value;
       value = c.remove-value.ensures.value;
       other = c.index_mut.ensures.value;
     } in
-    let size = last_size r.named r.length _ r.seams.items c.remove-seam.new.self.items r.values.items c.remove-value.new.self.items c.args.number c.remove-seam.result c.index_mut.result.now c.remove-value.result c.swap.new.x c.swap.new.y (c.args.number - 1) (omega (arith, c.requires.first)) c.requires.sound
+    let size = last_size r.named r.length _ r.seams.list.items c.remove-seam.new.self.list.items r.values.items c.remove-value.new.self.items c.args.number c.remove-seam.result c.index_mut.result.now c.remove-value.result c.swap.new.x c.swap.new.y (c.args.number - 1) (omega (arith, c.requires.first)) c.requires.sound
     (omega (arith, r.values.ok.0, c.requires.last)) out c.swap.ensures.y_after in
-    last_kept r.named r.length _ r.seams.items c.remove-seam.new.self.items r.values.items c.remove-value.new.self.items c.args.number c.remove-seam.result c.index_mut.result.now c.remove-value.result c.swap.new.x c.swap.new.y (r.length - (c.len.result + c.len-2.result + 1)) (c.args.number - 1) (omega (arith, c.requires.first)) c.requires.sound (omega (arith, r.values.ok.0, c.requires.last)) out c.swap.ensures.x_after c.swap.ensures.y_after
+    last_kept r.named r.length _ r.seams.list.items c.remove-seam.new.self.list.items r.values.items c.remove-value.new.self.items c.args.number c.remove-seam.result c.index_mut.result.now c.remove-value.result c.swap.new.x c.swap.new.y (r.length - (c.len.result + c.len-2.result + 1)) (c.args.number - 1) (omega (arith, c.requires.first)) c.requires.sound (omega (arith, r.values.ok.0, c.requires.last)) out c.swap.ensures.x_after c.swap.ensures.y_after
     (omega (arith, size, c.len.ensures, c.len-2.ensures))
+
+pub invariant_of-seams : goal.invariant_of-seams
+invariant_of-seams c =
+    let q = c.remove-seam.new.self in
+    let t = c.index_mut.result.now in
+    record { agrees = still_agrees q.list.items q.places (c.args.number - 1) t (with_trail c.swap.new.x t) c.index_mut.ensures.value refl q.agrees }

@@ -1,0 +1,72 @@
+-- What a value is, and what stands where a pointer leads.
+use Rattle.std.proofs.Common.{◌≡◌, ℕ, ◌+◌, ◌<◌, Bool, true, false, List, ◌∷◌, ◌++◌, length, get_or, map, Option, None, Result, Ok, Err, OnOk, option_and_then, refl, sym, ap, ◌∙◌, subst}
+use Rattle.std.specs.Prelude.{IfOk, option_map, slice_set}
+use Rattle.std.specs.declared.alloc.AllocError.{AllocError}
+use Rattle.std.proofs.lemmas.Result.{IfOk-weaker}
+use Rattle.json.specs.Json.{Json}
+use Rattle.json_lexemes.specs.Spelled.{Says}
+use Rattle.json_lexemes.proofs.Nests.{one_tree}
+use Rattle.json_text.specs.Cuts.{AllSuit, IsBlank, row_text}
+use Rattle.json_text.specs.Less.{IsNumberOf}
+use Rattle.json_text.specs.Listing.{shape_of}
+use Rattle.json_text.specs.Pointed.{child, tree_at}
+use Rattle.json_text.specs.Rows.{Child, tree_in}
+use Rattle.json_text.specs.declared.listing.Shape.{Shape}
+use Rattle.json_text.specs.declared.listing.Shape.TheVariants.{Object, List as ListShape}
+use Rattle.jsonptr.specs.Text.{Pointer}
+use Rattle.json_pieces.specs.Looks.{Looks}
+use Rattle.json_pieces.specs.Nodes.{IsSound, IsWhole, parts_of, row_view, text_bytes, tree_text, view, wide}
+use Rattle.json_pieces.specs.declared.node.Node.{Node}
+use Rattle.json_pieces.specs.declared.node.Row.{Row}
+use Rattle.json_pieces.proofs.Calls.{says_around}
+use Rattle.json_pieces.proofs.Lifts.{lift_looks}
+use Rattle.json_pieces.proofs.Lists.{pieces_in}
+use Rattle.json_pieces.proofs.Rows.Says.{row_says}
+use Rattle.json_pieces.proofs.Walks.{set_is_sound, set_makes, value_whole}
+
+-- a row is of the one shape or of the other
+in_object : (cs : List Child) (b : Bool) → b ≡ true → shape_of (tree_in b cs) ≡ Object
+in_object cs true e = refl
+in_object cs false e = cc
+
+in_list : (cs : List Child) (b : Bool) → b ≡ false → shape_of (tree_in b cs) ≡ ListShape
+in_list cs false e = refl
+in_list cs true e = cc
+
+row_tree : (r : Row) (h : IsSound (row_view r)) (j : Json) → Says (tree_text (row_view r)) j → tree_in r.named h.0.cs ≡ j
+row_tree r h j says = one_tree (tree_text (row_view r)) (tree_in r.named h.0.cs) j (row_says r.named (text_bytes r.hollow) h.0.cs _ h.0.suit h.0.blank) says
+
+pub object_shape : (r : Row) → IsSound (row_view r) → r.named ≡ true → (j : Json) → Says (tree_text (row_view r)) j → Object ≡ shape_of j
+object_shape r h e j says = sym (in_object h.0.cs r.named e) ∙ ap shape_of (row_tree r h j says)
+
+pub list_shape : (r : Row) → IsSound (row_view r) → r.named ≡ false → (j : Json) → Says (tree_text (row_view r)) j → ListShape ≡ shape_of j
+list_shape r h e j says = sym (in_list h.0.cs r.named e) ∙ ap shape_of (row_tree r h j says)
+
+-- no child has the name
+pub none_looked : (t k : List ℕ) (P : Pointer) (r : Row) → IsSound (row_view r) → k ≡ t → ((cs : List Child) → AllSuit r.named cs (pieces_in r.seams.list.items r.values.items) → child k (tree_in r.named cs) ≡ None)
+    → (j : Json) → Says (tree_text (row_view r)) j → Looks (tree_text (row_view r)) j (t ∷ P) (tree_text (row_view r)) None
+none_looked t k P r h is none j says =
+    let nothing : child t j ≡ None = subst (λ y. child y j ≡ None) is (subst (λ i. child k i ≡ None) (row_tree r h j says) (none h.0.cs h.0.suit)) in
+    (refl, sym (ap (λ o. option_map shape_of (option_and_then (tree_at P) o)) nothing))
+
+-- the value of this number was looked at, and is w since
+module _ (r : Row) (n : ℕ) (v w : Node) (P : Pointer) (h : IsSound (row_view r)) (l : n < length r.values.items) (e : v ≡ get_or r.values.items n v) where
+  pub still_sound : (c : Result (Option Shape) AllocError) → OnOk c (IsWhole (view w)) → IfOk c (λ found. (j : Json) → Says (tree_text (view v)) j → Looks (tree_text (view v)) j P (tree_text (view w)) found)
+      → OnOk c (IsSound (wide r.named r.length (text_bytes r.hollow) (parts_of r.seams.list.items (map view (slice_set r.values.items n w)))))
+  still_sound (Ok found) whole looked =
+      let (_, (j, is)) = value_whole r n v h l e in
+      let (same, _) = looked j is.0 in
+      set_is_sound r n v w h l e r.length whole (ap (λ s. r.length + length s) (sym same))
+  still_sound (Err failed) whole looked = tt
+
+  pub looked_below : (c : Result (Option Shape) AllocError) (t k : List ℕ) → k ≡ t → ((cs : List Child) → AllSuit r.named cs (pieces_in r.seams.list.items r.values.items) → IsNumberOf r.named cs k n)
+      → IfOk c (λ found. (j : Json) → Says (tree_text (view v)) j → Looks (tree_text (view v)) j P (tree_text (view w)) found)
+      → IfOk c (λ found. (j : Json) → Says (tree_text (row_view r)) j → Looks (tree_text (row_view r)) j (t ∷ P) (row_text r.named (text_bytes r.hollow) (pieces_in r.seams.list.items (slice_set r.values.items n w))) found)
+  looked_below c t k is names =
+      IfOk-weaker c _ _ (λ found. set_makes r n v w h l e (λ text j new. Looks text j P new found) (λ text j new. Looks text j (t ∷ P) new found) t k is names (λ cs s. lift_looks r.named (text_bytes r.hollow) t n cs _ _ P found s))
+
+-- with the blanks around it
+pub looks_around : (a b s new : List ℕ) (P : Pointer) (found : Option Shape) → IsBlank a → IsBlank b → (i : Json) × Says s i → ((j : Json) → Says s j → Looks s j P new found) → (j : Json) → Says (a ++ (s ++ b)) j → Looks (a ++ (s ++ b)) j P (a ++ (new ++ b)) found
+looks_around a b s new P found h k (i, root) looked j says =
+    let (same, shape) = looked i root in
+    (ap (λ x. a ++ (x ++ b)) same, subst (λ x. found ≡ option_map shape_of (tree_at P x)) (one_tree (a ++ (s ++ b)) i j (says_around a s b i h k root) says) shape)

@@ -1,0 +1,81 @@
+//! What stands where a pointer leads, by its shape.
+
+ghost use Rattle.std.specs.Prelude.{◌≡◌, ◌∷◌, IfOk, OnOk};
+ghost use Rattle.json.specs.Json.{Json};
+ghost use Rattle.json_lexemes.specs.Spelled.{Says};
+ghost use Rattle.json_pieces.specs.Looks.{Looks};
+ghost use Rattle.json_pieces.specs.Nodes.{IsSound, IsWhole, row_view, tree_text, view};
+ghost use Rattle.json_text.specs.Listing.{shape_of};
+ghost use Rattle.jsonptr.specs.Pointers.{token_of, tokens_left};
+
+use crate::node::{Node, Row};
+use crate::opening::open;
+use crate::row::number_of;
+use json_text::Shape;
+use jsonptr::{Token, Tokens};
+use std::alloc::{AllocError, Global};
+
+/// What the value is.
+fn shape(node: &Node<'_>) -> Shape
+    requires { IsWhole (view node.now) }
+    ensures { (j : Json) → Says (tree_text (view node.now)) j → result ≡ shape_of j }
+{
+    match node {
+        Node::Closed(text) => Shape::of(text.as_str()),
+        Node::Open(row) => row_shape(row),
+    }
+}
+
+fn row_shape(row: &Row<'_>) -> Shape
+    requires { IsSound (row_view row.now) }
+    ensures { (j : Json) → Says (tree_text (row_view row.now)) j → result ≡ shape_of j }
+{
+    if row.named {
+        Shape::Object
+    } else {
+        Shape::List
+    }
+}
+
+/// What stands where the tokens lead, if anything does. It opens what is on the way, and copies no
+/// value.
+#[cycle(looking)]
+pub(crate) fn shape_at(
+    alloc: Global,
+    node: &mut Node<'_>,
+    mut path: Tokens<'_>,
+) -> Result<Option<Shape>, AllocError>
+    requires whole { IsWhole (view node.old) }
+    ensures whole { OnOk result (IsWhole (view node.new)) }
+    ensures looks { IfOk result (λ found. (j : Json) → Says (tree_text (view node.old)) j
+        → Looks (tree_text (view node.old)) j (tokens_left path.entry) (tree_text (view node.new)) found) }
+{
+    let Some(token) = path.next() else {
+        return Ok(Some(shape(node)));
+    };
+    open(alloc, node)?;
+    match node {
+        Node::Closed(_) => Ok(None),
+        Node::Open(row) => shape_in(alloc, row, token, path),
+    }
+}
+
+#[cycle(looking)]
+fn shape_in(
+    alloc: Global,
+    row: &mut Row<'_>,
+    token: Token<'_>,
+    rest: Tokens<'_>,
+) -> Result<Option<Shape>, AllocError>
+    requires sound { IsSound (row_view row.old) }
+    ensures sound { OnOk result (IsSound (row_view row.new)) }
+    ensures looks { IfOk result (λ found. (j : Json) → Says (tree_text (row_view row.old)) j
+        → Looks (tree_text (row_view row.old)) j (token_of token.entry ∷ tokens_left rest.entry)
+        (tree_text (row_view row.new)) found) }
+{
+    let name = token.decoded(alloc)?;
+    let Some(number) = number_of(row, name.as_str()) else {
+        return Ok(None);
+    };
+    shape_at(alloc, &mut row.values[number], rest)
+}
