@@ -2,6 +2,7 @@ pub mod Becoming
 pub mod Built
 pub mod Depths
 pub mod Documents
+pub mod Last
 pub mod Merges
 pub mod Possible
 pub mod Trees

@@ -184,14 +184,6 @@ found_is text s seen P Q j v said way (i, shallow, (before, behind, is, (w, ther
 pub read_there : (text s seen : List ℕ) (P Q : Pointer) (i x : Json) → StandsAt text P i → Q ≡ P → (j : Json) × IsShallowText text j × IsWrittenAt text j Q s → seen ≡ s → document seen ≡ Some x → x ≡ i
 read_there text s seen P Q i x (j, shallow, at) way found same read = same_Some x i (sym (found_is text s seen P Q j x shallow.0 way found same ((read_is seen x).0 read).0) ∙ at)
 
-pub shape_there : (text s seen : List ℕ) (P Q : Pointer) (j : Json) (shape : Shape) → Says text j → Q ≡ P → (i : Json) × IsShallowText text i × IsWrittenAt text i Q s → seen ≡ s → ((v : Json) → Says seen v → shape ≡ shape_of v) → Some shape ≡ option_map shape_of (tree_at P j)
-shape_there text s seen P Q j shape said way (i, shallow, (before, behind, is, (w, there, stretch))) same of =
-    let says : Says seen w = subst (λ t. Says t w) (sym same) stretch.says in
-    ap Some (of w says) ∙ sym (ap (option_map shape_of) (found_is text s seen P Q j w said way (i, shallow, (before, behind, is, (w, there, stretch))) same says))
-
-pub shape_nowhere : (text : List ℕ) (P Q : Pointer) (j : Json) → Says text j → Q ≡ P → (i : Json) × IsShallowText text i × (tree_at Q i ≡ None) → None ≡ option_map shape_of (tree_at P j)
-shape_nowhere text P Q j said way (i, shallow, none) = sym (ap (option_map shape_of) (ap (λ R. tree_at R j) (sym way) ∙ ap (tree_at Q) (one_tree text j i said shallow.0) ∙ none))
-
 -- ---- what something's shape tells
 
 may_is : (text : List ℕ) (P : Pointer) (was : Option Json) (j : Json) → MayStandAt text P was → Says text j → tree_at P j ≡ was

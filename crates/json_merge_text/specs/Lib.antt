@@ -1,4 +1,5 @@
 pub mod Changes
+pub mod Lasts
 pub mod Merged
 pub mod Merging
 pub mod Stands

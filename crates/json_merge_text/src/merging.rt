@@ -1,9 +1,10 @@
 //! A merge patch merged into a text, member by member (RFC 7396, section 2).
 
-ghost use Rattle.std.specs.Prelude.{◌≡◌, ◌<◌, ◌+◌, OnOk, Option, Some, drop, is_some, vec_len};
+ghost use Rattle.std.specs.Prelude.{◌≡◌, ◌+◌, IfOk, OnOk, Option, Some, drop, is_some};
 ghost use Rattle.json.specs.Find.{get_member};
 ghost use Rattle.json.specs.Json.{Json, Members, object};
 ghost use Rattle.json.specs.Value.{value_view, members_view};
+ghost use Rattle.json_merge_text.specs.Lasts.{Entries, HasLasts};
 ghost use Rattle.json_merge_text.specs.Merging.{IsChanged, MergesInto, MergesMember, MergesObject};
 ghost use Rattle.json_merge_text.specs.Stands.{MayStandAt, StandsAt};
 ghost use Rattle.json_merge_text.specs.Steps.{AreTexts, Becomes};
@@ -15,18 +16,33 @@ use json::Value;
 use json_text::Shape;
 use jsonptr::PointerBuf;
 use std::alloc::{AllocError, Global};
+use std::collections::BTreeMap;
+
+/// For each name the number of its last member.
+// Kept out of the merge's recursion, whose every level would else hold the room of an insertion.
+#[inline(never)]
+fn last_places<'a>(
+    alloc: Global,
+    members: &Vec<(&'a str, Value<'a>)>,
+) -> Result<BTreeMap<&'a str, usize>, AllocError>
+    ensures { IfOk result (λ lasts. HasLasts lasts members.now.items) }
+{
+    let mut lasts = BTreeMap::new(alloc);
+    for index in 0..members.len() {
+        lasts.insert(members[index].0, index)?;
+    }
+    Ok(lasts)
+}
 
 /// Whether a member of this name comes behind the one at `index`.
-fn comes_again(members: &Vec<(&str, Value<'_>)>, index: usize, name: &str) -> bool
-    requires { index < vec_len members.now }
-    ensures { result ≡ is_some (get_member name.now (members_view (drop (index + 1) members.now.items))) }
+fn comes_again(lasts: &BTreeMap<&str, usize>, index: usize, name: &str) -> bool
+    ensures { (es : Entries) → HasLasts lasts.now es
+        → result ≡ is_some (get_member name.now (members_view (drop (index + 1) es))) }
 {
-    for later in index + 1..members.len() {
-        if members[later].0 == name {
-            return true;
-        }
+    match lasts.get(name) {
+        Some(last) => index < *last,
+        None => false,
     }
-    false
 }
 
 /// What the patch has at a place merged into what the document has there.
@@ -74,10 +90,11 @@ fn merge_members<'a>(
     ensures { OnOk result (Becomes texts.old texts.new (λ patch text new. (is : Members) → StandsAt text path.now (object is)
         → IsChanged text new (MergesObject patch path.now is (members_view changes.now.items)))) }
 {
+    let lasts = last_places(alloc, changes)?;
     for index in 0..changes.len() {
         let member = &changes[index];
         // Of several of one name the last counts.
-        if comes_again(changes, index, member.0) {
+        if comes_again(&lasts, index, member.0) {
             continue;
         }
         let there = member_of(alloc, path, member.0)?;
@@ -153,9 +170,10 @@ fn prune<'a>(
     ensures { OnOk result (Becomes texts.old texts.new (λ patch text new. IsChanged text new
         (MergesObject patch path.now (members_view members.now.items) (members_view members.now.items)))) }
 {
+    let lasts = last_places(alloc, members)?;
     for index in 0..members.len() {
         let member = &members[index];
-        if comes_again(members, index, member.0) {
+        if comes_again(&lasts, index, member.0) {
             continue;
         }
         let there = member_of(alloc, path, member.0)?;

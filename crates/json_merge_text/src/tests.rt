@@ -175,6 +175,31 @@ fn numbers_and_names(rt: HostRuntime) -> Result<(), Fail> {
             r#"{"a": {"y": 2}}"#,
         ),
         (r#"{"a": 1}"#, r#"{"a": null, "a": 1}"#, r#"{"a": 1}"#),
+        (
+            r#"{"a": {"x": 1, "y": 2}, "b": 0}"#,
+            r#"{"b": 1, "a": {"x": null}, "c": 3, "a": {"y": null, "z": 1}, "b": null, "c": 4}"#,
+            r#"{"a": {"x": 1,"z": 1},"c": 4}"#,
+        ),
+    ] {
+        assert_eq!(rt; outcome(a, text, patch)?.as_str(), wanted);
+    }
+    Ok(())
+}
+
+#[test]
+fn other_shapes(rt: HostRuntime) -> Result<(), Fail> {
+    let a = rt.alloc();
+    for (text, patch, wanted) in [
+        (
+            r#"{"a": [{"x": 1}, {"x": 2}], "b": "1", "c": true, "d": {}}"#,
+            r#"{"a": 1, "b": 1, "c": "true", "d": []}"#,
+            r#"{"a": 1, "b": 1, "c": "true", "d": []}"#,
+        ),
+        (
+            r#"{"a": null, "b": [], "c": 1e0}"#,
+            r#"{"a": false, "b": {"x": null}, "c": 1}"#,
+            r#"{"a": false, "b": {}, "c": 1e0}"#,
+        ),
     ] {
         assert_eq!(rt; outcome(a, text, patch)?.as_str(), wanted);
     }

@@ -1,6 +1,6 @@
 //! The two texts of a merge, in pieces, and the changes that are made of the document's.
 
-ghost use Rattle.std.specs.Prelude.{◌≡◌, ◌∷◌, [], ◌++◌, IfOk, None, OnOk, Some, option_map};
+ghost use Rattle.std.specs.Prelude.{◌≡◌, ◌∷◌, [], ◌++◌, IfOk, None, OnOk, Some, option_map, true};
 ghost use Rattle.std.specs.Bool.{Decides};
 ghost use Rattle.std.specs.String.{string_bytes};
 ghost use Rattle.json.specs.Json.{Json};
@@ -51,6 +51,29 @@ fn written(alloc: Global, pieces: &mut Pieces<'_>, path: &PointerBuf) -> Result<
     }
 }
 
+fn shape_of_value(value: &Value) -> Shape
+    ensures { result ≡ shape_of (value_view value.now) }
+{
+    match value {
+        Value::Object(_) => Shape::Object,
+        Value::Array(_) => Shape::List,
+        Value::String(_) => Shape::String,
+        _ => Shape::Atom,
+    }
+}
+
+fn same_shape(a: Shape, b: Shape) -> bool
+    ensures { a ≡ b → result ≡ true }
+{
+    match (a, b) {
+        (Shape::Object, Shape::Object) => true,
+        (Shape::List, Shape::List) => true,
+        (Shape::String, Shape::String) => true,
+        (Shape::Atom, Shape::Atom) => true,
+        _ => false,
+    }
+}
+
 /// The document's text and the patch's.
 #[derive(Drop)]
 pub(crate) struct Texts<'a> {
@@ -85,16 +108,36 @@ impl<'a> Texts<'a> {
         ensures shape { IfOk result (λ found. (j : Json) → Says (text_of self.old.document) j
             → found ≡ option_map shape_of (tree_at path.now j)) }
     {
-        match self.document.value(alloc, path.as_pointer())? {
-            Some(value) => Ok(Some(Shape::of(value.as_str()))),
-            None => Ok(None),
-        }
+        self.document.shape(alloc, path.as_pointer())
     }
 
     /// Whether the document has the same as `value` at a place.
     // Kept out of the merge's recursion, whose every level would else hold the reader's room.
     #[inline(never)]
     pub(crate) fn has_same(
+        &mut self,
+        alloc: Global,
+        path: &PointerBuf,
+        value: &Value,
+    ) -> Result<bool, AllocError>
+        requires texts { AreTexts self.old }
+        requires shallow { (j : Json) × IsShallowText (text_of self.old.document) j }
+        ensures kept { IfOk result (λ same.
+            Becomes self.old self.new (λ patch text new. new ≡ text)) }
+        ensures same { IfOk result (λ same. (i : Json) → StandsAt (text_of self.old.document) path.now i
+            → Decides same (SameTree i (value_view value.now))) }
+    {
+        let Some(here) = self.shape(alloc, path)? else {
+            return Ok(false);
+        };
+        if !same_shape(here, shape_of_value(value)) {
+            return Ok(false);
+        }
+        self.reads_same(alloc, path, value)
+    }
+
+    /// The same, by reading a copy of what stands there.
+    fn reads_same(
         &mut self,
         alloc: Global,
         path: &PointerBuf,

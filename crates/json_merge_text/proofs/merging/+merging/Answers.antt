@@ -217,7 +217,7 @@ merge_members-loop-index-preserved-then-comes_again t c = record {
   same = c.loop-index.invariant.same;
   done = λ is stands. passed (text_of c.args.texts.now.patch) c.args.path.now is c.args.changes.now.items c.loop-index.index c.index-member.result.now c.comes_again.result
       (text_of c.args.texts.now.document) (text_of c.loop-index.texts.document)
-      (omega (arith, c.loop-index-test.true)) c.index-member.ensures c.comes_again.ensures (c.loop-index.invariant.done is stands) c.if-comes_again.true;
+      (omega (arith, c.loop-index-test.true)) c.index-member.ensures (c.comes_again.ensures _ c.in_ok-lasts.ensures) (c.loop-index.invariant.done is stands) c.if-comes_again.true;
 }
 
 pub merge_members-merge_member-requires : goal.merge_members-merge_member-requires
@@ -229,12 +229,12 @@ merge_members-merge_member-requires t c =
         c.loop-index.invariant.texts,
         (
           named (text_of c.args.texts.now.patch) c.args.path.now is c.args.changes.now.items c.loop-index.index e c.comes_again.result (text_of c.args.texts.now.document) (text_of c.loop-index.texts.document)
-              (omega (arith, c.loop-index-test.true)) c.index-member.ensures c.comes_again.ensures (c.loop-index.invariant.done is stands) c.if-comes_again.false (text_of c.loop-index.texts.patch) c.in_ok-there.there
+              (omega (arith, c.loop-index-test.true)) c.index-member.ensures (c.comes_again.ensures _ c.in_ok-lasts.ensures) (c.loop-index.invariant.done is stands) c.if-comes_again.false (text_of c.loop-index.texts.patch) c.in_ok-there.there
               c.loop-index.invariant.same c.in_ok-there.ensures c.requires.named,
           (
             get_member e.0.now is,
             may_stand (text_of c.args.texts.now.patch) c.args.path.now is c.args.changes.now.items c.loop-index.index e c.comes_again.result (text_of c.args.texts.now.document) (text_of c.loop-index.texts.document)
-                (omega (arith, c.loop-index-test.true)) c.index-member.ensures c.comes_again.ensures (c.loop-index.invariant.done is stands) c.if-comes_again.false c.in_ok-there.there (get_member e.0.now is) c.in_ok-there.ensures refl,
+                (omega (arith, c.loop-index-test.true)) c.index-member.ensures (c.comes_again.ensures _ c.in_ok-lasts.ensures) (c.loop-index.invariant.done is stands) c.if-comes_again.false c.in_ok-there.there (get_member e.0.now is) c.in_ok-there.ensures refl,
           ),
         ),
       ),
@@ -246,11 +246,11 @@ merge_members-loop-index-preserved t c =
       texts = c.in_ok-merge_member.ensures.texts;
       same = c.in_ok-merge_member.ensures.same ∙ c.loop-index.invariant.same;
       done = λ is stands. merged (text_of c.args.texts.now.patch) c.args.path.now is c.args.changes.now.items c.loop-index.index e c.comes_again.result (text_of c.args.texts.now.document) (text_of c.loop-index.texts.document)
-          (omega (arith, c.loop-index-test.true)) c.index-member.ensures c.comes_again.ensures (c.loop-index.invariant.done is stands) c.if-comes_again.false (text_of c.loop-index.texts.patch) c.in_ok-there.there (get_member e.0.now is) (text_of c.merge_member.new.texts.document)
+          (omega (arith, c.loop-index-test.true)) c.index-member.ensures (c.comes_again.ensures _ c.in_ok-lasts.ensures) (c.loop-index.invariant.done is stands) c.if-comes_again.false (text_of c.loop-index.texts.patch) c.in_ok-there.there (get_member e.0.now is) (text_of c.merge_member.new.texts.document)
           c.loop-index.invariant.same c.in_ok-there.ensures refl c.requires.named
           (c.in_ok-merge_member.ensures.made (get_member e.0.now is)
           (may_stand (text_of c.args.texts.now.patch) c.args.path.now is c.args.changes.now.items c.loop-index.index e c.comes_again.result (text_of c.args.texts.now.document) (text_of c.loop-index.texts.document)
-          (omega (arith, c.loop-index-test.true)) c.index-member.ensures c.comes_again.ensures (c.loop-index.invariant.done is stands) c.if-comes_again.false c.in_ok-there.there (get_member e.0.now is) c.in_ok-there.ensures refl));
+          (omega (arith, c.loop-index-test.true)) c.index-member.ensures (c.comes_again.ensures _ c.in_ok-lasts.ensures) (c.loop-index.invariant.done is stands) c.if-comes_again.false c.in_ok-there.there (get_member e.0.now is) c.in_ok-there.ensures refl));
     }
 
 pub merge_members-returns : goal.merge_members-returns

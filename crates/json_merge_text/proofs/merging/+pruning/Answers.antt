@@ -18,17 +18,17 @@ prune-loop-index-preserved-then-comes_again t c = record {
   same = c.loop-index.invariant.same;
   done = passed (text_of c.args.texts.now.patch) c.args.path.now (members_view c.args.members.now.items) c.args.members.now.items c.loop-index.index c.index-member.result.now c.comes_again.result
       (text_of c.args.texts.now.document) (text_of c.loop-index.texts.document)
-      (omega (arith, c.loop-index-test.true)) c.index-member.ensures c.comes_again.ensures c.loop-index.invariant.done c.if-comes_again.true;
+      (omega (arith, c.loop-index-test.true)) c.index-member.ensures (c.comes_again.ensures _ c.in_ok-lasts.ensures) c.loop-index.invariant.done c.if-comes_again.true;
 }
 
 pub prune-remove-requires-clause-stands : goal.prune-remove-requires-clause-stands
 prune-remove-requires-clause-stands t c =
     let all = members_view c.args.members.now.items in
     let e = c.index-member.result.now in
-    let there = last_named c.args.members.now.items c.loop-index.index e c.comes_again.result (omega (arith, c.loop-index-test.true)) c.index-member.ensures c.comes_again.ensures c.if-comes_again.false in
+    let there = last_named c.args.members.now.items c.loop-index.index e c.comes_again.result (omega (arith, c.loop-index-test.true)) c.index-member.ensures (c.comes_again.ensures _ c.in_ok-lasts.ensures) c.if-comes_again.false in
     removal_stands (text_of c.loop-index.texts.document) c.in_ok-there.there _ (value_view e.1) there
     (may_stand (text_of c.args.texts.now.patch) c.args.path.now all c.args.members.now.items c.loop-index.index e c.comes_again.result (text_of c.args.texts.now.document) (text_of c.loop-index.texts.document)
-    (omega (arith, c.loop-index-test.true)) c.index-member.ensures c.comes_again.ensures c.loop-index.invariant.done c.if-comes_again.false c.in_ok-there.there _ c.in_ok-there.ensures refl)
+    (omega (arith, c.loop-index-test.true)) c.index-member.ensures (c.comes_again.ensures _ c.in_ok-lasts.ensures) c.loop-index.invariant.done c.if-comes_again.false c.in_ok-there.there _ c.in_ok-there.ensures refl)
 
 pub prune-loop-index-preserved-then-is_null : goal.prune-loop-index-preserved-then-is_null
 prune-loop-index-preserved-then-is_null t c =
@@ -40,10 +40,10 @@ prune-loop-index-preserved-then-is_null t c =
       texts = c.in_ok-remove.ensures.texts;
       same = c.in_ok-remove.ensures.same ∙ c.loop-index.invariant.same;
       done = merged (text_of c.args.texts.now.patch) c.args.path.now all c.args.members.now.items c.loop-index.index e c.comes_again.result (text_of c.args.texts.now.document) (text_of c.loop-index.texts.document)
-          (omega (arith, c.loop-index-test.true)) c.index-member.ensures c.comes_again.ensures c.loop-index.invariant.done c.if-comes_again.false patch there _ (text_of c.remove.new.self.document)
+          (omega (arith, c.loop-index-test.true)) c.index-member.ensures (c.comes_again.ensures _ c.in_ok-lasts.ensures) c.loop-index.invariant.done c.if-comes_again.false patch there _ (text_of c.remove.new.self.document)
           c.loop-index.invariant.same c.in_ok-there.ensures refl c.requires.named
           (removed patch there _ q q (λ (x : Json). MergesInto patch there x q) (text_of c.loop-index.texts.document) (text_of c.remove.new.self.document)
-          (last_named c.args.members.now.items c.loop-index.index e c.comes_again.result (omega (arith, c.loop-index-test.true)) c.index-member.ensures c.comes_again.ensures c.if-comes_again.false)
+          (last_named c.args.members.now.items c.loop-index.index e c.comes_again.result (omega (arith, c.loop-index-test.true)) c.index-member.ensures (c.comes_again.ensures _ c.in_ok-lasts.ensures) c.if-comes_again.false)
           (search rules) c.in_ok-remove.ensures.made);
     }
 
@@ -51,17 +51,17 @@ pub prune-prune_value-requires : goal.prune-prune_value-requires
 prune-prune_value-requires t c =
     let all = members_view c.args.members.now.items in
     let e = c.index-member.result.now in
-    let there = last_named c.args.members.now.items c.loop-index.index e c.comes_again.result (omega (arith, c.loop-index-test.true)) c.index-member.ensures c.comes_again.ensures c.if-comes_again.false in (
+    let there = last_named c.args.members.now.items c.loop-index.index e c.comes_again.result (omega (arith, c.loop-index-test.true)) c.index-member.ensures (c.comes_again.ensures _ c.in_ok-lasts.ensures) c.if-comes_again.false in (
       omega (arith, pair_depth c.args.members.now.items c.loop-index.index e (omega (arith, c.loop-index-test.true)) c.index-member.ensures),
       (
         c.loop-index.invariant.texts,
         (
           named (text_of c.args.texts.now.patch) c.args.path.now all c.args.members.now.items c.loop-index.index e c.comes_again.result (text_of c.args.texts.now.document) (text_of c.loop-index.texts.document)
-              (omega (arith, c.loop-index-test.true)) c.index-member.ensures c.comes_again.ensures c.loop-index.invariant.done c.if-comes_again.false (text_of c.loop-index.texts.patch) c.in_ok-there.there
+              (omega (arith, c.loop-index-test.true)) c.index-member.ensures (c.comes_again.ensures _ c.in_ok-lasts.ensures) c.loop-index.invariant.done c.if-comes_again.false (text_of c.loop-index.texts.patch) c.in_ok-there.there
               c.loop-index.invariant.same c.in_ok-there.ensures c.requires.named,
           member_there (text_of c.loop-index.texts.document) c.in_ok-there.there _ (value_view e.1)
               (may_stand (text_of c.args.texts.now.patch) c.args.path.now all c.args.members.now.items c.loop-index.index e c.comes_again.result (text_of c.args.texts.now.document) (text_of c.loop-index.texts.document)
-              (omega (arith, c.loop-index-test.true)) c.index-member.ensures c.comes_again.ensures c.loop-index.invariant.done c.if-comes_again.false c.in_ok-there.there _ c.in_ok-there.ensures refl) there,
+              (omega (arith, c.loop-index-test.true)) c.index-member.ensures (c.comes_again.ensures _ c.in_ok-lasts.ensures) c.loop-index.invariant.done c.if-comes_again.false c.in_ok-there.there _ c.in_ok-there.ensures refl) there,
         ),
       ),
     )
@@ -76,10 +76,10 @@ prune-loop-index-preserved t c =
       texts = c.in_ok-prune_value.ensures.texts;
       same = c.in_ok-prune_value.ensures.same ∙ c.loop-index.invariant.same;
       done = merged (text_of c.args.texts.now.patch) c.args.path.now all c.args.members.now.items c.loop-index.index e c.comes_again.result (text_of c.args.texts.now.document) (text_of c.loop-index.texts.document)
-          (omega (arith, c.loop-index-test.true)) c.index-member.ensures c.comes_again.ensures c.loop-index.invariant.done c.if-comes_again.false patch there _ (text_of c.prune_value.new.texts.document)
+          (omega (arith, c.loop-index-test.true)) c.index-member.ensures (c.comes_again.ensures _ c.in_ok-lasts.ensures) c.loop-index.invariant.done c.if-comes_again.false patch there _ (text_of c.prune_value.new.texts.document)
           c.loop-index.invariant.same c.in_ok-there.ensures refl c.requires.named
           (found_one patch there _ q q (text_of c.loop-index.texts.document) (text_of c.prune_value.new.texts.document)
-          (last_named c.args.members.now.items c.loop-index.index e c.comes_again.result (omega (arith, c.loop-index-test.true)) c.index-member.ensures c.comes_again.ensures c.if-comes_again.false)
+          (last_named c.args.members.now.items c.loop-index.index e c.comes_again.result (omega (arith, c.loop-index-test.true)) c.index-member.ensures (c.comes_again.ensures _ c.in_ok-lasts.ensures) c.if-comes_again.false)
           (search rules) c.in_ok-prune_value.ensures.made);
     }
 

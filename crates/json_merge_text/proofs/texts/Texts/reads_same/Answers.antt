@@ -8,7 +8,7 @@ use Rattle.json_pieces.specs.Whole.{text_of}
 use Rattle.json_reading.specs.Same.{SameTree}
 use Rattle.json_text.specs.Pointed.{IsWrittenAt}
 use Rattle.json_merge_text.proofs.Possible.{nowhere_found, read_there}
-use Rattle.json_merge_text.proofs.texts.Texts.has_same.Goals as goal
+use Rattle.json_merge_text.proofs.texts.Texts.reads_same.Goals as goal
 
 pub returns-in_default-clause-same : goal.returns-in_default-clause-same
 returns-in_default-clause-same c i stands =
