@@ -325,6 +325,38 @@ static void expect_difference(size_t turns, const json_patch_limits *limits) {
     free(to.bytes);
 }
 
+/* Names with an escape, so many of them that they are indexed, in an object so many turns deep: each
+   member is replaced, by a merge patch and by a patch. */
+static void expect_names(size_t turns) {
+    enum { NAMES = 40 };
+    text from = {NULL, 0, 0}, to = {NULL, 0, 0}, patch = {NULL, 0, 0};
+    json_patch_report report;
+    for (int goal = 0; goal <= 1; goal++) {
+        text *made = goal ? &to : &from;
+        put_times(made, "{\"a\":", turns);
+        for (int i = 0; i < NAMES; i++)
+            put(made, "%s\"\\u00e9%d\":%d", i ? "," : "{", i, goal);
+        put_times(made, "}", turns + 1);
+    }
+    for (int i = 0; i < NAMES; i++) {
+        put(&patch, "%s{\"op\":\"replace\",\"path\":\"", i ? "," : "[");
+        put_times(&patch, "/a", turns);
+        put(&patch, "/\\u00e9%d\",\"value\":1}", i);
+    }
+    put(&patch, "]");
+    expect(json_patch_merge_text(from.bytes, from.length, to.bytes, to.length, out, ROOM, &report), &report,
+           JSON_PATCH_OK, 0, 0, "a merge of many names");
+    if (report.size != to.length || memcmp(out, to.bytes, to.length) != 0)
+        fail("a merge of many names leaves %.*s", (int)report.size, out);
+    expect(json_patch_apply_text(from.bytes, from.length, patch.bytes, patch.length, out, ROOM, &report),
+           &report, JSON_PATCH_OK, 0, 0, "a patch of many names");
+    if (report.size != to.length || memcmp(out, to.bytes, to.length) != 0)
+        fail("a patch of many names leaves %.*s", (int)report.size, out);
+    free(from.bytes);
+    free(to.bytes);
+    free(patch.bytes);
+}
+
 /* Brackets that never close, that are in a string, and that no document has. */
 static void expect_brackets(void) {
     json_patch_report report;
@@ -511,6 +543,8 @@ static void *made(void *unused) {
     expect_growth(10, 100, &small);
     expect_growth(1000, 100, &usual);
     expect_sizes();
+    expect_names(0);
+    expect_names(MOST - 1);
     expect_brackets();
     expect_undo();
     return unused;
