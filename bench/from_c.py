@@ -31,6 +31,10 @@ CALLS = [
     ("in a text of 10 MB: one replace", "in_text", 1, workloads.replace_in_the_middle(145_000)),
     ("in a text of 100 kB: 100 mixed operations", "in_text", 10, (workloads.rows(1_450), workloads.MIXED)),
     ("in a text of 10 MB: 100 mixed operations", "in_text", 1, (workloads.rows(145_000), workloads.MIXED)),
+    ("in a text of 10,000 members: 1,000 replaces", "in_text", 1,
+     (workloads.object_of(10_000), workloads.in_each_tenth("replace", 10_000, value="other text"))),
+    ("in a text of 10,000 members: 1,000 removes", "in_text", 1,
+     (workloads.object_of(10_000), workloads.in_each_tenth("remove", 10_000))),
     ("one replace in a kept document of 100 kB", "kept", 20_000, workloads.replace_in_the_middle(1_450)),
     ("one replace in a kept document of 10 MB", "kept", 20_000, workloads.replace_in_the_middle(145_000)),
 ]

@@ -51,6 +51,11 @@ def in_members(count):
         yield {"op": "remove", "path": f"/member {i + 2:04}"}
 
 
+def in_each_tenth(op, count, **members):
+    """An operation on each tenth of so many members of an object."""
+    return [{"op": op, "path": f"/member {i:04}", **members} for i in range(0, count, 10)]
+
+
 def in_items(count):
     """Items removed from a list and added to it, in turn, all over it."""
     for i in range(count):

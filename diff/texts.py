@@ -1,7 +1,7 @@
 #!/usr/bin/env python3
 """Random JSON texts, patched in place, against a model of the bytes.
 
-    diff/texts.py [--seed S] [--cases N] --ours PROGRAM [--spoil]
+    diff/texts.py [--seed S] [--cases N] --ours PROGRAM [--wide] [--spoil]
 
 PROGRAM is that of diff/texts.rt.txt, which `diff/build FOLDER json_patch_texts diff/texts.rt.txt
 json_patch_text` proves and builds. The texts have blanks of all kinds anywhere, names and strings with
@@ -9,8 +9,11 @@ escapes, names that come twice, decimals and exponents of any size, and empty ob
 answer has to be the model's (`texts_model`), byte by byte, and each refusal its number, path and kind.
 In one case of eight a byte of the text or of the patch is changed or cut off: then there has to be an answer
 or a named refusal. The run fails where one of this doesn't hold, and where a kind of operation was never
-accepted or a kind of refusal never came. With `--spoil` a byte of each new text is changed before it is
-compared: then it fails where one isn't found out."""
+accepted or a kind of refusal never came.
+
+With `--wide` each text has an object of some fifty members, and each patch some twenty-five operations, few of
+which take a member out: so its names are looked up in an index. There a kind of refusal needn't come. With
+`--spoil` a byte of each new text is changed before it is compared: then it fails where one isn't found out."""
 import argparse
 import json
 import random
@@ -21,6 +24,8 @@ from collections import Counter
 from texts_model import at_tokens, patched, read, tokens_of
 
 NAMES = ("a", "b", "", "a/b", "m~n", "\u00e9", "\n", "\U0001f600", "-", "0", "1")
+OPERATIONS = ("add", "add", "remove", "replace", "move", "copy", "test")
+SELDOM_REMOVED = ("add", "replace", "test", "copy") * 10 + ("remove", "move")
 NUMBERS = ("0", "-0", "1", "1.0", "1.50", "15e-1", "1.5", "-1", "-0.0e5", "1e400", "10E+399", "1e-400", "100", "1e2",
            "18446744073709551616", "9007199254740993", "0.1", "0.10000000000000001")
 BATCH = 2000
@@ -85,8 +90,18 @@ class Texts:
             tokens.append(self.random.choice(NAMES + ("01", "2")))
         return "".join("/" + token.replace("~", "~0").replace("/", "~1") for token in tokens)
 
-    def operation(self, text):
-        op = self.random.choice(("add", "add", "remove", "replace", "move", "copy", "test"))
+    def wide(self):
+        """An object of many members, some of one name, by itself or in another."""
+        self.style = self.random.randrange(3)
+        members = []
+        for _ in range(self.random.randrange(30, 70)):
+            name = self.random.choice(NAMES) if self.random.random() < 0.2 else f"n{self.random.randrange(60)}/\u00e9"
+            members.append(self.string(name) + self.blanks() + ":" + self.blanks() + self.value(1))
+        row = self.row("{}", members)
+        return self.row("{}", ['"w":' + row]) if self.random.random() < 0.3 else row
+
+    def operation(self, text, kinds=OPERATIONS):
+        op = self.random.choice(kinds)
         operation, put = {"op": op, "path": self.pointer(text)}, None
         if op in ("move", "copy"):
             operation["from"] = self.pointer(text)
@@ -107,6 +122,19 @@ class Texts:
             made.append(self.operation(text))
             after, _ = patched(text, made[-1:])
             text = text if after is None else after
+        return made
+
+    def many_operations(self, text):
+        """Some twenty-five, of which each but a few is accepted."""
+        made = []
+        for _ in range(self.random.randrange(40, 70)):
+            operation = self.operation(text, SELDOM_REMOVED)
+            if operation[0]["path"] in ("", "/w"):
+                continue
+            after, _ = patched(text, [operation])
+            if after is not None or self.random.random() < 0.02:
+                made.append(operation)
+                text = text if after is None else after
         return made
 
     def written(self, operations):
@@ -146,14 +174,15 @@ def main():
     words.add_argument("--seed", type=int, default=1)
     words.add_argument("--cases", type=int, default=10000)
     words.add_argument("--ours", required=True)
+    words.add_argument("--wide", action="store_true")
     words.add_argument("--spoil", action="store_true")
     asked = words.parse_args()
     texts, came, wrong, done = Texts(asked.seed), Counter(), 0, 0
     while done < asked.cases:
         batch = []
         for _ in range(min(BATCH, asked.cases - done)):
-            text = texts.text(4)
-            operations = texts.operations(text)
+            text = texts.wide() if asked.wide else texts.text(4)
+            operations = texts.many_operations(text) if asked.wide else texts.operations(text)
             patch = texts.written(operations)
             wanted = patched(text, operations)
             if texts.random.random() < 0.125:
@@ -178,7 +207,8 @@ def main():
                 if wrong <= 5:
                     print(f"WRONG: {pair}\n  wanted {wanted}\n  got    {got}")
         done += len(batch)
-    missing = [kind for kind in ("add", "remove", "replace", "move", "copy", "test", *KINDS) if not came[kind]]
+    kinds = (*OPERATIONS, *(() if asked.wide else KINDS))
+    missing = [kind for kind in kinds if not came[kind]]
     print(f"{done} texts, seed {asked.seed}: {wrong} " + ("spoilt ones not found out" if asked.spoil else "wrong"))
     print(", ".join(f"{count} {kind}" for kind, count in sorted(came.items())))
     if missing:
