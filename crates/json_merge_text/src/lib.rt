@@ -7,8 +7,6 @@
 
 mod fault;
 mod merging;
-#[cfg(test)]
-mod tests;
 mod texts;
 mod whole;
 

@@ -14,15 +14,11 @@
 mod bounds;
 mod fault;
 pub mod laws;
-#[cfg(test)]
-mod limit_tests;
 mod operation;
 mod patch;
 mod reading;
 mod run;
 mod step;
-#[cfg(test)]
-mod tests;
 
 pub use fault::{PatchTextFault, TextLimitFault};
 pub use patch::{patch_text, patch_text_within};

@@ -22,8 +22,6 @@ mod pieces;
 mod row;
 mod seams;
 mod shape;
-#[cfg(test)]
-mod tests;
 mod text;
 
 pub use pieces::Pieces;

@@ -14,12 +14,8 @@
 #![tactic(auto)]
 
 mod additions;
-#[cfg(test)]
-mod change_tests;
 mod changes;
 mod checked;
-#[cfg(test)]
-mod checked_tests;
 mod children;
 mod cuts;
 mod cutting;
@@ -29,8 +25,6 @@ pub mod laws;
 mod listing;
 mod parts;
 mod reading;
-#[cfg(test)]
-mod tests;
 
 pub use additions::add;
 pub use changes::{remove, replace};

@@ -1,7 +1,7 @@
 //! What limits let through, and where they stop a patch.
 
-use crate::patch_text_within;
 use json_patch_limits::limits::Limits;
+use json_patch_text::patch_text_within;
 use std::alloc::Global;
 use std::test::Fail;
 

@@ -1,6 +1,6 @@
 //! The examples of RFC 6902, appendix A, as texts in several layouts, and what is refused.
 
-use crate::{PatchTextFault, patch_text};
+use json_patch_text::{PatchTextFault, patch_text};
 use json_text::TextFault;
 use std::alloc::Global;
 use std::test::Fail;

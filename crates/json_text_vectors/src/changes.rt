@@ -1,6 +1,6 @@
 //! Texts with one place changed, in the layouts that files have.
 
-use crate::{ChangeFault, TextFault, add, remove, replace};
+use json_text::{ChangeFault, TextFault, add, remove, replace};
 use jsonptr::Pointer;
 use std::alloc::Global;
 use std::test::Fail;

@@ -1,6 +1,6 @@
 //! The table of RFC 7396, appendix A, texts in several layouts, and what is refused.
 
-use crate::{MergeTextFault, merge_text};
+use json_merge_text::{MergeTextFault, merge_text};
 use json_text::TextFault;
 use std::alloc::Global;
 use std::test::Fail;

@@ -1,6 +1,6 @@
 //! A checked text, read and changed.
 
-use crate::{CheckedText, TextFault};
+use json_text::{CheckedText, TextFault};
 use jsonptr::Pointer;
 use std::alloc::Global;
 use std::test::Fail;

@@ -5,7 +5,7 @@ ghost use Rattle.json.specs.Json.{Json};
 ghost use Rattle.json_lexemes.specs.Spelled.{IsShallowText};
 ghost use Rattle.json_pieces.specs.Whole.{ArePieces, text_of};
 
-use crate::Pieces;
+use json_pieces::Pieces;
 use json_text::{CheckedText, Shape, TextFault};
 use jsonptr::Pointer;
 use std::alloc::{AllocError, Global};

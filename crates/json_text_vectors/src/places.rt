@@ -6,7 +6,7 @@ ghost use Rattle.jsonptr.specs.Pointers.{tokens_of};
 ghost use Rattle.json_text.specs.Pointed.{IsWrittenAt};
 ghost use Rattle.json_lexemes.specs.Spelled.{Says};
 
-use crate::{
+use json_text::{
     ChangeFault, Shape, TextFault, add, child_texts, is_deeper, remove, replace, value_text,
 };
 use jsonptr::Pointer;
