@@ -2,7 +2,8 @@
 use Rattle.json_patch_apart.proofs.Common.{◌≡◌, ◌↔◌, ℕ, zero, suc, List, [], ◌∷◌, ◌++◌, take, drop, subst, sym, ap, ◌∙◌}
 use Rattle.json_patch_apart.proofs.Common.{Option, Bool, true, false, Pointer, IsPrefix, Operation, PatchOperation}
 use Rattle.json_patch_apart.proofs.Common.{operation_of, operations}
-use Rattle.std.proofs.Common.{◌+◌, ◌<◌, ◌≤◌, get_or, length}
+use Rattle.std.proofs.Common.{◌+◌, ◌<◌, ◌≤◌, get_or, length, refl}
+use lib.ListN.{replicate}
 use Rattle.std.proofs.lemmas.List.{drop_all, drop_more}
 use Rattle.std.specs.List.{AllByRecursion}
 use Rattle.json_patch_apart.specs.Apart.{AllDiverge, AreApart, Diverge, DivergesFrom, IsApart, IsApartFrom, changed_by}
@@ -31,6 +32,19 @@ diverges f P Q free none has = (
   λ i. (let free : get_or f.whole (slot_from 0 Q) false ≡ false = begins false f.whole Q P i free in let taken = has.whole in cc),
   λ i. (let taken : get_or f.begun (slot_from 0 P) false ≡ true = begins true f.begun P Q i has.begun in cc),
 )
+
+-- ---- slots of which none is taken
+
+none_taken : (n i : ℕ) → get_or (replicate n false) i false ≡ false
+none_taken zero i = refl
+none_taken (suc n) zero = refl
+none_taken (suc n) (suc i) = none_taken n i
+
+pub holds_none : (n : ℕ) (f : Filter) → f.whole ≡ replicate n false → (P : Pointer) → Has f P → ⊥
+holds_none n f is P has =
+    let none : get_or f.whole (slot_from 0 P) false ≡ false = ap (λ l. get_or l (slot_from 0 P) false) is ∙ none_taken n (slot_from 0 P) in
+    let taken = has.whole in
+    cc
 
 -- ---- slots that stay taken
 

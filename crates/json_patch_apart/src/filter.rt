@@ -22,7 +22,10 @@ pub struct Filter {
 }
 
 impl Filter {
-    pub fn new() -> Filter {
+    /// One that has no pointer.
+    pub fn new() -> Filter
+        ensures { (P : text.Pointer) → Has result P → ⊥ }
+    {
         Filter {
             begun: [false; SLOTS],
             whole: [false; SLOTS],

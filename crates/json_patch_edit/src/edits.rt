@@ -1,6 +1,6 @@
 //! One edit of a document with marks, where a pointer leads.
 
-ghost use Rattle.std.specs.Prelude.{◌≡◌, ◌↔◌, ◌≤◌, ℕ, List, IfOk, OnOk, IsOk, IsTrue, Some, string_bytes};
+ghost use Rattle.std.specs.Prelude.{◌≡◌, ◌↔◌, ◌≤◌, ℕ, List, [], IfOk, OnOk, IsOk, IsTrue, Some, string_bytes};
 ghost use Rattle.serde_json.specs.Data.{Data, array, object};
 ghost use Rattle.serde_json.specs.View.{view, items_view, members_view};
 ghost use Rattle.jsonptr.specs.Pointers.{token_of, tokens_left, tokens_of};
@@ -63,7 +63,10 @@ pub struct Names {
 }
 
 impl Names {
-    pub fn new(alloc: Global) -> Names {
+    /// One with no name decoded, and no room.
+    pub fn new(alloc: Global) -> Names
+        ensures { string_bytes result.text ≡ [] }
+    {
         Names {
             alloc,
             text: String::new(alloc),
