@@ -7,4 +7,5 @@ pub mod Tokens
 pub mod Along
 pub mod Readable
 pub mod Replacing
+pub mod Said
 pub mod Rows

@@ -25,6 +25,7 @@ pub mod laws;
 mod listing;
 mod parts;
 mod reading;
+mod strings;
 
 pub use additions::add;
 pub use changes::{remove, replace};
@@ -34,3 +35,4 @@ pub use fault::{ChangeFault, TextFault};
 pub use growing::quoted;
 pub use listing::{Shape, child_texts};
 pub use reading::{is_deeper, value_text};
+pub use strings::string_of;

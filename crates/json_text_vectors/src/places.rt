@@ -7,7 +7,8 @@ ghost use Rattle.json_text.specs.Pointed.{IsWrittenAt};
 ghost use Rattle.json_lexemes.specs.Spelled.{Says};
 
 use json_text::{
-    ChangeFault, Shape, TextFault, add, child_texts, is_deeper, remove, replace, value_text,
+    ChangeFault, Shape, TextFault, add, child_texts, is_deeper, remove, replace, string_of,
+    value_text,
 };
 use jsonptr::Pointer;
 use std::alloc::Global;
@@ -213,4 +214,47 @@ fn shapes(rt: HostRuntime) {
     assert!(rt;
         matches!(Shape::of("-1"), Shape::Atom) && matches!(Shape::of("null "), Shape::Atom)
     );
+}
+
+/// Whether the text says this string, or, of `None`, another value.
+fn says(alloc: Global, text: &str, wanted: Option<&str>) -> bool {
+    match string_of(alloc, text) {
+        Ok(Some(said)) => Some(said.as_str()) == wanted,
+        Ok(None) => wanted.is_none(),
+        Err(_) => false,
+    }
+}
+
+fn example_name(alloc: Global) -> Result<Option<String>, Fail> {
+    let name = string_of(alloc, r#""caf\u00e9""#)?;
+    Ok(name)
+}
+
+#[test]
+fn strings(rt: HostRuntime) -> Result<(), Fail> {
+    let a = rt.alloc();
+    for (text, said) in [
+        (r#""""#, ""),
+        (r#""a b/c""#, "a b/c"),
+        (r#""é😀""#, "é😀"),
+        (r#""\"""#, "\""),
+        (r#""a\"b""#, "a\"b"),
+        (r#""\\""#, "\\"),
+        (r#""\\\"""#, "\\\""),
+        (r#""\/\b\f\n\r\t""#, "/\u{8}\u{c}\n\r\t"),
+        (r#""\u0041\u00e9\u20AC""#, "Aé€"),
+        (r#""\ud83d\uDE00!""#, "😀!"),
+        (r#""\u005c\u0022""#, "\\\""),
+        (r#""\u0000""#, "\0"),
+        ("\n \"a\"\t", "a"),
+        (" \"\\u0061\"\r\n", "a"),
+    ] {
+        assert!(rt; says(a, text, Some(said)), "{text}");
+    }
+    for text in ["1", " null ", r#"["a"]"#, r#"{"a": "b"}"#] {
+        assert!(rt; says(a, text, None), "{text}");
+    }
+    let name = example_name(a)?.ok_or("no string")?;
+    assert_eq!(rt; name.as_str(), "café");
+    Ok(())
 }
