@@ -1,6 +1,7 @@
 pub mod Levels
 pub mod Lists
 pub mod Naming
+pub mod Marks
 pub mod Places
 pub mod Openings
 pub mod Rows

@@ -42,10 +42,10 @@ suits_count b (s ∷ ss) (v ∷ vs) (c ∷ cs) h k = ap suc (suits_count b ss vs
 -- ---- the last of a name, looked for from the end
 
 -- the last one has this name
-bytes_same : (k l : List ℕ) → k ≡ l → bytes_eq k l ≡ true
+pub bytes_same : (k l : List ℕ) → k ≡ l → bytes_eq k l ≡ true
 bytes_same k l e = (bytes_eq-Decides k l).1 e
 
-bytes_differ : (k l : List ℕ) → (k ≡ l → ⊥) → bytes_eq k l ≡ false
+pub bytes_differ : (k l : List ℕ) → (k ≡ l → ⊥) → bytes_eq k l ≡ false
 bytes_differ k l n = by_test (bytes_eq k l) refl
   where
     by_test : (t : Bool) → bytes_eq k l ≡ t → t ≡ false

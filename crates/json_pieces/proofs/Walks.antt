@@ -1,6 +1,7 @@
 -- The walk to the place of an edit, and the edit there.
-use Rattle.std.proofs.Common.{◌≡◌, inl, inr, ℕ, zero, suc, ◌+◌, ◌<◌, ◌≤◌, Bool, true, false, List, [], ◌∷◌, length, get_or, map, Option, Some, None, option_and_then, refl, sym, ap, ◌∙◌, subst, arith, append-nil}
-use Rattle.std.specs.Prelude.{IfOk, IsSome, Result, String, slice_set}
+use Rattle.std.proofs.Common.{◌≡◌, inl, inr, ℕ, zero, suc, ◌+◌, ◌<◌, ◌≤◌, Bool, true, false, List, [], ◌∷◌, length, get_or, map, Option, Some, None, option_and_then, refl, sym, ap, ◌∙◌, subst, arith, append-nil, Box}
+use Rattle.std.specs.Box.{with_value as boxed_with}
+use Rattle.std.specs.Prelude.{IfOk, IsSome, OnOk, Result, Ok, Err, String, slice_set}
 use Rattle.std.specs.declared.alloc.AllocError.{AllocError}
 use Rattle.std.proofs.lemmas.Result.{IfOk-weaker}
 use Rattle.std.specs.Borrow.{Bor}
@@ -36,21 +37,29 @@ use Rattle.json_pieces.proofs.Rows.Says.{row_is}
 pub row_whole : (r : Row) → IsSound (row_view r) → IsWhole (row_view r)
 row_whole r h = (h, (tree_in r.named h.0.cs, row_is r.named (text_bytes r.hollow) h.0.cs _ h.0.suit h.0.blank))
 
-pub open_whole : (node : Node) (r : Row) → node ≡ Open r → IsSound (row_view r) → IsWhole (view node)
-open_whole node r e h = subst IsWhole (sym (ap view e ∙ view_open r)) (row_whole r h)
+pub open_whole : (node : Node) (b : Box Row Global) → node ≡ Open b → IsSound (row_view b.value) → IsWhole (view node)
+open_whole node b e h = subst IsWhole (sym (ap view e ∙ view_open b)) (row_whole b.value h)
 
-pub open_sound : (node : Node) (r : Row) → node ≡ Open r → IsWhole (view node) → IsSound (row_view r)
-open_sound node r e h = (subst IsWhole (ap view e ∙ view_open r) h).0
+pub open_sound : (node : Node) (b : Box Row Global) → node ≡ Open b → IsWhole (view node) → IsSound (row_view b.value)
+open_sound node b e h = (subst IsWhole (ap view e ∙ view_open b) h).0
+
+-- what is known of the value stays known where its row is seen as before
+pub row_stays : {E : Type 0} (c : Result Unit E) (P : Tree → Type 0) (old new : Node) (b : Box Row Global) (r : Row) → old ≡ Open b → new ≡ Open (boxed_with b r) → row_view r ≡ row_view b.value → P (view old) → OnOk c (P (view new))
+row_stays (Err e) P old new b r is left same h = tt
+row_stays (Ok x) P old new b r is left same h = subst P (ap view is ∙ view_open b ∙ sym same ∙ sym (ap view left ∙ view_open (boxed_with b r))) h
+
+pub open_opened : (node : Node) (b : Box Row Global) → node ≡ Open b → IsOpened (view node)
+open_opened node b e = subst IsOpened (sym (ap view e ∙ view_open b)) tt
 
 -- what is made of the row, M, is made of the value
-pub row_made : (M : List ℕ → Json → List ℕ → Type 0) (old opened new : Node) (copy r s : Row) → tree_text (view opened) ≡ tree_text (view old) → copy ≡ r → opened ≡ Open r → new ≡ Open s
-    → ((j : Json) → Says (tree_text (row_view copy)) j → M (tree_text (row_view copy)) j (tree_text (row_view s))) → (j : Json) → Says (tree_text (view old)) j → M (tree_text (view old)) j (tree_text (view new))
+pub row_made : (M : List ℕ → Json → List ℕ → Type 0) (old opened new : Node) (copy : Row) (r s : Box Row Global) → tree_text (view opened) ≡ tree_text (view old) → copy ≡ r.value → opened ≡ Open r → new ≡ Open s
+    → ((j : Json) → Says (tree_text (row_view copy)) j → M (tree_text (row_view copy)) j (tree_text (row_view s.value))) → (j : Json) → Says (tree_text (view old)) j → M (tree_text (view old)) j (tree_text (view new))
 row_made M old opened new copy r s same copied is left given j says =
-    let made : (j : Json) → Says (tree_text (row_view r)) j → M (tree_text (row_view r)) j (tree_text (row_view s)) =
-    subst (λ x. (j : Json) → Says (tree_text (row_view x)) j → M (tree_text (row_view x)) j (tree_text (row_view s))) copied given in
-    let text : tree_text (row_view r) ≡ tree_text (view old) = ap tree_text (sym (ap view is ∙ view_open r)) ∙ same in
-    let after : tree_text (row_view s) ≡ tree_text (view new) = ap tree_text (sym (ap view left ∙ view_open s)) in
-    subst (λ x. M (tree_text (view old)) j x) after (subst (λ x. M x j (tree_text (row_view s))) text (made j (subst (λ x. Says x j) (sym text) says)))
+    let made : (j : Json) → Says (tree_text (row_view r.value)) j → M (tree_text (row_view r.value)) j (tree_text (row_view s.value)) =
+    subst (λ x. (j : Json) → Says (tree_text (row_view x)) j → M (tree_text (row_view x)) j (tree_text (row_view s.value))) copied given in
+    let text : tree_text (row_view r.value) ≡ tree_text (view old) = ap tree_text (sym (ap view is ∙ view_open r)) ∙ same in
+    let after : tree_text (row_view s.value) ≡ tree_text (view new) = ap tree_text (sym (ap view left ∙ view_open s)) in
+    subst (λ x. M (tree_text (view old)) j x) after (subst (λ x. M x j (tree_text (row_view s.value))) text (made j (subst (λ x. Says x j) (sym text) says)))
 
 -- ---- where nothing can be made
 
@@ -190,7 +199,7 @@ none_made e t k P r h is none j says =
     none_there r.named (text_bytes r.hollow) t h.0.cs (pieces_in r.seams.list.items r.values.items) e P h.0.suit h.0.blank (subst (λ y. child y (tree_in r.named h.0.cs) ≡ None) is (none h.0.cs h.0.suit)) j says
 
 -- the same of what a call answers, by the tokens that it was given
-pub row_made_at : {X : Type 0} (c : Result X AllocError) (M : Pointer → X → List ℕ → Json → List ℕ → Type 0) (old opened new : Node) (copy r s : Row) (P Q : Pointer) → Q ≡ P → tree_text (view opened) ≡ tree_text (view old) → copy ≡ r → opened ≡ Open r → new ≡ Open s
-    → IfOk c (λ found. (j : Json) → Says (tree_text (row_view copy)) j → M P found (tree_text (row_view copy)) j (tree_text (row_view s))) → IfOk c (λ found. (j : Json) → Says (tree_text (view old)) j → M Q found (tree_text (view old)) j (tree_text (view new)))
+pub row_made_at : {X : Type 0} (c : Result X AllocError) (M : Pointer → X → List ℕ → Json → List ℕ → Type 0) (old opened new : Node) (copy : Row) (r s : Box Row Global) (P Q : Pointer) → Q ≡ P → tree_text (view opened) ≡ tree_text (view old) → copy ≡ r.value → opened ≡ Open r → new ≡ Open s
+    → IfOk c (λ found. (j : Json) → Says (tree_text (row_view copy)) j → M P found (tree_text (row_view copy)) j (tree_text (row_view s.value))) → IfOk c (λ found. (j : Json) → Says (tree_text (view old)) j → M Q found (tree_text (view old)) j (tree_text (view new)))
 row_made_at c M old opened new copy r s P Q tokens same copied is left given =
     IfOk-weaker c _ _ (λ found made j says. subst (λ T. M T found (tree_text (view old)) j (tree_text (view new))) (sym tokens) (row_made (M P found) old opened new copy r s same copied is left made j says)) given

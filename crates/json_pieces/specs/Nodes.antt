@@ -37,7 +37,7 @@ parts_of (s ∷ ss) (t ∷ ts) = part s t (parts_of ss ts)
 
 abbrev pub view_step : Node-F Tree Tree → Tree
 view_step (Node-F.Closed s) = shut (text_bytes s)
-view_step (Node-F.Open r) = r
+view_step (Node-F.Open b) = b.value
 
 abbrev pub row_step : Row-F Tree Tree → Tree
 row_step r = wide r.named r.length (text_bytes r.hollow) (parts_of r.seams.list.items r.values.items)

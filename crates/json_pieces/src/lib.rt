@@ -16,6 +16,7 @@
 #![tactic(auto)]
 
 mod edit;
+mod index;
 mod node;
 mod opening;
 mod pieces;

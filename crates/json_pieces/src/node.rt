@@ -15,7 +15,8 @@ use std::alloc::{AllocError, Global};
 pub(crate) enum Node<'a> {
     /// By its text, with no blank at its front or end.
     Closed(Text<'a>),
-    Open(Row<'a>),
+    /// In a box, so that a removal moves few bytes for each value behind it.
+    Open(Box<Row<'a>>),
 }
 
 /// An object or a list.

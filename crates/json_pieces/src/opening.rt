@@ -148,7 +148,7 @@ pub(crate) fn open(alloc: Global, node: &mut Node<'_>) -> Result<(), AllocError>
         return ask(alloc, row);
     }
     if let Some(row) = row_for(alloc, node)? {
-        *node = Node::Open(row);
+        *node = Node::Open(Box::new(alloc, row)?);
     }
     Ok(())
 }

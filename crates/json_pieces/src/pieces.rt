@@ -14,9 +14,9 @@ use std::alloc::{AllocError, Global};
 /// list that it comes to: one pass over its text, after which it stays open. In an open list an item is
 /// found at once, in an open object a member by comparing names. Once an object of at least 32 members
 /// has been asked for 16, it gets an index of its names, and a member is found in as many steps as the
-/// logarithm of their number. The index learns the names that are added; a removal drops it, until 16
-/// more are asked for. An open one takes some 170 bytes of memory for each member or item, and an index
-/// some 80 for each name, with the name once more.
+/// logarithm of their number. The index is kept while members are added and removed. An open one takes
+/// some 170 bytes of memory for each member or item, and an index, by reckoning, some 110 for each name,
+/// with the name once more.
 ///
 /// A call that runs out of memory leaves pieces of which nothing is known: let them go. `replace` and
 /// `add` may leave a text that nests deeper than 128 levels, and the next call asks for one that

@@ -75,7 +75,7 @@ impl<'a> Seam<'a> {
 }
 
 /// Takes out one that is not the last: its blanks stay, before the next one.
-fn take_before(row: &mut Row<'_>, number: usize)
+fn take_before(row: &mut Row<'_>, number: usize, name: &str)
     requires sound { IsSound (row_view row.old) }
     requires within { number + 1 < vec_len row.old.values }
     ensures named { row.new.named ≡ row.old.named }
@@ -85,7 +85,7 @@ fn take_before(row: &mut Row<'_>, number: usize)
     ensures sound { IsSound (row_view row.new) }
 {
     let length = row.length;
-    let mut seam = row.seams.remove(number);
+    let mut seam = row.seams.remove(number, name);
     let value = row.values.remove(number);
     let seams = &mut row.seams;
     mem::swap(&mut seams.list[number].blank, &mut seam.blank);
@@ -93,7 +93,7 @@ fn take_before(row: &mut Row<'_>, number: usize)
 }
 
 /// Takes out the last of several: the blanks behind it stay, behind the one before.
-fn take_last(row: &mut Row<'_>, number: usize)
+fn take_last(row: &mut Row<'_>, number: usize, name: &str)
     requires sound { IsSound (row_view row.old) }
     requires first { 0 < number }
     requires last { number + 1 ≡ vec_len row.old.values }
@@ -104,7 +104,7 @@ fn take_last(row: &mut Row<'_>, number: usize)
     ensures sound { IsSound (row_view row.new) }
 {
     let length = row.length;
-    let mut seam = row.seams.remove(number);
+    let mut seam = row.seams.remove(number, name);
     let value = row.values.remove(number);
     let seams = &mut row.seams;
     mem::swap(&mut seams.list[number - 1].trail, &mut seam.trail);
@@ -112,7 +112,7 @@ fn take_last(row: &mut Row<'_>, number: usize)
 }
 
 /// Takes out the only one.
-fn take_alone(row: &mut Row<'_>)
+fn take_alone(row: &mut Row<'_>, name: &str)
     requires sound { IsSound (row_view row.old) }
     requires alone { vec_len row.old.values ≡ 1 }
     ensures named { row.new.named ≡ row.old.named }
@@ -121,15 +121,15 @@ fn take_alone(row: &mut Row<'_>)
     ensures some { taken 0 (row_pieces row.old) ≡ [] → text_bytes row.new.hollow ≡ [] }
     ensures sound { IsSound (row_view row.new) }
 {
-    row.seams.remove(0);
+    row.seams.remove(0, name);
     row.values.remove(0);
     row.hollow = Text::Kept("");
     row.length = 2;
 }
 
-/// Takes out the member or item of this number. Its blanks stay before the next one; of the last one
-/// the blanks behind it stay, behind the one before.
-fn take_part(row: &mut Row<'_>, number: usize)
+/// Takes out the member or item of this number, the last of this name. Its blanks stay before the next
+/// one; of the last one the blanks behind it stay, behind the one before.
+fn take_part(row: &mut Row<'_>, number: usize, name: &str)
     requires sound { IsSound (row_view row.old) }
     requires within { number < vec_len row.old.values }
     ensures named { row.new.named ≡ row.old.named }
@@ -139,11 +139,11 @@ fn take_part(row: &mut Row<'_>, number: usize)
     ensures sound { IsSound (row_view row.new) }
 {
     if number + 1 < row.values.len() {
-        take_before(row, number);
+        take_before(row, number, name);
     } else if number > 0 {
-        take_last(row, number);
+        take_last(row, number, name);
     } else {
-        take_alone(row);
+        take_alone(row, name);
     }
 }
 
@@ -157,12 +157,12 @@ pub(crate) fn take(row: &mut Row<'_>, name: &str) -> bool
     let Some(number) = number_of(row, name) else {
         return false;
     };
-    take_part(row, number);
+    take_part(row, number, name);
     if !row.named {
         return true;
     }
     while let Some(number) = number_of(row, name) {
-        take_part(row, number);
+        take_part(row, number, name);
     }
     true
 }

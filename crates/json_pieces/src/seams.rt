@@ -1,21 +1,18 @@
 //! The seams of a row, and where each name stands among them, once that has been asked often.
 
-ghost use Rattle.std.specs.Prelude.{◌≡◌, ◌+◌, ◌<◌, ◌≤◌, List, ℕ, None, Some, cond, length, vec_len, IfOk, OnOk, slice_index_or, IfSome};
+ghost use Rattle.std.specs.Prelude.{◌≡◌, ◌+◌, ◌<◌, ◌≤◌, ◌∷◌, ◌++◌, [], List, ℕ, length, vec_len, IfOk, OnOk, slice_index_or, IfSome};
 ghost use Rattle.std.specs.String.{string_bytes};
-ghost use Rattle.std.specs.BTreeMap.{get_by_text};
 ghost use Rattle.std.specs.List.{insert, remove};
-ghost use Rattle.std.specs.Str.{bytes_eq};
 ghost use Rattle.json.specs.Json.{string};
-ghost use Rattle.json_pieces.specs.Names.{Agrees, Agrees-prop, AreNames};
+ghost use Rattle.json_pieces.specs.Names.{Agrees, Agrees-prop, AreNames, IsIndexOf};
 ghost use Rattle.json_pieces.specs.declared.seams.Seam.{Seam};
 ghost use Rattle.json_text.specs.Listing.{IsTextOf};
 ghost use Rattle.json_text.specs.Rows.{Child, last_named};
 
+use crate::index::NameIndex;
 use crate::text::Text;
-use json::Scratch;
-use json_text::{is_name_text, laws};
+use json_text::{is_name_text, string_of};
 use std::alloc::{AllocError, Global};
-use std::collections::BTreeMap;
 use std::mem;
 
 /// So many members are looked for by comparing names before an index is built.
@@ -42,9 +39,8 @@ pub(crate) struct Seam<'a> {
 pub(crate) struct Seams<'a> {
     pub list: Vec<Seam<'a>>,
     asked: usize,
-    /// The number of the last seam of each name.
-    places: Option<BTreeMap<String, usize>>,
-    ghost agrees: { Agrees list.items places } by { Agrees-prop list.items places },
+    index: Option<NameIndex>,
+    ghost agrees: { Agrees list.items index } by { Agrees-prop list.items index },
 }
 
 /// The number of the last seam of this name, found by comparing names.
@@ -62,96 +58,73 @@ fn scanned(seams: &[Seam<'_>], name: &str) -> Option<usize>
     None
 }
 
-/// The name that stands between the quotes of this text, if it has no escape in it.
-fn plain(text: &str) -> Option<&str>
-    ensures { IfSome result (λ name. (l : List ℕ) → IsTextOf text.now (string l) → l ≡ name.now) }
-{
-    let name = text.strip_prefix('"')?.strip_suffix('"')?;
-    if is_name_text(text, name) {
-        Some(name)
-    } else {
-        None
-    }
-}
-
 /// The name that this text says.
-// Not inlined: each level of an edit would else hold the reader's room.
-#[inline(never)]
-fn read(alloc: Global, text: &str) -> Result<String, AllocError>
+fn name_in(alloc: Global, text: &str) -> Result<String, AllocError>
     ensures { IfOk result (λ name. (l : List ℕ) → IsTextOf text.now (string l) → l ≡ string_bytes name) }
 {
-    laws::texts();
-    let mut scratch = Scratch::new(alloc);
-    let Ok(value) = json::Value::parse(alloc, text, &mut scratch) else {
-        return Err(AllocError);
-    };
-    let Some(name) = value.as_str() else {
-        return Err(AllocError);
-    };
-    String::from_str(alloc, name)
-}
-
-/// The same, read only where there is an escape.
-fn decoded(alloc: Global, text: &str) -> Result<String, AllocError>
-    ensures { IfOk result (λ name. (l : List ℕ) → IsTextOf text.now (string l) → l ≡ string_bytes name) }
-{
-    match plain(text) {
-        Some(name) => String::from_str(alloc, name),
-        None => read(alloc, text),
+    match string_of(alloc, text)? {
+        Some(name) => Ok(name),
+        None => Err(AllocError),
     }
 }
 
-/// Notes that the last seam of the name that this text says has this number.
-fn learn(
-    alloc: Global,
-    places: &mut BTreeMap<String, usize>,
-    text: &str,
-    number: usize,
-) -> Result<(), AllocError>
-    ensures { OnOk result ((l : List ℕ) → IsTextOf text.now (string l) → (k : List ℕ)
-        → get_by_text places.new k ≡ cond (bytes_eq l k) (Some number) (get_by_text places.old k)) }
+/// Learns the name of a seam that comes behind the last.
+fn learn(alloc: Global, index: &mut NameIndex, seam: &Seam<'_>) -> Result<(), AllocError>
+    ensures { OnOk result ((ss : List Seam) → IsIndexOf ss index.old
+        → IsIndexOf (ss ++ seam.now ∷ []) index.new) }
 {
-    let name = decoded(alloc, text)?;
-    let Ok(_) = places.insert(name, number) else {
-        return Err(AllocError);
-    };
-    Ok(())
+    let name = name_in(alloc, seam.name.as_str())?;
+    index.learn(name)
 }
 
-/// The number of the last seam of each name.
-// Not inlined, as `read`.
+/// The index of these seams.
+// Not inlined: each level of an edit would else hold its room.
 #[inline(never)]
-fn indexed(alloc: Global, seams: &[Seam<'_>]) -> Result<BTreeMap<String, usize>, AllocError>
-    ensures { IfOk result (λ places. Agrees seams.now (Some places)) }
+fn indexed(alloc: Global, seams: &[Seam<'_>]) -> Result<NameIndex, AllocError>
+    ensures { IfOk result (λ index. IsIndexOf seams.now index) }
 {
-    let mut places = BTreeMap::new(alloc);
+    let mut index = NameIndex::new(alloc);
     for i in 0..seams.len() {
-        learn(alloc, &mut places, seams[i].name.as_str(), i)?;
+        learn(alloc, &mut index, &seams[i])?;
     }
-    Ok(places)
+    Ok(index)
 }
 
 /// The index, if there is one, once this seam is put in before that of this number. Behind the last it
 /// learns its name; before another, where only items are put in, it is dropped.
-fn places_with(
+fn index_with(
     alloc: Global,
-    places: Option<BTreeMap<String, usize>>,
+    index: Option<NameIndex>,
     count: usize,
     seam: &Seam<'_>,
     number: usize,
-) -> Result<Option<BTreeMap<String, usize>>, AllocError>
+) -> Result<Option<NameIndex>, AllocError>
     ensures { IfOk result (λ new. (ss : List Seam) → length ss ≡ count → number ≤ count
-        → Agrees ss places → Agrees (insert ss number seam.now) new) }
+        → Agrees ss index → Agrees (insert ss number seam.now) new) }
 {
     if number < count {
         return Ok(None);
     }
-    match places {
-        Some(mut places) => {
-            learn(alloc, &mut places, seam.name.as_str(), number)?;
-            Ok(Some(places))
+    match index {
+        Some(mut index) => {
+            learn(alloc, &mut index, seam)?;
+            Ok(Some(index))
         }
         None => Ok(None),
+    }
+}
+
+/// The index, if there is one, once the last seam of this name, which has this number, is taken out. Of
+/// another seam it is dropped.
+fn index_without(index: Option<NameIndex>, name: &str, number: usize) -> Option<NameIndex>
+    requires { IfSome index (λ x. number < vec_len x.marks) }
+    ensures { (ss : List Seam) → Agrees ss index → Agrees (remove ss number) result }
+{
+    let mut index = index?;
+    if index.forget(name, number) {
+        Some(index)
+    } else {
+        None
     }
 }
 
@@ -163,7 +136,7 @@ impl<'a> Seams<'a> {
         Seams {
             list,
             asked: 0,
-            places: None,
+            index: None,
         }
     }
 
@@ -171,8 +144,8 @@ impl<'a> Seams<'a> {
     pub(crate) fn last_named(&self, name: &str) -> Option<usize>
         ensures { (cs : List Child) → AreNames self.now.list.items cs → result ≡ last_named name.now cs }
     {
-        match &self.places {
-            Some(places) => places.get(name).copied(),
+        match &self.index {
+            Some(index) => index.last_named(name),
             None => scanned(self.list.as_slice(), name),
         }
     }
@@ -181,14 +154,14 @@ impl<'a> Seams<'a> {
     pub(crate) fn ask(&mut self, alloc: Global) -> Result<(), AllocError>
         ensures { self.new.list ≡ self.old.list }
     {
-        if self.places.is_some() || self.list.len() < MANY {
+        if self.index.is_some() || self.list.len() < MANY {
             return Ok(());
         }
         if self.asked < QUESTIONS {
             self.asked += 1;
             return Ok(());
         }
-        self.places = Some(indexed(alloc, self.list.as_slice())?);
+        self.index = Some(indexed(alloc, self.list.as_slice())?);
         Ok(())
     }
 
@@ -198,25 +171,25 @@ impl<'a> Seams<'a> {
         ensures { OnOk result (self.new.list.items ≡ insert self.old.list.items number seam.entry) }
     {
         let alloc = *self.list.allocator();
-        let places = mem::replace(&mut self.places, None);
-        let places = places_with(alloc, places, self.list.len(), &seam, number)?;
+        let index = mem::replace(&mut self.index, None);
+        let index = index_with(alloc, index, self.list.len(), &seam, number)?;
         match self.list.insert(number, seam) {
             Ok(_) => {}
             Err(_) => return Err(AllocError),
         }
-        self.places = places;
+        self.index = index;
         Ok(())
     }
 
-    /// Takes out the seam of this number.
-    pub(crate) fn remove(&mut self, number: usize) -> Seam<'a>
+    /// Takes out the seam of this number, the last of this name, or an item's.
+    pub(crate) fn remove(&mut self, number: usize, name: &str) -> Seam<'a>
         requires { number < vec_len self.old.list }
         ensures value { result ≡ slice_index_or self.old.list.items number result }
         ensures items { self.new.list.items ≡ remove self.old.list.items number }
         ensures len { vec_len self.new.list + 1 ≡ vec_len self.old.list }
     {
-        self.places = None;
-        self.asked = 0;
+        let index = mem::replace(&mut self.index, None);
+        self.index = index_without(index, name, number);
         self.list.remove(number)
     }
 }

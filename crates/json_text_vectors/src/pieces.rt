@@ -103,7 +103,7 @@ const OBJECT_CHANGES: [&str; 30] = [
     "- /x 3",
 ];
 
-/// The changes that an object of many members is put through: between removals its names are indexed.
+/// The changes that an object of many members is put through, so that its names are indexed.
 const WIDE_CHANGES: [&str; 24] = [
     "= /m3 \"x\"",
     "+ /new 1",
@@ -345,6 +345,107 @@ fn grow(rt: &impl Abort, a: Global) -> Result<(), Fail> {
 #[test]
 fn grown_objects(rt: HostRuntime) -> Result<(), Fail> {
     grow(&rt, rt.alloc())
+}
+
+/// A member whose name has this number.
+#[derive(Clone, Copy)]
+struct Member {
+    name: usize,
+    value: usize,
+}
+
+/// The text of an object of these members.
+fn listed(a: Global, members: &[Member]) -> Result<String, AllocError> {
+    let mut text = String::from_str(a, "{")?;
+    let mut comma = "";
+    for member in members {
+        let part = format!(in a; "{comma}\"k{}\":{}", member.name, member.value)?;
+        text.push_str(part.as_str())?;
+        comma = ",";
+    }
+    text.push_str("}")?;
+    Ok(text)
+}
+
+/// What the change leaves of some members: it takes all of a name, or gives the last its value.
+fn leave(members: &mut Vec<Member>, change: &str, wanted: Member) -> Result<(), AllocError> {
+    if change == "-" {
+        members.retain(|member| member.name != wanted.name);
+        return Ok(());
+    }
+    for member in members.iter_mut().rev() {
+        if member.name == wanted.name {
+            member.value = wanted.value;
+            return Ok(());
+        }
+    }
+    if change == "+" {
+        members.push(wanted)?;
+    }
+    Ok(())
+}
+
+/// Makes the change of the pieces.
+fn change_member(a: Global, pieces: &mut Pieces, change: &str, wanted: Member) -> Result<(), Fail>
+    requires pieces { ArePieces pieces.old }
+    requires shallow { (j : Json) × IsShallowText (text_of pieces.old) j }
+    ensures { OnOk result (ArePieces pieces.new) }
+{
+    let place = format!(in a; "/k{}", wanted.name)?;
+    let pointer = Pointer::parse(place.as_str()).map_err(|_| "no pointer")?;
+    let text = format!(in a; "{}", wanted.value)?;
+    let value = CheckedText::new(a, text.as_str()).map_err(|_| "no value")?;
+    change_pieces(a, pieces, change, pointer, value)?;
+    Ok(())
+}
+
+/// Members of which some have one name.
+fn doubled(a: Global) -> Result<Vec<Member>, AllocError> {
+    let mut members = Vec::new(a);
+    for i in 0..80 {
+        members.push(Member {
+            name: i % 60,
+            value: i,
+        })?;
+    }
+    Ok(members)
+}
+
+/// The changes that follow one another once many members are removed.
+const LATER: [&str; 4] = ["+", "=", "-", "+"];
+
+/// Members are replaced until their names are indexed, then many are removed, and then all is done by
+/// turns.
+fn churn(rt: &impl Abort, a: Global) -> Result<(), Fail> {
+    let mut members = doubled(a)?;
+    let first = listed(a, members.as_slice())?;
+    let Ok(checked) = CheckedText::new(a, first.as_str()) else {
+        return Err(Fail::from("no text"));
+    };
+    let mut pieces = Pieces::new(checked);
+    for i in 0..180 {
+        let change = if i < 20 {
+            "="
+        } else if i < 60 {
+            "-"
+        } else {
+            LATER[i % 4]
+        };
+        let wanted = Member {
+            name: i * 37 % 60,
+            value: 100 + i,
+        };
+        change_member(a, &mut pieces, change, wanted)?;
+        leave(&mut members, change, wanted)?;
+        let text = listed(a, members.as_slice())?;
+        makes(rt, a, &pieces, text.as_str(), change)?;
+    }
+    Ok(())
+}
+
+#[test]
+fn removed_and_added(rt: HostRuntime) -> Result<(), Fail> {
+    churn(&rt, rt.alloc())
 }
 
 // ---- the examples of the comments

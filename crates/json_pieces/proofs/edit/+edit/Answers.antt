@@ -1,5 +1,6 @@
 use Rattle.std.proofs.Common.{None, ◌∷◌, ◌≡◌, ◌<◌, length, sym, ap, ◌∙◌, subst, arith, rules}
 use Rattle.std.proofs.lemmas.Result.{on_ok_weaker}
+use Rattle.std.specs.Box.{with_value}
 use Rattle.std.specs.Prelude.{IfOk}
 use Rattle.json.specs.Json.{Json}
 use Rattle.json_lexemes.specs.Spelled.{Says}
@@ -47,7 +48,7 @@ edit_at-returns-in_default-clause-makes t c =
     subst (λ P. IfOk c.apply.result (λ found. (j : Json) → Says (tree_text (view c.args.node.now)) j → Makes c.args.edit (tree_text (view c.args.node.now)) j P (tree_text (view c.apply.new.node)) found)) (sym c.in_default.ensures.steps.0) c.apply.ensures.makes
 
 pub edit_at-edit_in-requires : goal.edit_at-edit_in-requires
-edit_at-edit_in-requires t c = (omega (arith, c.decreases, ap length c.in-Some.ensures.steps), (subst (λ r. IsSound (row_view r)) (sym c.in-Open.row-is) (open_sound c.open.new.node c.in-Open.row c.in-Open.is c.in_ok-open.ensures.whole), c.requires.ready))
+edit_at-edit_in-requires t c = (omega (arith, c.decreases, ap length c.in-Some.ensures.steps), (subst (λ r. IsSound (row_view r)) (sym (c.deref_mut.ensures.value ∙ ap (λ b. b.value) c.in-Open.row-is)) (open_sound c.open.new.node c.in-Open.row c.in-Open.is c.in_ok-open.ensures.whole), c.requires.ready))
 
 pub edit_at-returns-in-Closed-clause-makes : goal.edit_at-returns-in-Closed-clause-makes
 edit_at-returns-in-Closed-clause-makes t c = λ j says.
@@ -55,8 +56,8 @@ edit_at-returns-in-Closed-clause-makes t c = λ j says.
     (nowhere c.args.edit c.args.node.now c.open.new.node c.in-Closed.field-0 _ _ c.in_ok-open.ensures.text c.in-Closed.is c.in_ok-open.ensures.opened j says)
 
 pub edit_at-returns-in-Open-clause-whole : goal.edit_at-returns-in-Open-clause-whole
-edit_at-returns-in-Open-clause-whole t c = on_ok_weaker c.edit_in.result (open_whole _ c.edit_in.new.row (search (rules, the_lemmas))) c.edit_in.ensures.sound
+edit_at-returns-in-Open-clause-whole t c = on_ok_weaker c.edit_in.result (open_whole _ (with_value c.in-Open.row c.edit_in.new.row) (search (rules, the_lemmas))) c.edit_in.ensures.sound
 
 pub edit_at-returns-in-Open-clause-makes : goal.edit_at-returns-in-Open-clause-makes
 edit_at-returns-in-Open-clause-makes t c =
-    row_made_at c.edit_in.result (λ P found text j new. Makes c.args.edit text j P new found) c.args.node.now c.open.new.node _ _ c.in-Open.row c.edit_in.new.row _ _ c.in-Some.ensures.steps c.in_ok-open.ensures.text c.in-Open.row-is c.in-Open.is (search (rules, the_lemmas)) c.edit_in.ensures.makes
+    row_made_at c.edit_in.result (λ P found text j new. Makes c.args.edit text j P new found) c.args.node.now c.open.new.node _ c.deref_mut.result.now c.in-Open.row (with_value c.in-Open.row c.edit_in.new.row) _ _ c.in-Some.ensures.steps c.in_ok-open.ensures.text (c.deref_mut.ensures.value ∙ ap (λ b. b.value) c.in-Open.row-is) c.in-Open.is (search (rules, the_lemmas)) c.edit_in.ensures.makes

@@ -1,13 +1,15 @@
-use Rattle.std.proofs.Common.{[], rules}
+use Rattle.std.proofs.Common.{[], ◌∙◌, ap, rules}
+use Rattle.std.specs.Box.{with_value}
 use Rattle.json_pieces.specs.Edits.{Makes}
 use Rattle.json_pieces.specs.declared.node.Node.{the_lemmas}
 use Rattle.json_pieces.proofs.Walks.{answered, open_whole, row_made}
 use Rattle.json_pieces.proofs.edit.apply_below.Goals as goal
 
 pub returns-in_ok-done-in-Open-clause-whole : goal.returns-in_ok-done-in-Open-clause-whole
-returns-in_ok-done-in-Open-clause-whole c = open_whole _ c.apply_in.new.row (search (rules, the_lemmas)) c.in_ok-done-in-Open.ensures.sound
+returns-in_ok-done-in-Open-clause-whole c =
+    open_whole _ (with_value c.in-Open.row c.apply_in.new.row) (search (rules, the_lemmas)) c.in_ok-done-in-Open.ensures.sound
 
 pub returns-in_ok-done-in-Open-clause-makes : goal.returns-in_ok-done-in-Open-clause-makes
 returns-in_ok-done-in-Open-clause-makes c =
-    row_made (λ text j new. Makes c.args.edit text j [] new c.answer.result) c.args.node.now c.open.new.node _ _ c.in-Open.row c.apply_in.new.row c.in_ok-open.ensures.text c.in-Open.row-is c.in-Open.is (search (rules, the_lemmas))
+    row_made (λ text j new. Makes c.args.edit text j [] new c.answer.result) c.args.node.now c.open.new.node _ c.deref_mut.result.now c.in-Open.row (with_value c.in-Open.row c.apply_in.new.row) c.in_ok-open.ensures.text (c.deref_mut.ensures.value ∙ ap (λ b. b.value) c.in-Open.row-is) c.in-Open.is (search (rules, the_lemmas))
     (λ j says. answered c.args.edit _ j _ c.in_ok-done-in-Open.done c.answer.result c.answer.ensures.done c.answer.ensures.none (c.in_ok-done-in-Open.ensures.made j says))

@@ -35,4 +35,4 @@ pub invariant_of-seams : goal.invariant_of-seams
 invariant_of-seams c =
     let q = c.args.row.now.seams in
     let t = c.index_mut.result.now in
-    record { agrees = still_agrees q.list.items q.places c.args.number t (with_blank c.replace-old.new.dest t) c.index_mut.ensures.value refl q.agrees }
+    record { agrees = still_agrees q.list.items q.index c.args.number t (with_blank c.replace-old.new.dest t) c.index_mut.ensures.value refl q.agrees }

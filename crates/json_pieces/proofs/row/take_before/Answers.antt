@@ -119,4 +119,4 @@ pub invariant_of-seams : goal.invariant_of-seams
 invariant_of-seams c =
     let q = c.remove-seam.new.self in
     let t = c.index_mut.result.now in
-    record { agrees = still_agrees q.list.items q.places c.args.number t (with_blank c.swap.new.x t) c.index_mut.ensures.value refl q.agrees }
+    record { agrees = still_agrees q.list.items q.index c.args.number t (with_blank c.swap.new.x t) c.index_mut.ensures.value refl q.agrees }

@@ -1,11 +1,13 @@
-use Rattle.std.proofs.Common.{refl, sym, ap, arith, ◌+◌, ◌∙◌}
-use Rattle.json_pieces.specs.Names.{text_bytes}
-use Rattle.json_pieces.proofs.Places.{all_indexed, one_indexed}
+use Rattle.std.proofs.Common.{arith}
+use Rattle.json_pieces.proofs.Places.{all_learnt, learnt_next, of_none}
 use Rattle.json_pieces.proofs.seams.indexed.Goals as goal
 
+pub loop-i-init : goal.loop-i-init
+loop-i-init c = of_none c.new-index.result c.new-index.ensures
+
 pub loop-i-preserved : goal.loop-i-preserved
-loop-i-preserved c = λ cs h.
-    one_indexed c.args.seams.now cs c.loop-i.places c.learn.new.places c.loop-i.i (c.loop-i.i + 1) c.index-seams-i.result c.as_str.result.now h (omega (arith, c.loop-i-test.true, c.loop-i.auto.i-end)) refl c.index-seams-i.is (c.as_str.ensures ∙ sym (ap (λ s. text_bytes s.name) c.index-seams-i.is)) c.in_ok-learn.ensures (c.loop-i.invariant cs h)
+loop-i-preserved c =
+    learnt_next c.args.seams.now c.loop-i.i c.index-seams-i.result c.loop-i.index c.learn.new.index (omega (arith, c.loop-i-test.true, c.loop-i.auto.i-end)) c.index-seams-i.is c.in_ok-learn.ensures c.loop-i.invariant
 
 pub returns : goal.returns
-returns c = λ cs h k. c.loop-i.invariant cs h k ∙ all_indexed c.args.seams.now cs c.loop-i.i k h (omega (arith, c.loop-i-test.false, c.loop-i.auto.i-end))
+returns c = all_learnt c.args.seams.now c.loop-i.i c.loop-i.index (omega (arith, c.loop-i-test.false, c.loop-i.auto.i-end)) c.loop-i.invariant

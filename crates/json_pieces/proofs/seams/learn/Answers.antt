@@ -2,4 +2,4 @@ use Rattle.json_pieces.proofs.Places.{learnt}
 use Rattle.json_pieces.proofs.seams.learn.Goals as goal
 
 pub returns : goal.returns
-returns c = learnt c.args.text.now c.args.places.now c.insert.new.self c.in_ok-name.name c.args.number c.in_ok-name.ensures c.in-Ok.ensures.updates
+returns c = learnt c.args.seam.now c.as_str.result.now c.in_ok-name.name c.args.index.now c.learn.new.self c.learn.result c.as_str.ensures c.in_ok-name.ensures c.learn.ensures

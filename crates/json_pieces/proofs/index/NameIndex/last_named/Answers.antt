@@ -1,0 +1,12 @@
+use Rattle.std.proofs.Common.{◌∙◌, ltb, of_calls, rules, sym}
+use Rattle.std.proofs.lemmas.Fn.{always_returns_same}
+use Rattle.json_pieces.proofs.Marks.{named_at, named_none}
+use Rattle.json_pieces.proofs.index.NameIndex.last_named.Goals as goal
+
+pub returns-in_err-key : goal.returns-in_err-key
+returns-in_err-key c = named_none c.args.self.now c.args.name.now c.from_residual.result (sym c.get.ensures.value ∙ sym c.copied.ensures ∙ c.in_err-key.was) c.from_residual.ensures
+
+pub returns : goal.returns
+returns c =
+    named_at c.args.self.now c.as_slice.result.now c.args.name.now c.partition_point.result c.in_ok-key.key c.as_slice.ensures.value (sym c.get.ensures.value ∙ sym c.copied.ensures ∙ c.in_ok-key.was)
+    c.partition_point.ensures.bound (c.partition_point.ensures.partitioned (λ m. ltb m.key c.in_ok-key.key) (always_returns_same _ _ _ (λ a r f k. search (rules, of_calls))))

@@ -1,0 +1,17 @@
+use Rattle.std.proofs.Common.{◌≡◌, ◌∙◌, ap, refl, rules}
+use Rattle.json_pieces.specs.Nodes.{IsOpened, IsWhole, row_view, tree_text, view}
+use Rattle.json_pieces.specs.declared.node.Node.{the_lemmas}
+use Rattle.json_pieces.proofs.Walks.{open_opened, row_stays}
+use Rattle.json_pieces.proofs.opening.open.Goals as goal
+
+pub returns-in-Open-clause-whole : goal.returns-in-Open-clause-whole
+returns-in-Open-clause-whole c =
+    row_stays c.ask.result IsWhole c.args.node.now _ c.in-Open.row c.ask.new.row c.in-Open.is (search (rules, the_lemmas)) (c.ask.ensures ∙ ap row_view (c.deref_mut.ensures.value ∙ ap (λ b. b.value) c.in-Open.row-is)) c.requires
+
+pub returns-in-Open-clause-text : goal.returns-in-Open-clause-text
+returns-in-Open-clause-text c =
+    row_stays c.ask.result (λ t. tree_text t ≡ tree_text (view c.args.node.now)) c.args.node.now _ c.in-Open.row c.ask.new.row c.in-Open.is (search (rules, the_lemmas)) (c.ask.ensures ∙ ap row_view (c.deref_mut.ensures.value ∙ ap (λ b. b.value) c.in-Open.row-is)) refl
+
+pub returns-in-Open-clause-opened : goal.returns-in-Open-clause-opened
+returns-in-Open-clause-opened c =
+    row_stays c.ask.result IsOpened c.args.node.now _ c.in-Open.row c.ask.new.row c.in-Open.is (search (rules, the_lemmas)) (c.ask.ensures ∙ ap row_view (c.deref_mut.ensures.value ∙ ap (λ b. b.value) c.in-Open.row-is)) (open_opened c.args.node.now c.in-Open.row c.in-Open.is)

@@ -1,0 +1,16 @@
+use Rattle.std.proofs.Common.{arith, subst, sym}
+use Rattle.json_pieces.specs.Names.{Agrees}
+use Rattle.json_pieces.proofs.Places.{within_marks}
+use Rattle.json_pieces.proofs.seams.Seams.remove.Goals as goal
+
+pub index_without-requires : goal.index_without-requires
+index_without-requires c =
+    let x = c.args.self.now in
+    within_marks x.list.items c.replace-index.result c.args.number (subst (Agrees x.list.items) (sym c.replace-index.ensures.value) x.agrees) (omega (arith, x.list.ok.0, c.requires))
+
+pub invariant_of-self : goal.invariant_of-self
+invariant_of-self c =
+    let x = c.args.self.now in
+    record {
+      agrees = subst (λ l. Agrees l c.index_without.result) (sym c.remove.ensures.items) (c.index_without.ensures x.list.items (subst (Agrees x.list.items) (sym c.replace-index.ensures.value) x.agrees));
+    }
