@@ -1,6 +1,7 @@
 -- Each change of a merge can be made: what it needs stands, and nothing nests too deep.
 use Rattle.std.specs.Borrow.{Bor}
 use Rattle.std.specs.Prelude.{MatchOption}
+use Rattle.std.specs.Bool.{Decides}
 use Rattle.std.proofs.Common.{◌≡◌, ◌≤◌, ◌<◌, ◌+◌, inl, inr, ℕ, List, [], ◌∷◌, ◌++◌, length, drop, get_or, is_some, Bool, true, false, Global, Option, Some, None, option_map, refl, sym, ap, ◌∙◌, subst, arith, length-append}
 use Rattle.std.proofs.lemmas.Option.{none-some, same_Some}
 use Rattle.json.specs.Find.{as_object, get_member}
@@ -31,6 +32,7 @@ use Rattle.json_text.specs.declared.listing.Shape.{Shape}
 use Rattle.json_text.specs.declared.listing.Shape.TheVariants.{Object}
 use Rattle.json_lexemes.proofs.Nests.{one_tree, read_is}
 use Rattle.json_reading.proofs.Matching.{next_member}
+use Rattle.json_reading.specs.Same.{SameTree}
 
 -- ---- what is asked for is there
 
@@ -176,13 +178,15 @@ first_up_to patch P i is all text same stands = record { agrees = agrees_first t
 pub nowhere_found : {A : Type 0} (text : List ℕ) (P Q : Pointer) (o : Option A) (Found : Json → A → Type 0) → (q : Json) × StandsAt text P q → Q ≡ P → o ≡ None → (j : Json) × IsShallowText text j × MatchOption o (tree_at Q j ≡ None) (Found j) → ⊥
 nowhere_found text P Q o Found (q, stands) same none (j, s, h) = is_found text P q stands (j, s, subst (λ R. tree_at R j ≡ None) same (subst (λ x. MatchOption x (tree_at Q j ≡ None) (Found j)) none h))
 
--- what is found where something stands is that
-found_is : (text s seen : List ℕ) (P Q : Pointer) (j v : Json) → Says text j → Q ≡ P → (i : Json) × IsShallowText text i × IsWrittenAt text i Q s → seen ≡ s → Says seen v → tree_at P j ≡ Some v
-found_is text s seen P Q j v said way (i, shallow, (before, behind, is, (w, there, stretch))) same says =
-    ap (λ R. tree_at R j) (sym way) ∙ ap (tree_at Q) (one_tree text j i said shallow.0) ∙ there ∙ ap Some (one_tree s w v stretch.says (subst (λ t. Says t v) same says))
+-- what is found where something stands says that
+pub said_there : (text s seen : List ℕ) (P Q : Pointer) (v : Json) → StandsAt text P v → Q ≡ P → (i : Json) × IsShallowText text i × IsWrittenAt text i Q s → seen ≡ s → Says seen v
+said_there text s seen P Q v (j, said, at) way (i, shallow, (before, behind, is, (w, there, stretch))) same =
+    let found : w ≡ v = same_Some w v (sym there ∙ ap (tree_at Q) (one_tree text i j shallow.0 said.0) ∙ ap (λ R. tree_at R j) way ∙ at) in
+    subst (λ t. Says t v) (sym same) (subst (Says s) found stretch.says)
 
-pub read_there : (text s seen : List ℕ) (P Q : Pointer) (i x : Json) → StandsAt text P i → Q ≡ P → (j : Json) × IsShallowText text j × IsWrittenAt text j Q s → seen ≡ s → document seen ≡ Some x → x ≡ i
-read_there text s seen P Q i x (j, shallow, at) way found same read = same_Some x i (sym (found_is text s seen P Q j x shallow.0 way found same ((read_is seen x).0 read).0) ∙ at)
+-- what is read is what the text says
+pub read_same : (text : List ℕ) (read i j : Json) (same : Bool) → document text ≡ Some read → Decides same (SameTree read j) → Says text i → Decides same (SameTree i j)
+read_same text read i j same is decides says = subst (λ x. Decides same (SameTree x j)) (one_tree text read i ((read_is text read).0 is).0 says) decides
 
 -- ---- what something's shape tells
 

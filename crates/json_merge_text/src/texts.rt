@@ -3,7 +3,7 @@
 ghost use Rattle.std.specs.Prelude.{◌≡◌, ◌∷◌, [], ◌++◌, IfOk, None, OnOk, Some, option_map, true};
 ghost use Rattle.std.specs.Bool.{Decides};
 ghost use Rattle.std.specs.String.{string_bytes};
-ghost use Rattle.json.specs.Json.{Json};
+ghost use Rattle.json.specs.Json.{Json, string};
 ghost use Rattle.json.specs.Value.{value_view};
 ghost use Rattle.json_lexemes.specs.Spelled.{IsShallowText, Says};
 ghost use Rattle.json_merge_text.specs.Changes.{add as by_adding, replace as by_replacing};
@@ -20,7 +20,7 @@ ghost use Rattle.json_text.specs.Removed.{IsRemoved};
 use json::{Scratch, Value};
 use json_pieces::Pieces;
 use json_reading::same_tree;
-use json_text::{CheckedText, Shape};
+use json_text::{CheckedText, Shape, string_of};
 use jsonptr::PointerBuf;
 use std::alloc::{AllocError, Global};
 
@@ -74,6 +74,43 @@ fn same_shape(a: Shape, b: Shape) -> bool
     }
 }
 
+/// Whether a text that is JSON says this string.
+fn says_string(alloc: Global, text: &str, wanted: &str) -> Result<bool, AllocError>
+    ensures { IfOk result (λ same. (i : Json) → Says text.now i
+        → Decides same (SameTree i (string wanted.now))) }
+{
+    match string_of(alloc, text)? {
+        Some(said) => Ok(said.as_str() == wanted),
+        None => Ok(false),
+    }
+}
+
+/// Whether a text that is JSON is read as the same as a value.
+// Not inlined: where strings are compared, the reader's room would else be held too.
+#[inline(never)]
+fn reads_as(alloc: Global, text: &str, value: &Value) -> Result<bool, AllocError>
+    ensures { IfOk result (λ same. (i : Json) → Says text.now i
+        → Decides same (SameTree i (value_view value.now))) }
+{
+    let mut scratch = Scratch::new(alloc);
+    let Ok(here) = Value::parse(alloc, text, &mut scratch) else {
+        return Err(AllocError);
+    };
+    same_tree(alloc, &here, value)
+}
+
+/// Whether a text that is JSON says the same as a value. Most strings need no reader, whose room is
+/// cleared for each value.
+fn says_same(alloc: Global, text: &str, value: &Value) -> Result<bool, AllocError>
+    ensures { IfOk result (λ same. (i : Json) → Says text.now i
+        → Decides same (SameTree i (value_view value.now))) }
+{
+    match value {
+        Value::String(wanted) => says_string(alloc, text, wanted),
+        _ => reads_as(alloc, text, value),
+    }
+}
+
 /// The document's text and the patch's.
 #[derive(Drop)]
 pub(crate) struct Texts<'a> {
@@ -112,7 +149,7 @@ impl<'a> Texts<'a> {
     }
 
     /// Whether the document has the same as `value` at a place.
-    // Kept out of the merge's recursion, whose every level would else hold the reader's room.
+    // Kept out of the merge's recursion, whose every level would else hold its room.
     #[inline(never)]
     pub(crate) fn has_same(
         &mut self,
@@ -153,11 +190,7 @@ impl<'a> Texts<'a> {
         let Some(here) = self.document.value(alloc, path.as_pointer())? else {
             return Ok(false);
         };
-        let mut scratch = Scratch::new(alloc);
-        let Ok(here) = Value::parse(alloc, here.as_str(), &mut scratch) else {
-            return Err(AllocError);
-        };
-        same_tree(alloc, &here, value)
+        says_same(alloc, here.as_str(), value)
     }
 
     /// What the patch has at a place added to the document there.

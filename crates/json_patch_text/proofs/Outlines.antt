@@ -1,9 +1,8 @@
 -- An operation's outline.
-use Rattle.std.proofs.Common.{◌≡◌, ◌<◌, ◌≤◌, ◌+◌, [], length, drop, get_or, Bor, BTreeMap, ◌↔◌, ℕ, List, ◌∷◌, Bool, true, false, cond, bytes_eq, Option, Some, None, option_map, refl, sym, ap, ap₂, ◌∙◌, subst, arith, Result, Ok, Err, String, Global, string_bytes}
+use Rattle.std.proofs.Common.{◌≡◌, ◌<◌, ◌≤◌, ◌+◌, [], length, drop, get_or, Bor, BTreeMap, ℕ, List, ◌∷◌, Bool, true, false, cond, bytes_eq, Option, Some, None, option_map, refl, sym, ap, ap₂, ◌∙◌, subst, arith, Result, Ok, Err, String, Global}
 use Rattle.std.proofs.lemmas.Bool.{false≢true}
 use Rattle.std.proofs.lemmas.Slice.Eq.{bytes_eq-Decides}
-use Rattle.std.specs.Prelude.{IfOk, IfSome, codes, if◌then◌else◌, unwrap_or, IsErrAnd}
-use Rattle.std.specs.declared.alloc.AllocError.{AllocError}
+use Rattle.std.specs.Prelude.{IfSome, codes, if◌then◌else◌, unwrap_or, IsErrAnd}
 use Rattle.std.proofs.lemmas.List.{drop_more}
 use Rattle.std.proofs.lemmas.Option.{none-some, same_Some}
 use Rattle.json.specs.Find.{as_str}
@@ -37,21 +36,8 @@ use Rattle.json_reading.specs.Trees.{data_of}
 use Rattle.json_reading.proofs.Documents.{IsDocument-data_of, at_name}
 use Rattle.json_text.specs.Listing.{Texts, AreStretchesOfMembers, AreTextsOfMembers}
 use Rattle.json_text.specs.Pointed.{IsTight, IsWrittenAt}
-use Rattle.json.specs.Json.{Json, null, boolean, number, string, array, object, document}
+use Rattle.json.specs.Json.{Json, null, boolean, number, string, array, object}
 use Rattle.json_lexemes.specs.Spelled.{IsShallowText, Says}
-
-pub string_said : (text said : List ℕ) (j : Json) (r : Result (String Global) AllocError) → ((text : List ℕ) (j : Json) → (document text ≡ Some j) ↔ IsShallowText text j) → document text ≡ Some j → Some said ≡ as_str j → IfOk r (λ s. string_bytes s ≡ said)
-    → IfOk r (λ s. IsShallowText text (string (string_bytes s)))
-string_said text said j (Err e) law read is h = tt
-string_said text said (string t) (Ok s) law read is h = (law text (string (string_bytes s))).0 (read ∙ ap (λ x. Some (string x)) (sym (same_Some said t is) ∙ sym h))
-string_said text said null (Ok s) law read is h = absurd (none-some said (sym is))
-string_said text said (boolean b) (Ok s) law read is h = absurd (none-some said (sym is))
-string_said text said (number n) (Ok s) law read is h = absurd (none-some said (sym is))
-string_said text said (array js) (Ok s) law read is h = absurd (none-some said (sym is))
-string_said text said (object ms) (Ok s) law read is h = absurd (none-some said (sym is))
-
-same_string : (s a b : List ℕ) → Says s (string a) → Says s (string b) → a ≡ b
-same_string s a b f g = cc
 
 seen_at : (q k : List ℕ) (w : Json) (more : Members) (before : values.Members) (o : Option Json) (b : Bool) → bytes_eq k q ≡ b
     → or_before (option_map outline (tree.later_or o (cond b (Some w) None))) (get_member q before) ≡ or_before (option_map outline o) (get_member q (put k (outline w) before))
@@ -81,7 +67,7 @@ stands_at text j l w more s None false e here before = tt
 stands_at text j l w more s (Some u) false e here before = λ none. before (ap₂ (λ o b. tree.later_or o (cond b (Some w) None)) none (sym e))
 
 -- one member more is seen
-pub next_seen : (text : List ℕ) (j : Json) (e : Texts) (es : List Texts) (before after : values.Members) (value : Option (List ℕ)) (k : List ℕ) (v : Data) (b : Bool) → IsAhead text j (e ∷ es) before value → IsShallowText e.0.now (string k) → ((w : Json) → IsShallowText e.1.now w → v ≡ outline w)
+pub next_seen : (text : List ℕ) (j : Json) (e : Texts) (es : List Texts) (before after : values.Members) (value : Option (List ℕ)) (k : List ℕ) (v : Data) (b : Bool) → IsAhead text j (e ∷ es) before value → ((w : Json) → Says e.0.now w → Some k ≡ as_str w) → ((w : Json) → IsShallowText e.1.now w → v ≡ outline w)
     → after ≡ put k v before → b ≡ bytes_eq k (codes "value") → IsAhead text j es after (if b then Some e.1.now else value)
 next_seen text j e es before after value k v b h named is put_is tested = by h.rest h.texts h.shallow h.members h.valued h.stretches h.stands
   where
@@ -90,7 +76,7 @@ next_seen text j e es before after value k v b h named is put_is tested = by h.r
         → tree.get_member (codes "value") h.all ≡ tree.later_or (tree.get_member (codes "value") rest) h.last → AreStretchesOfMembers text j (e ∷ es) rest → Stands text j rest value → IsAhead text j es after (if b then Some e.1.now else value)
     by no_members texts low members valued stretches stands = absurd texts
     by (member l w more) texts low members valued stretches stands =
-        let same : k ≡ l = same_string e.0.now k l named.0 texts.0.0 in
+        let same : k ≡ l = same_Some k l (named (string l) texts.0.0) in
         let shallow : IsShallowText e.1.now w = (texts.1.0, omega (arith, low)) in
         let put_w : after ≡ put l (outline w) before = put_is ∙ ap₂ (λ n d. put n d before) same (is w shallow) in
         let asked : b ≡ bytes_eq l (codes "value") = tested ∙ ap (λ n. bytes_eq n (codes "value")) same in
@@ -113,7 +99,7 @@ chosen true x found new e = ap (option_map (λ s. s.now)) (sym e)
 chosen false x found new e = ap (option_map (λ s. s.now)) (sym e)
 
 pub member_seen : (text : List ℕ) (j : Json) (es : List Texts) (i : ℕ) (d : Texts) (before after : values.Members) (found new : Option (Bor (List ℕ))) (k : List ℕ) (v : Data) (b : Bool) → IsAhead text j (drop i es) before (option_map (λ s. s.now) found) → i < length es
-    → IsShallowText (get_or es i d).0.now (string k) → ((w : Json) → IsShallowText (get_or es i d).1.now w → v ≡ outline w) → after ≡ put k v before → b ≡ bytes_eq k (codes "value") → new ≡ (if b then Some (get_or es i d).1 else found)
+    → ((w : Json) → Says (get_or es i d).0.now w → Some k ≡ as_str w) → ((w : Json) → IsShallowText (get_or es i d).1.now w → v ≡ outline w) → after ≡ put k v before → b ≡ bytes_eq k (codes "value") → new ≡ (if b then Some (get_or es i d).1 else found)
     → IsAhead text j (drop (i + 1) es) after (option_map (λ s. s.now) new)
 member_seen text j es i d before after found new k v b h low named is put_is tested chosen_is =
     let e = get_or es i d in

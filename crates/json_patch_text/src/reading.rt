@@ -1,7 +1,7 @@
 //! Reading a patch's text (RFC 6902, sections 3 and 4).
 
-ghost use Rattle.std.specs.Prelude.{◌≡◌, [], ◌∷◌, codes, IfOk, List, Some, if◌then◌else◌, option_map, string_bytes, unwrap_or};
-ghost use Rattle.json.specs.Json.{Json, string};
+ghost use Rattle.std.specs.Prelude.{◌≡◌, [], ◌∷◌, codes, IfOk, List, Some, if◌then◌else◌, option_map, unwrap_or};
+ghost use Rattle.json.specs.Json.{Json};
 ghost use Rattle.serde_json.specs.View.{view};
 ghost use Rattle.json_patch_operation.specs.Operation.{operation_of};
 ghost use Rattle.json_patch_operation.specs.PatchValue.{IfUnreadAlone, IfUnreadable, RefusesOperation, RefusesPatch};
@@ -13,34 +13,18 @@ ghost use Rattle.json_reading.specs.Trees.{data_of};
 ghost use Rattle.json_lexemes.specs.Spelled.{IsShallowText};
 
 use crate::operation::TextOperation;
-use json::Scratch;
 use json_patch_operation::{PatchOperation, ReadError, ReadFault, ReadKind};
-use json_text::{Shape, child_texts, laws};
+use json_text::{Shape, child_texts, string_of};
 use serde_json::{Map, Value};
 use std::alloc::{AllocError, Global};
-
-/// The string that a text says.
-fn string_in(alloc: Global, text: &str) -> Result<String, AllocError>
-    ensures { IfOk result (λ s. IsShallowText text.now (string (string_bytes s))) }
-{
-    laws::texts();
-    let mut scratch = Scratch::new(alloc);
-    let Ok(value) = json::Value::parse(alloc, text, &mut scratch) else {
-        return Err(AllocError);
-    };
-    let Some(said) = value.as_str() else {
-        return Err(AllocError);
-    };
-    String::from_str(alloc, said)
-}
 
 /// A string as itself, and any other value as null: what decides how an operation is read.
 fn outlined(alloc: Global, text: &str) -> Result<Value, AllocError>
     ensures { IfOk result (λ v. (j : Json) → IsShallowText text.now j → view v ≡ outline j) }
 {
-    match Shape::of(text) {
-        Shape::String => Ok(Value::String(string_in(alloc, text)?)),
-        _ => Ok(Value::Null),
+    match string_of(alloc, text)? {
+        Some(said) => Ok(Value::String(said)),
+        None => Ok(Value::Null),
     }
 }
 
@@ -72,7 +56,9 @@ fn outline_of<'a>(alloc: Global, text: &'a str) -> Result<Outline<'a>, AllocErro
     }
     let texts = child_texts(alloc, text)?;
     for member in &texts {
-        let name = string_in(alloc, member.0)?;
+        let Some(name) = string_of(alloc, member.0)? else {
+            return Err(AllocError);
+        };
         value = latest(name.as_str() == "value", member.1, value);
         members.insert(name, outlined(alloc, member.1)?)?;
     }

@@ -1,4 +1,4 @@
-//! A list of operations on a text (RFC 6902, section 5).
+//! A list of operations on a text (RFC 6902, sections 3 and 5).
 
 ghost use Rattle.std.specs.Prelude.{◌≡◌, List, IfOk, IfErr};
 ghost use Rattle.std.specs.String.{string_bytes};

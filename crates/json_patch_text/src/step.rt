@@ -25,7 +25,7 @@ use json_patch_limits::measure::count_tokens;
 use json_patch_operation::PatchErrorKind;
 use json_pieces::Pieces;
 use json_reading::same_tree;
-use json_text::{CheckedText, is_deeper};
+use json_text::{CheckedText, is_deeper, string_of};
 use jsonptr::Pointer;
 use std::alloc::{AllocError, Global};
 
@@ -103,8 +103,10 @@ fn replaced(
     }
 }
 
-/// Whether two texts that are JSON say the same (RFC 6902, section 4.6).
-fn is_same(alloc: Global, a: &str, b: &str) -> Result<bool, AllocError>
+/// Whether two texts that are JSON are read as the same.
+// Not inlined: where strings are compared, the reader's room would else be held too.
+#[inline(never)]
+fn read_same(alloc: Global, a: &str, b: &str) -> Result<bool, AllocError>
     ensures { (v w : Json) → IsShallowText a.now v → IsShallowText b.now w
         → IfOk result (λ same. Decides same (SameTree v w)) }
 {
@@ -117,6 +119,21 @@ fn is_same(alloc: Global, a: &str, b: &str) -> Result<bool, AllocError>
         return Err(AllocError);
     };
     same_tree(alloc, &a, &b)
+}
+
+/// Whether two texts that are JSON say the same (RFC 6902, section 4.6). Most strings need no reader,
+/// whose room is cleared for each text.
+fn is_same(alloc: Global, a: &str, b: &str) -> Result<bool, AllocError>
+    ensures { (v w : Json) → IsShallowText a.now v → IsShallowText b.now w
+        → IfOk result (λ same. Decides same (SameTree v w)) }
+{
+    let Some(said) = string_of(alloc, a)? else {
+        return read_same(alloc, a, b);
+    };
+    match string_of(alloc, b)? {
+        Some(other) => Ok(said.as_str() == other.as_str()),
+        None => Ok(false),
+    }
 }
 
 /// That the value is the same as what stands where the pointer leads (RFC 6902, section 4.6).

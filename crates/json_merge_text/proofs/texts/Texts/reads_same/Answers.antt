@@ -1,13 +1,10 @@
-use Rattle.std.proofs.Common.{String, Global, string_bytes, subst}
+use Rattle.std.proofs.Common.{String, Global, string_bytes}
 use Rattle.std.proofs.lemmas.Result.{IfOk-weaker}
-use Rattle.std.specs.Bool.{Decides}
 use Rattle.json.specs.Json.{Json}
-use Rattle.json.specs.Value.{value_view}
 use Rattle.jsonptr.specs.Pointers.{tokens_of}
 use Rattle.json_pieces.specs.Whole.{text_of}
-use Rattle.json_reading.specs.Same.{SameTree}
 use Rattle.json_text.specs.Pointed.{IsWrittenAt}
-use Rattle.json_merge_text.proofs.Possible.{nowhere_found, read_there}
+use Rattle.json_merge_text.proofs.Possible.{nowhere_found, said_there}
 use Rattle.json_merge_text.proofs.texts.Texts.reads_same.Goals as goal
 
 pub returns-in_default-clause-same : goal.returns-in_default-clause-same
@@ -18,8 +15,8 @@ returns-in_default-clause-same c i stands =
 
 pub returns-clause-same : goal.returns-clause-same
 returns-clause-same c =
-    IfOk-weaker c.same_tree.result _ _
-    (λ same d i stands. subst (λ x. Decides same (SameTree x (value_view c.args.value.now)))
-    (read_there (text_of c.args.self.now.document) (string_bytes c.in-Some.here) c.as_str.result.now c.args.path.now (tokens_of c.as_pointer.result) i (value_view c.in-Ok.here)
-    stands c.as_pointer.ensures (rw c.in-Some.is at c.in_ok-here.ensures.value) c.as_str.ensures.value c.in-Ok.ensures.ok) d)
-    c.same_tree.ensures
+    IfOk-weaker c.says_same.result _ _
+    (λ same decides i stands. decides i
+    (said_there (text_of c.args.self.now.document) (string_bytes c.in-Some.here) c.as_str.result.now c.args.path.now (tokens_of c.as_pointer.result) i
+    stands c.as_pointer.ensures (rw c.in-Some.is at c.in_ok-here.ensures.value) c.as_str.ensures.value))
+    c.says_same.ensures

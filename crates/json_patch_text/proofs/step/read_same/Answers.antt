@@ -4,7 +4,7 @@ use Rattle.std.proofs.lemmas.Result.{IfOk-weaker}
 use Rattle.json.specs.Value.{value_view}
 use Rattle.json_reading.specs.Same.{SameTree}
 use Rattle.json_patch_text.proofs.Made.{compared}
-use Rattle.json_patch_text.proofs.step.is_same.Goals as goal
+use Rattle.json_patch_text.proofs.step.read_same.Goals as goal
 
 pub returns : goal.returns
 returns c v w s t =
