@@ -4,17 +4,18 @@
     diff/differences.py [--seed S] [--pairs N] --ours PROGRAM --rust PROGRAM [--spoil FAULT]
 
 PROGRAM is that of diff/differences.rt.txt, which `diff/build FOLDER json_patch_differences
-diff/differences.rt.txt json_patch_diff` proves and builds; the second one that of diff/run.py round the
-Rust crate. Each patch is made on the first document by `patch` here, by the Rust crate and by Python's
-jsonpatch, and all have to leave the second document, but that jsonpatch refuses to replace a member whose
-name is `-`. It has no operation exactly where the documents
-are equal, adds, removes and replaces alone, has at most as many operations as both documents have
-values, and no more bytes than the replacement of the whole. The patch of `guarded_diff` has to be the same
-with a test before each removal and replacement, to lead there too, and to be accepted by the Rust crate on
-a third document exactly where `beside` says so by the definition. The run fails where one of this doesn't
-hold, and where a kind of pair, of operation or of answer never came. With `--spoil` the patches are spoilt before
-anyone looks at them, in one of the ways of FAULTS, or each in turn for `all`: then it fails where one
-isn't found out."""
+diff/differences.rt.txt json_patch_diff json_patch_moves` proves and builds; the second one that of
+diff/run.py round the Rust crate. Each patch is made on the first document by `patch` here, by the Rust
+crate and by Python's jsonpatch, and all have to leave the second document, but that jsonpatch refuses to
+replace a member whose name is `-`. It has no operation exactly where the documents are equal, adds, removes
+and replaces alone, has at most as many operations as both documents have values, and no more bytes than the
+replacement of the whole. The patch of `guarded_diff` has to be the same with a test before each removal and
+replacement, to lead there too, and to be accepted by the Rust crate on a third document exactly where
+`beside` says so by the definition. That of `moving_diff` has to lead there, with no `copy` and no `test`,
+and with no more operations and no more bytes than that of `diff`. The run fails where one of this doesn't
+hold, and where a kind of pair, of operation or of answer never came. With `--spoil` the patches are spoilt
+before anyone looks at them, in one of the ways of FAULTS, or each in turn for `all`: then it fails where
+one isn't found out."""
 import argparse
 import json
 import sys
@@ -138,6 +139,16 @@ def faults(pair, patch):
         yield "too many bytes"
 
 
+def move_faults(patch, changes):
+    """What doesn't hold of the patch with moves, beside the one without."""
+    if any(operation["op"] not in ("add", "remove", "replace", "move") for operation in patch):
+        yield "moving: another operation"
+    if len(patch) > len(changes):
+        yield "moving: more operations"
+    if size(patch) > size(changes):
+        yield "moving: more bytes"
+
+
 def unguarded(patch):
     return [operation for operation in patch if operation["op"] != "test"]
 
@@ -224,6 +235,7 @@ class Tally:
     def __init__(self):
         self.kinds, self.operations, self.wrong, self.led = Counter(), Counter(), [], Counter()
         self.beside, self.dashes = Counter(), 0
+        self.moving = Counter()
 
     def look(self, kind, pair, patch, left):
         """The patch between two documents, and what each implementation left of the first."""
@@ -254,9 +266,24 @@ class Tally:
         if told:
             self.wrong.append((pair, patch, told))
 
+    def look_moving(self, pair, changes, patch, left):
+        """The patch with moves beside the one without, and what each left of the first document."""
+        told = list(move_faults(patch, changes))
+        for name, found in left.items():
+            led = found[0] == "ok" and same(found[1], pair[1])
+            if not led and not (name == "jsonpatch" and dash(patch, found)):
+                told.append(f"moving, {name}: {found}")
+        self.moving["patches"] += any(operation["op"] == "move" for operation in patch)
+        self.moving["moves"] += sum(operation["op"] == "move" for operation in patch)
+        self.moving["operations"] += len(changes) - len(patch)
+        self.moving["bytes"] += size(changes) - size(patch)
+        if told:
+            self.wrong.append((pair, patch, told))
+
     def faults(self):
         never = [f"no pair is {kind}" for kind in KINDS if not self.kinds[kind]]
         never += [f"no operation is {name}" for name in ("add", "remove", "replace") if not self.operations[name]]
+        never += [] if self.moving["moves"] else ["no operation is move"]
         return never + [f"no third document is {name}" for name in ("ok", "refused") if not self.beside[name]]
 
 
@@ -289,6 +316,10 @@ def compared(seed, count, ours, rust, spoil=lambda patch: patch):
         told = by_crate([[third, patch] for third, patch in zip(thirds, guarded)])
         for each in zip(batch, patches, guarded, left, thirds, right, told):
             tally.look_guarded(*each)
+        moving, here = made(ours, "moving", lines, spoil)
+        runs = [[before, patch] for (before, _), patch in zip(batch, moving)]
+        for pair, changes, patch, *left in zip(batch, patches, moving, here, by_crate(runs), by_python(runs)):
+            tally.look_moving(pair, changes, patch, dict(zip(SIDES, left)))
         done += len(batch)
     return tally
 
@@ -321,6 +352,7 @@ def main():
         print(f"WRONG: {line}")
     print(f"diff/differences.py: seed {asked.seed}, {asked.pairs} pairs: " + ", ".join(f"{tally.kinds[kind]} {kind}" for kind in KINDS))
     print("operations: " + ", ".join(f"{count} {name}" for name, count in sorted(tally.operations.items())))
+    print(f"with moves: {tally.moving['patches']} patches have {tally.moving['moves']}, in all {tally.moving['operations']} operations and {tally.moving['bytes']} bytes less")
     print(f"third documents: {tally.beside['ok']} accept the patch with tests, {tally.beside['refused']} refuse it")
     print("led to the second document: " + ", ".join(f"{count} by {name}" for name, count in tally.led.items()) + f"; {tally.dashes} refused by jsonpatch for a member named `-`; {len(tally.wrong)} wrong")
     sys.exit(1 if tally.wrong or tally.faults() else 0)

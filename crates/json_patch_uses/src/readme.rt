@@ -20,6 +20,7 @@ use json_patch::{
 };
 use json_patch_diff::diff;
 use json_patch_editor::Editor;
+use json_patch_moves::moving_diff;
 use serde_json::{Value, json};
 use std::alloc::{AllocError, Global};
 
@@ -132,6 +133,17 @@ fn led_there(alloc: Global, document: &mut Value, goal: &Value) -> Result<String
     ensures { OnOk result (view document.new ≡ view goal.now) }
 {
     let changes = diff(alloc, document, goal)?;
+    let told = format!(in alloc; "{changes}")?;
+    patch(alloc, document, changes.as_slice())?;
+    Ok(told)
+}
+
+fn moved_there(alloc: Global, document: &mut Value, goal: &Value) -> Result<String, Fault>
+    requires document { IsDocument (view document.old) }
+    requires goal { IsDocument (view goal.now) }
+    ensures { OnOk result (view document.new ≡ view goal.now) }
+{
+    let changes = moving_diff(alloc, document, goal)?;
     let told = format!(in alloc; "{changes}")?;
     patch(alloc, document, changes.as_slice())?;
     Ok(told)

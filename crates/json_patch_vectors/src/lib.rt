@@ -1,5 +1,5 @@
-//! Tests of `json_patch`: published vectors and worked examples, as tables of cases. It has no
-//! public item.
+//! Tests of `json_patch` and `json_patch_diff`: published vectors and worked examples, as tables of
+//! cases. It has no public item.
 #![tactic(auto)]
 
 #[cfg(test)]
@@ -22,6 +22,8 @@ mod hostile;
 mod limits;
 #[cfg(test)]
 mod merges;
+#[cfg(test)]
+mod moves;
 #[cfg(test)]
 mod pointers;
 #[cfg(test)]

@@ -1,5 +1,5 @@
 //! Patches whose operations stand below shared tokens, worked by hand from RFC 6902. The part of
-//! the document that is copied is the one to which those tokens lead.
+//! the document to which those tokens lead is the one in which marks are looked for at the end.
 
 use crate::runner::{Case, Expected, run_all};
 use std::test::Fail;

@@ -6,8 +6,8 @@ ghost use Rattle.json_patch.specs.Operation.{AreWhole, operations, operations_of
 
 use crate::readme::{
     from_bytes, from_texts, has_two_levels, is_of_ann, is_of_size_four, led_there, left_part_way,
-    made_late, merged_and_looked_up, taken_back, there_and_back, there_and_back_within,
-    told_within, what_was_refused, written_and_read,
+    made_late, merged_and_looked_up, moved_there, taken_back, there_and_back,
+    there_and_back_within, told_within, what_was_refused, written_and_read,
 };
 use json_patch::{Patch, is_whole};
 use serde_json::Value;
@@ -149,6 +149,29 @@ fn a_patch_is_made_of_what_differs(rt: HostRuntime) -> Result<(), Fail> {
     assert_eq!(rt;
         document.to_string(alloc)?.as_str(),
         r#"{"a":1,"l":[1,2,3]}"#
+    );
+    Ok(())
+}
+
+#[test]
+fn a_renamed_member_is_moved(rt: HostRuntime) -> Result<(), Fail> {
+    let alloc = rt.alloc();
+    let mut document = whole(
+        alloc,
+        r#"{"draft":"The first one","text":"It is long enough to stay where it is."}"#,
+    );
+    let goal = whole(
+        alloc,
+        r#"{"text":"It is long enough to stay where it is.","title":"The first one"}"#,
+    );
+    let told = moved_there(alloc, &mut document, &goal).expect(&rt, "an accepted patch");
+    assert_eq!(rt;
+        told.as_str(),
+        r#"[{"op":"move","from":"/draft","path":"/title"}]"#
+    );
+    assert_eq!(rt;
+        document.to_string(alloc)?.as_str(),
+        r#"{"text":"It is long enough to stay where it is.","title":"The first one"}"#
     );
     Ok(())
 }
