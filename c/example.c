@@ -1,4 +1,4 @@
-/* Each call of json_patch.h, and what it returns. */
+/* Calls of json_patch.h on texts and on a kept document, and what they return. */
 #include <json_patch.h>
 
 #include <stdio.h>

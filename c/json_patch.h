@@ -96,9 +96,9 @@ typedef struct {
 
 /*
  * What the caller owes, at each call:
- * - document and patch point to as many bytes as their lengths say, UTF-8 with no zero at the end,
- *   and out to out_length bytes. No pointer is null, also where its length is 0, and no length is
- *   past PTRDIFF_MAX.
+ * - document and patch point to as many bytes as their lengths say, of which no zero need be the
+ *   last, and out to out_length bytes. No pointer is null, also where its length is 0, and no length
+ *   is past PTRDIFF_MAX.
  * - out and report overlap nothing else that is handed in.
  * - It is not called from a signal handler, nor in the forked child of a process with threads.
  * - malloc, realloc and free are of one allocator, and align a block to each power of two up to 16
@@ -106,8 +106,9 @@ typedef struct {
  * - The stack has room for 192 kB, whatever is handed in.
  *
  * Where the status is no JSON_PATCH_OK, out is as it was, but for the path of JSON_PATCH_REFUSED.
- * After a text, out is as it was too. Of a name that stands twice the last value is read, and the
- * members of an object are written in byte order of their names.
+ * Behind the text that a call writes, out is as it was too. Of a name that stands twice the last
+ * value is read, and where a document is written anew the members of an object are in byte order
+ * of their names.
  */
 
 /*
@@ -240,8 +241,8 @@ json_patch_status json_patch_value_text(const char *document, size_t document_le
  * - It is closed before its memory goes: only that gives back what the document takes.
  * - It overlaps nothing else that is handed in.
  *
- * Each call but json_patch_open returns JSON_PATCH_CLOSED where no document is open. Where the
- * status is no JSON_PATCH_OK, the document is as it was.
+ * Each call but those that open and close a document returns JSON_PATCH_CLOSED where none is open.
+ * Where the status is no JSON_PATCH_OK, the document is as it was.
  */
 typedef struct {
     void *at;

@@ -33,6 +33,7 @@ CAPTIONS = {
     "json_patch": ("patch, inverse; what users name", "library"),
     "json_patch_editor": ("undo and redo", "library"),
     "json_patch_diff": ("the patch between two documents", "library"),
+    "json_patch_moves": ("the patch with moves", "library"),
     "json_patch_bytes": ("from bytes to bytes, or why not", "library"),
     "json_patch_text_bytes": ("texts in place, bytes to bytes", "library"),
     "json_patch_c": ("the calls for C and Python", "library"),
@@ -105,6 +106,14 @@ def direct(used):
     return {crate: [name for name in below if not any(name in reached(other) for other in below)] for crate, below in used.items()}
 
 
+def way_down(x, to_x, past, wide):
+    """Where an arrow goes down from one box to another, behind none of those that it passes."""
+    ends = x + wide / 2, to_x + wide / 2
+    beside = [left + aside for left in past for aside in (-8, wide + 8)]
+    free = [at for at in (*ends, *beside) if not any(-8 < at - left < wide + 8 for left in past)]
+    return min(free, key=lambda at: sum(abs(at - end) for end in ends), default=ends[0])
+
+
 def crates(top):
     used = promises.dependencies(top)
     level, wide, tall, gap_x, gap_y = levels(used), 212, 50, 22, 44
@@ -122,7 +131,9 @@ def crates(top):
         for name in below:
             to_x, to_y = place[name]
             middle = to_y - gap_y / 2
-            arrows.append(arrow([(x + wide / 2, y + tall), (x + wide / 2, middle), (to_x + wide / 2, to_y)]))
+            past = [place[other][0] for other in used if to_y > place[other][1] > y]
+            down = way_down(x, to_x, past, wide)
+            arrows.append(arrow([(x + wide / 2, y + tall), (down, min(y + tall + gap_y, middle)), (down, middle), (to_x + wide / 2, to_y)]))
         caption, kind = CAPTIONS.get(crate, ("", "library"))
         boxes += [box(x, y, wide, tall, kind), mono(x + wide / 2, y + 21, crate, 13), text(x + wide / 2, y + 39, caption, 11, fill=FAINT)]
     legend = [text(width / 2, height - 14, "An arrow goes to what a crate uses. Blue: libraries. Green: programs. Yellow: tests alone.", 11, fill=FAINT)]

@@ -1,4 +1,4 @@
-//! A list of operations on a document (RFC 6902, section 5).
+//! A list of operations on a document (RFC 6902, sections 3 and 5).
 
 ghost use Rattle.std.specs.Prelude.{◌≡◌, ◌≤◌, ◌*◌, ◌+◌, [], ℕ, IfOk, IsOk, None, OnOk, OnErr, Some, length, take};
 ghost use Rattle.serde_json.specs.Data.{Data, depth};
