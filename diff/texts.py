@@ -11,9 +11,10 @@ In one case of eight a byte of the text or of the patch is changed or cut off: t
 or a named refusal. The run fails where one of this doesn't hold, and where a kind of operation was never
 accepted or a kind of refusal never came.
 
-With `--wide` each text has an object of some fifty members, and each patch some twenty-five operations, few of
-which take a member out: so its names are looked up in an index. There a kind of refusal needn't come. With
-`--spoil` a byte of each new text is changed before it is compared: then it fails where one isn't found out."""
+With `--wide` each text has an object of some fifty members, and each patch some twenty-five operations, a
+fifth of which take a member out: so its names are looked up in an index, which is kept over them. There a
+kind of refusal needn't come. With `--spoil` a byte of each new text is changed before it is compared: then it
+fails where one isn't found out."""
 import argparse
 import json
 import random
@@ -25,7 +26,7 @@ from texts_model import at_tokens, patched, read, tokens_of
 
 NAMES = ("a", "b", "", "a/b", "m~n", "\u00e9", "\n", "\U0001f600", "-", "0", "1")
 OPERATIONS = ("add", "add", "remove", "replace", "move", "copy", "test")
-SELDOM_REMOVED = ("add", "replace", "test", "copy") * 10 + ("remove", "move")
+MANY_OPERATIONS = ("add", "replace", "test", "copy") * 3 + ("remove", "remove", "remove", "move")
 NUMBERS = ("0", "-0", "1", "1.0", "1.50", "15e-1", "1.5", "-1", "-0.0e5", "1e400", "10E+399", "1e-400", "100", "1e2",
            "18446744073709551616", "9007199254740993", "0.1", "0.10000000000000001")
 BATCH = 2000
@@ -128,7 +129,7 @@ class Texts:
         """Some twenty-five, of which each but a few is accepted."""
         made = []
         for _ in range(self.random.randrange(40, 70)):
-            operation = self.operation(text, SELDOM_REMOVED)
+            operation = self.operation(text, MANY_OPERATIONS)
             if operation[0]["path"] in ("", "/w"):
                 continue
             after, _ = patched(text, [operation])
