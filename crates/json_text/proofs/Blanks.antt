@@ -1,11 +1,11 @@
 -- Texts with no lexeme, and texts of one string.
-use Rattle.std.proofs.Common.{◌≡◌, ◌⊎◌, inl, inr, ℕ, zero, suc, ◌+◌, ◌-◌, ◌<◌, ◌≤◌, Bool, true, false, cond, ◌==◌, List, [], ◌∷◌, ◌++◌, length, drop, take, get_or, refl, sym, ap, ◌∙◌, subst, arith, length-drop, get_or-drop}
+use Rattle.std.proofs.Common.{◌≡◌, ◌⊎◌, inl, inr, ℕ, ◌+◌, ◌-◌, ◌<◌, ◌≤◌, Bool, true, false, cond, ◌==◌, List, [], ◌∷◌, length, drop, get_or, refl, sym, ap, ◌∙◌, arith, length-drop, get_or-drop}
 use Rattle.std.proofs.lemmas.Bool.{false≢true, cases_lt}
-use Rattle.std.proofs.lemmas.List.{drop_all, get_or_default}
-use Rattle.json.specs.Json.{Json, string}
+use Rattle.std.proofs.lemmas.List.{drop_all}
+use Rattle.json.specs.Json.{string}
 use Rattle.json.specs.Token as t
-use Rattle.json.specs.Word.{is_operator, is_space, word}
-use Rattle.json.specs.Lex.{Lexeme, token, Class, quote, backslash, operator, space, other, class, Mode, between, in_word, in_string, in_escape, operator_lexeme, lex, lex_byte}
+use Rattle.json.specs.Word.{is_operator, is_space}
+use Rattle.json.specs.Lex.{Lexeme, token, Class, quote, backslash, operator, space, other, class, between, in_string, in_escape, operator_lexeme, lex, lex_byte}
 use Rattle.json_text.specs.Cuts.{IsBlank, closes}
 use Rattle.json_lexemes.specs.Lexing.{after, next_mode, Outside}
 use Rattle.json_lexemes.specs.Places.{left_at}
@@ -13,7 +13,7 @@ use Rattle.json_text.specs.Removed.{IsTightEnd}
 use Rattle.json_text.specs.Rows.{IsSolid, closing}
 use Rattle.json_lexemes.specs.Spelled.{Says}
 use Rattle.json_lexemes.proofs.Closed.{closed-Says}
-use Rattle.json_lexemes.proofs.FirstBytes.{kind, token_kind, word_kind, operator_by_kind}
+use Rattle.json_lexemes.proofs.FirstBytes.{kind, word_kind, operator_by_kind}
 use Rattle.json_lexemes.proofs.Steps.{drop_step, operator_left}
 
 no_cons : (l : Lexeme) (ls : List Lexeme) → l ∷ ls ≡ [] → ⊥

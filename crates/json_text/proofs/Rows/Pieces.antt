@@ -1,5 +1,5 @@
 -- A member or an item, cut from its text.
-use Rattle.std.proofs.Common.{◌≡◌, ◌≢◌, ◌⊎◌, inl, inr, ℕ, ◌+◌, ◌-◌, ◌<◌, ◌≤◌, Bool, true, false, List, [], ◌∷◌, ◌++◌, length, take, drop, get_or, Option, Some, None, refl, sym, ap, ◌∙◌, subst, arith, append_assoc, take-append-drop}
+use Rattle.std.proofs.Common.{◌≡◌, ◌≢◌, inl, ℕ, ◌+◌, ◌-◌, ◌<◌, ◌≤◌, Bool, true, false, List, [], ◌∷◌, ◌++◌, length, take, drop, get_or, Option, Some, None, refl, sym, ap, ◌∙◌, subst, arith, append_assoc, take-append-drop}
 use Rattle.std.specs.Prelude.{IfSome, MatchOption}
 use Rattle.std.specs.Str.{IsUtf8, IsCharBoundary}
 use Rattle.std.specs.Bool.{Decides}
@@ -11,7 +11,7 @@ use Rattle.json.specs.Lex.{Lexeme, between, colon, comma}
 use Rattle.json.specs.Text.{content, plain}
 use Rattle.json.specs.Word.{is_operator, is_space}
 use Rattle.json_text.specs.Cuts.{ClosesAt, CutsFirst, IsBlank, IsLabel, Piece, Suits, closes, piece_of, piece_text}
-use Rattle.json_lexemes.specs.Found.{IsCut, IsWithin}
+use Rattle.json_lexemes.specs.Found.{IsCut}
 use Rattle.json_text.specs.Listing.{IsTextOf, NamesAt}
 use Rattle.json_lexemes.specs.Places.{IsEnd, left_at, mode_at}
 use Rattle.json_text.specs.Pointed.{IsTight}

@@ -1,4 +1,4 @@
-use Rattle.std.proofs.Common.{[], sym, ◌∙◌, subst}
+use Rattle.std.proofs.Common.{[], sym, subst}
 use Rattle.json_text.specs.Cuts.{ClosesAt, IsBehindMark}
 use Rattle.json_text.proofs.Rows.Pieces.{closes_there, copied}
 use Rattle.json_text.proofs.cuts.blanks_at.Goals as goal

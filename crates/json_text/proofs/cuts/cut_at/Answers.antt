@@ -1,11 +1,8 @@
-use Rattle.std.proofs.Common.{◌≡◌, ◌≤◌, ◌<◌, ℕ, ◌+◌, List, [], ◌∷◌, length, Option, Some, None, refl, sym, ap, ◌∙◌, subst, arith, rules}
+use Rattle.std.proofs.Common.{◌≤◌, ◌<◌, List, length, sym, ◌∙◌, subst, arith}
 use Rattle.std.specs.Str.{IsCharBoundary}
 use Rattle.std.specs.Prelude.{IfSome}
-use Rattle.json.specs.Lex.{between}
 use Rattle.json_text.specs.Cuts.{CutsFirst, IsBehindMark}
-use Rattle.json_lexemes.specs.Found.{IsWithin}
-use Rattle.json_lexemes.specs.Places.{mode_at}
-use Rattle.json_text.specs.Rows.{Child, inside}
+use Rattle.json_text.specs.Rows.{Child}
 use Rattle.json_text.specs.declared.cuts.Cut.{Cut}
 use Rattle.json_text.proofs.Rows.Pieces.{first_cut, name_before, copied, next_place, AreFound, NextIs}
 use Rattle.json_text.proofs.cuts.cut_at.Goals.{in-Some-next, in-None}

@@ -1,4 +1,4 @@
-use Rattle.std.proofs.Common.{sym, ◌∙◌, subst}
+use Rattle.std.proofs.Common.{sym, subst}
 use Rattle.json.specs.Json.{string}
 use Rattle.json_text.specs.Listing.{IsTextOf}
 use Rattle.json_text.proofs.Rows.Pieces.{named_by}
