@@ -57,9 +57,9 @@ abbrev Closes : Mode → List ℕ → Type 0
 Closes m xs = AreGood (lex m xs) → Outside (after m xs)
 
 -- the lexer comes from ys to xs and emits nothing
-record Goes (m : Mode) (ys : List ℕ) (n : Mode) (xs : List ℕ) : Type 0 where
-  left : lex m ys ≡ lex n xs
-  mode_after : after m ys ≡ after n xs
+pub record Goes (m : Mode) (ys : List ℕ) (n : Mode) (xs : List ℕ) : Type 0 where
+  pub left : lex m ys ≡ lex n xs
+  pub mode_after : after m ys ≡ after n xs
 
 carry : {m n : Mode} {ys xs : List ℕ} → Goes m ys n xs → Closes n xs → Closes m ys
 carry g h good = subst Outside (sym g.mode_after) (h (subst AreGood g.left good))
@@ -97,7 +97,7 @@ plain_goes x xs q b =
 hex_goes : (x : ℕ) (xs : List ℕ) → is_digit x 16 ≡ true → Goes in_string (x ∷ xs) in_string xs
 hex_goes x xs h = plain_goes x xs (not_this 34 x (x == 34) (eqb-true x 34) refl h) (not_this 92 x (x == 92) (eqb-true x 92) refl h)
 
-unit_goes : (a b c d : ℕ) (xs : List ℕ) → is_found (code_unit a b c d) ≡ true → Goes in_string (a ∷ b ∷ c ∷ d ∷ xs) in_string xs
+pub unit_goes : (a b c d : ℕ) (xs : List ℕ) → is_found (code_unit a b c d) ≡ true → Goes in_string (a ∷ b ∷ c ∷ d ∷ xs) in_string xs
 unit_goes a b c d xs f =
     let h = hex a b c d f in
     chain (hex_goes a (b ∷ c ∷ d ∷ xs) h.first) (chain (hex_goes b (c ∷ d ∷ xs) h.second) (chain (hex_goes c (d ∷ xs) h.third) (hex_goes d xs h.fourth)))

@@ -19,7 +19,7 @@ two t i h =
     let e : i + 1 + 1 ≡ i + 2 = omega arith in
     drop_step t i (omega arith) ∙ ap (λ l. get_or t i 0 ∷ l) (drop_step t (i + 1) (omega arith) ∙ ap (λ k. get_or t (i + 1) 0 ∷ drop k t) e)
 
-four : (t : List ℕ) (i : ℕ) → i + 4 ≤ length t → drop i t ≡ get_or t i 0 ∷ get_or t (i + 1) 0 ∷ get_or t (i + 2) 0 ∷ get_or t (i + 3) 0 ∷ drop (i + 4) t
+pub four : (t : List ℕ) (i : ℕ) → i + 4 ≤ length t → drop i t ≡ get_or t i 0 ∷ get_or t (i + 1) 0 ∷ get_or t (i + 2) 0 ∷ get_or t (i + 3) 0 ∷ drop (i + 4) t
 four t i h =
     let e : i + 2 + 1 ≡ i + 3 = omega arith in
     let f : i + 2 + 2 ≡ i + 4 = omega arith in

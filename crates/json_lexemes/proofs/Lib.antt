@@ -16,3 +16,5 @@ pub mod Trimmed
 pub mod Respelled
 pub mod Parsed
 pub mod Nests
+pub mod Ended
+pub mod Completed

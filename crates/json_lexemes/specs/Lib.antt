@@ -4,3 +4,4 @@ pub mod Places
 pub mod Runs
 pub mod Spelled
 pub mod Found
+pub mod Grammar

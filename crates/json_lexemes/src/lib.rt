@@ -9,6 +9,8 @@
 //! or a list, and [`is_name`] compares a name with its escapes read.
 #![tactic(auto)]
 
+mod grammar;
+mod leaves;
 mod lexemes;
 mod names;
 mod span;
@@ -16,6 +18,7 @@ mod span;
 mod tests;
 mod values;
 
+pub use grammar::is_json_within;
 pub use lexemes::{
     after, blank_end, byte_at, is_blank, is_deeper, is_operator, last_end, string_end, value_end,
     word_end,

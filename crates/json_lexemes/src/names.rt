@@ -3,6 +3,7 @@
 ghost use Rattle.std.specs.Prelude.{◌≡◌, ◌<◌, ◌≤◌, ◌+◌, length, drop, get_or, Some, None, IfSome, IfNone};
 ghost use Rattle.std.specs.Bool.{Decides};
 ghost use Rattle.std.specs.Char.{encode_utf8, digit_value};
+ghost use Rattle.json.specs.Lex.{in_string, in_escape, lex};
 ghost use Rattle.json.specs.Text.{content, plain, after_backslash, after_u, after_high, code_unit, short_escape, prepend};
 
 /// The value of a digit or a letter, and 36 for any other byte.
@@ -65,6 +66,8 @@ fn second_half(text: &[u8], i: usize, high: u32) -> Option<(char, usize)>
     requires high { (0xd800 ≤ high) × (high < 0xdc00) }
     ensures some { IfSome result (λ r. content (after_high high) (drop i text.now)
         ≡ prepend (encode_utf8 r.0) (content plain (drop r.1 text.now))) }
+    ensures passes { IfSome result (λ r. lex in_string (drop i text.now)
+        ≡ lex in_string (drop r.1 text.now)) }
     ensures bounds { IfSome result (λ r. (i < r.1) × (r.1 ≤ length text.now)) }
     ensures none { IfNone result (content (after_high high) (drop i text.now) ≡ None) }
 {
@@ -91,6 +94,8 @@ fn unicode(text: &[u8], i: usize) -> Option<(char, usize)>
     requires { i ≤ length text.now }
     ensures some { IfSome result (λ r. content after_u (drop i text.now)
         ≡ prepend (encode_utf8 r.0) (content plain (drop r.1 text.now))) }
+    ensures passes { IfSome result (λ r. lex in_string (drop i text.now)
+        ≡ lex in_string (drop r.1 text.now)) }
     ensures bounds { IfSome result (λ r. (i < r.1) × (r.1 ≤ length text.now)) }
     ensures none { IfNone result (content after_u (drop i text.now) ≡ None) }
 {
@@ -110,10 +115,12 @@ fn unicode(text: &[u8], i: usize) -> Option<(char, usize)>
 }
 
 /// The character of an escape, from behind its backslash on, and the place behind it.
-fn escaped(text: &[u8], i: usize) -> Option<(char, usize)>
+pub(crate) fn escaped(text: &[u8], i: usize) -> Option<(char, usize)>
     requires { i ≤ length text.now }
     ensures some { IfSome result (λ r. content after_backslash (drop i text.now)
         ≡ prepend (encode_utf8 r.0) (content plain (drop r.1 text.now))) }
+    ensures passes { IfSome result (λ r. lex in_escape (drop i text.now)
+        ≡ lex in_string (drop r.1 text.now)) }
     ensures bounds { IfSome result (λ r. (i < r.1) × (r.1 ≤ length text.now)) }
     ensures none { IfNone result (content after_backslash (drop i text.now) ≡ None) }
 {

@@ -1,8 +1,8 @@
 //! Places of one text, and names.
 
 use crate::{
-    Span, after, blank_end, byte_at, is_deeper, is_name, item, last_end, member, string_end,
-    value_end, value_from, word_end,
+    Span, after, blank_end, byte_at, is_deeper, is_json_within, is_name, item, last_end, member,
+    string_end, value_end, value_from, word_end,
 };
 use std::test::Fail;
 
@@ -49,4 +49,134 @@ fn values(rt: HostRuntime) -> Result<(), Fail> {
     assert_eq!(rt; at(item(text, 9, 1)), Some("\"]\""));
     assert!(rt; item(text, 9, 2).is_none());
     Ok(())
+}
+
+#[test]
+fn grammar(rt: HostRuntime) {
+    for text in [
+        "0",
+        "-0",
+        " 12 ",
+        "-1.5",
+        "0.0",
+        "10.25e+3",
+        "1E-0",
+        "2e9",
+        "true",
+        "false",
+        "null",
+        "\t\"\"\r\n",
+        "\"a\\\"\\\\\\/\\b\\f\\n\\r\\t\\u00e9\\ud83d\\uDE00z\"",
+        "\"a longer text, \\\\ that goes on\"",
+    ] {
+        assert!(rt; is_json_within(text.as_bytes(), 0));
+    }
+    for text in [
+        "[]",
+        "{}",
+        " [ ] ",
+        "{ }",
+        "[1]",
+        "[1,true , \"a\",null]",
+        "{\"a\":1}",
+        "{\"\\u0061\" : 1 , \"a\":2e1}",
+    ] {
+        assert!(rt; is_json_within(text.as_bytes(), 1) && !is_json_within(text.as_bytes(), 0));
+    }
+    for text in [
+        "[[],{},[ ]]",
+        "{\"a\":{},\"b\":[1,2]}",
+        " [ { \"a\" : false } , 1 ] ",
+    ] {
+        assert!(rt; is_json_within(text.as_bytes(), 2) && !is_json_within(text.as_bytes(), 1));
+    }
+}
+
+#[test]
+fn faults(rt: HostRuntime) {
+    for text in [
+        "",
+        " ",
+        "[",
+        "{",
+        "]",
+        "}",
+        ",",
+        ":",
+        "[1 2]",
+        "[1,]",
+        "[,1]",
+        "[1,,2]",
+        "[1}",
+        "{\"a\":1]",
+        "{\"a\" 1}",
+        "{\"a\",1}",
+        "{\"a\"}",
+        "{1:2}",
+        "{\"a\":1,}",
+        "{,}",
+        "{\"a\":}",
+        "{\"a\":1 \"b\":2}",
+        "[1:2]",
+        "[1]]",
+        "[[1]",
+        "{\"a\":[1}",
+        "1 2",
+        "1,2",
+        "[]1",
+        "[] []",
+        "1x",
+        "\"a\"b",
+        "[\"a\"1]",
+    ] {
+        assert!(rt; !is_json_within(text.as_bytes(), 128));
+    }
+    for text in [
+        "01",
+        "-",
+        "-a",
+        "1.",
+        ".5",
+        "1e",
+        "1e+",
+        "+1",
+        "1.e1",
+        "0x1",
+        "1e1.5",
+        "tru",
+        "truex",
+        "True",
+        "nul",
+        "fals",
+        "falsey",
+        "nan",
+        "\\",
+        "'a'",
+        "\"",
+        "\"a",
+        "\"a\\\"",
+        "\"\\",
+        "\"\\a\"",
+        "\"\\u12\"",
+        "\"\\u12g4\"",
+        "\"\\ud800\"",
+        "\"\\udc00\"",
+        "\"\\ud800\\u0041\"",
+        "\"\n\"",
+        "\"a longer text \u{1f} than eight\"",
+        "\u{a0}1",
+    ] {
+        assert!(rt; !is_json_within(text.as_bytes(), 128));
+    }
+}
+
+#[test]
+fn many_levels(rt: HostRuntime) {
+    let mut text = [b']'; 258];
+    for i in 0..129 {
+        text[i] = b'[';
+    }
+    assert!(rt; is_json_within(&text[1..257], 128) && is_json_within(&text[1..257], usize::MAX));
+    assert!(rt; !is_json_within(&text[1..257], 127) && !is_json_within(&text, usize::MAX));
+    assert!(rt; is_json_within(&text[126..132], 3) && !is_json_within(&text[126..132], 2));
 }

@@ -2,6 +2,8 @@ use Rattle.std.proofs.Common.{arith, ◌+◌, sym, ap, ◌∙◌, drop, Some, No
 use Rattle.std.proofs.lemmas.Str.{encode_ascii}
 use Rattle.json.specs.Text.{content, plain, prepend}
 use Rattle.json_lexemes.proofs.Inside.{backslash_end, backslash_u, backslash_short, some_by, none_by}
+use Rattle.json_lexemes.proofs.Ended.{passes_by}
+use Rattle.json_lexemes.proofs.Steps.{escape_passes}
 use Rattle.json_lexemes.proofs.names.escaped.Goals as goal
 
 pub returns-then-i-text-clause-none : goal.returns-then-i-text-clause-none
@@ -20,3 +22,9 @@ returns-in-Some-clause-some c =
 
 pub returns-in-None-clause-none : goal.returns-in-None-clause-none
 returns-in-None-clause-none c = backslash_short c.args.text.now c.args.i None (omega arith) c.if-text-i-eq117.false (sym c.in-None.is ∙ c.short_escape.ensures.value)
+
+pub returns-then-text-i-eq117-clause-passes : goal.returns-then-text-i-eq117-clause-passes
+returns-then-text-i-eq117-clause-passes c = passes_by c.unicode.result _ _ _ (escape_passes c.args.text.now c.args.i (omega arith)) c.unicode.ensures.passes
+
+pub returns-in-Some-clause-passes : goal.returns-in-Some-clause-passes
+returns-in-Some-clause-passes c = escape_passes c.args.text.now c.args.i (omega arith)

@@ -2,6 +2,7 @@ use Rattle.std.proofs.Common.{arith, ◌+◌, sym, ap, ◌∙◌, drop}
 use Rattle.std.specs.Char.{encode_utf8}
 use Rattle.json.specs.Text.{content, plain, prepend}
 use Rattle.json_lexemes.proofs.Inside.{scalar_plain, u_short, u_none, u_high, u_low, u_plain, some_by, none_by}
+use Rattle.json_lexemes.proofs.Ended.{unit_passes, passes_by}
 use Rattle.json_lexemes.proofs.names.unicode.Goals as goal
 
 pub returns-then-text-i-lt4-clause-none : goal.returns-then-text-i-lt4-clause-none
@@ -26,3 +27,10 @@ pub returns-clause-some : goal.returns-clause-some
 returns-clause-some c =
     u_plain c.args.text.now c.args.i c.in-Some.unit (omega arith) (sym c.code_unit.ensures.value ∙ c.in-Some.is) (scalar_plain _ _ c.in-Some-from_u32.ensures.cases)
     ∙ ap (λ k. prepend (encode_utf8 k) (content plain (drop (c.args.i + 4) c.args.text.now))) (sym c.in-Some-from_u32.ensures.value.1)
+
+pub returns-then-unit-lt56320-clause-passes : goal.returns-then-unit-lt56320-clause-passes
+returns-then-unit-lt56320-clause-passes c =
+    passes_by c.second_half.result _ _ _ (unit_passes c.args.text.now c.args.i c.in-Some.unit (omega arith) (sym c.code_unit.ensures.value ∙ c.in-Some.is)) c.second_half.ensures.passes
+
+pub returns-clause-passes : goal.returns-clause-passes
+returns-clause-passes c = unit_passes c.args.text.now c.args.i c.in-Some.unit (omega arith) (sym c.code_unit.ensures.value ∙ c.in-Some.is)

@@ -1,0 +1,35 @@
+use Rattle.std.proofs.Common.{◌≡◌, ◌<◌, ◌-◌, ◌+◌, ◌==◌, [], length, get_or, ap, ◌∙◌, refl, sym, subst, arith}
+use Rattle.std.proofs.lemmas.Bool.Decides.{Decides-ltb, Decides-eqb}
+use Rattle.std.proofs.lemmas.List.{length-set}
+use Rattle.json_lexemes.specs.Places.{left_at}
+use Rattle.json_lexemes.specs.Grammar.{Begins, innermost}
+use Rattle.json_lexemes.proofs.Trimmed.{end_left}
+use Rattle.json_lexemes.proofs.Completed.{opens_on, whole_begins, room_for}
+use Rattle.json_lexemes.proofs.grammar.is_json_within.Goals as goal
+
+pub loop-next-preserved-then-opens : goal.loop-next-preserved-then-opens
+loop-next-preserved-then-opens c =
+    let t = c.args.text.now in
+    let i = c.loop-next.i in
+    let d = c.loop-next.depth in
+    let most = c.if-levels-lt-MOST.most in
+    let room : d < most = (Decides-ltb d most).0 (c.in-Some.ensures.room c.if-opens.true) in
+    record {
+      high = c.in-Some.ensures.bounds.1;
+      size = length-set c.loop-next.objects d (get_or t i 0 == 123) ∙ c.loop-next.invariant.size;
+      room = omega (arith, room);
+      most = c.loop-next.invariant.most;
+      levels = c.loop-next.invariant.levels;
+      follows = λ b. c.loop-next.invariant.follows (opens_on t c.loop-next.objects most d i c.in-Some.next room (omega (arith, room, c.loop-next.invariant.size, c.loop-next.invariant.most)) (c.in-Some.ensures.opens c.if-opens.true) b);
+    }
+
+pub returns-then-nested-eq0 : goal.returns-then-nested-eq0
+returns-then-nested-eq0 c = λ e.
+    let t = c.args.text.now in
+    let d = c.loop-next.depth in
+    let most = c.if-levels-lt-MOST.most in
+    let place = c.in-Some-past_closing.place in
+    let end : c.blank_end.result ≡ length t = (Decides-eqb c.blank_end.result (length t)).0 e in
+    let nothing : left_at t place ≡ [] = sym c.blank_end.ensures.left ∙ end_left t c.blank_end.result (omega (arith, end)) in
+    c.loop-next.invariant.follows
+    (whole_begins t (most - d) _ (innermost c.loop-next.objects d) c.loop-next.i c.in-Some.next (room_for d most) (c.in-Some.ensures.whole c.if-opens.false) (c.in-Some-past_closing.ensures.last c.if-nested-eq0.true nothing (most - d)))

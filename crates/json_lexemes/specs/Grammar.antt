@@ -1,0 +1,72 @@
+-- What a check of a text against the grammar has passed over, and what must follow.
+use Rattle.std.specs.Prelude.{◌≡◌, ◌≤◌, ℕ, zero, suc, Bool, true, false, not, ◌||◌, ◌==◌, nat_lt, List, [], ◌∷◌, ◌++◌, drop, get_or, Some}
+use Rattle.json.specs.Json.{Json, Items, Members}
+use Rattle.json.specs.Token as t
+use Rattle.json.specs.Text.{content, plain}
+use Rattle.json.specs.Lex.{Lexeme, token, comma, colon, in_string, lex}
+use Rattle.json.specs.Tree.{depth, items_depth, members_depth}
+use Rattle.json_lexemes.specs.Places.{left_at}
+use Rattle.json_lexemes.specs.Spelled.{spelled, more_items, more_members}
+
+-- ---- strings
+
+-- a byte that stands for itself in a string
+abbrev pub is_plain : ℕ → Bool
+is_plain x = not ((x == 34) || (x == 92) || nat_lt x 32)
+
+-- from i on stands the inside of a string, and the quote that closes it
+abbrev pub HasContent : List ℕ → ℕ → Type 0
+HasContent t i = (s : List ℕ) × (content plain (drop i t) ≡ Some s)
+
+-- the bytes from `from` to i are of a string's inside
+pub record IsInside (t : List ℕ) (from i : ℕ) : Type 0 where
+  pub left : lex in_string (drop from t) ≡ lex in_string (drop i t)
+  pub content : HasContent t i → HasContent t from
+
+-- ---- values
+
+-- from i to k stands a value, of at most n levels
+abbrev pub Spells : List ℕ → ℕ → ℕ → ℕ → Type 0
+Spells t n i k = (j : Json) × (left_at t i ≡ spelled j ++ left_at t k) × (depth j ≤ n)
+
+-- the brackets of an object, or of a list
+
+abbrev pub opening : Bool → Lexeme
+opening true = token t.begin_object
+opening false = token t.begin_array
+
+abbrev pub closing : Bool → Lexeme
+closing true = token t.end_object
+closing false = token t.end_array
+
+-- in an object a name stands before the value, in a list none
+abbrev pub Named : Bool → List Lexeme → List Lexeme → Type 0
+Named true ls rest = (s : List ℕ) × (ls ≡ token (t.string s) ∷ colon ∷ rest)
+Named false ls rest = ls ≡ rest
+
+-- the value at i opens with such a bracket, and the first value in it begins at k
+abbrev pub Opens : List ℕ → Bool → ℕ → ℕ → Type 0
+Opens t object i k = (ls : List Lexeme) × (left_at t i ≡ opening object ∷ ls) × Named object ls (left_at t k)
+
+-- a comma is left at i, and the value behind it begins at k
+abbrev pub Continues : List ℕ → Bool → ℕ → ℕ → Type 0
+Continues t object i k = (ls : List Lexeme) × (left_at t i ≡ comma ∷ ls) × Named object ls (left_at t k)
+
+-- what is left of an object, or of a list, behind one of its values: more of them, of at most n levels
+abbrev pub Remains : Bool → ℕ → List Lexeme → List Lexeme → Type 0
+Remains true n ls rest = (ms : Members) × (ls ≡ more_members ms ++ rest) × (members_depth ms ≤ n)
+Remains false n ls rest = (js : Items) × (ls ≡ more_items js ++ rest) × (items_depth js ≤ n)
+
+-- Behind a value the brackets that are open are all closed, and nothing follows. Of each, the innermost first, it is known whether it is an object's; n more may open within it.
+abbrev pub Completes : ℕ → List Bool → List Lexeme → Type 0
+Completes n [] ls = ls ≡ []
+Completes n (object ∷ os) ls = (rest : List Lexeme) × Remains object n ls rest × Completes (suc n) os rest
+
+-- the same from the beginning of a value on
+abbrev pub Begins : ℕ → List Bool → List Lexeme → Type 0
+Begins n os ls = (j : Json) × (rest : List Lexeme) × (ls ≡ spelled j ++ rest) × (depth j ≤ n) × Completes n os rest
+
+-- of the first so many of these, the last one first
+abbrev pub innermost : List Bool → ℕ → List Bool
+innermost os zero = []
+innermost os (suc d) = get_or os d false ∷ innermost os d

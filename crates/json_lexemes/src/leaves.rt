@@ -1,0 +1,278 @@
+//! Strings, numbers and literals, each checked to its end against the grammar of JSON. Nothing here is
+//! recursive, and no memory is taken.
+
+ghost use Rattle.std.specs.Prelude.{◌≡◌, ◌≢◌, ◌<◌, ◌≤◌, ◌+◌, ◌∷◌, true, length, drop, get_or, IfSome};
+ghost use Rattle.std.specs.List.{prefix_len};
+ghost use Rattle.std.specs.Char.{is_ascii_digit};
+ghost use Rattle.json.specs.Lex.{in_string, lex};
+ghost use Rattle.json.specs.Run.{EndsAt};
+ghost use Rattle.json.specs.Word.{after_digits, after_minus, after_sign, after_whole, after_fraction, after_exponent, after_number, ends_word};
+ghost use Rattle.json_lexemes.specs.Places.{left_at};
+ghost use Rattle.json_lexemes.specs.Grammar.{HasContent, IsInside, Spells, is_plain};
+
+use crate::lexemes::{byte_at, is_blank, is_operator};
+use crate::names::escaped;
+
+/// Of each byte: `1` where it stands for itself in a string, `0` for a quote, a backslash and the bytes
+/// below the space. One load takes the place of three comparisons.
+static PLAIN: [u8; 256] = *b"\
+    00000000000000000000000000000000\
+    11011111111111111111111111111111\
+    11111111111111111111111111110111\
+    11111111111111111111111111111111\
+    11111111111111111111111111111111\
+    11111111111111111111111111111111\
+    11111111111111111111111111111111\
+    11111111111111111111111111111111";
+
+/// How many bytes are tested between two tests for the text's end: as many as LLVM unrolls.
+const STRIDE: usize = 8;
+
+/// Whether this byte stands for itself in a string.
+#[inline(always)]
+fn is_plain(c: u8) -> bool
+    ensures { result ≡ is_plain c }
+{
+    PLAIN[usize::from(c)] == b'1'
+}
+
+/// The first place from `from` on, in a string, where no plain byte stands.
+#[inline(always)]
+fn plain_end(text: &[u8], from: usize) -> usize
+    requires { from ≤ length text.now }
+    ensures bounds { (from ≤ result) × (result ≤ length text.now) }
+    ensures inside { IsInside text.now from result }
+{
+    let mut i = from;
+    while text.len() - i >= STRIDE {
+        let stop = i + STRIDE;
+        while i < stop {
+            if !is_plain(text[i]) {
+                return i;
+            }
+            i += 1;
+        }
+    }
+    while i < text.len() && is_plain(text[i]) {
+        i += 1;
+    }
+    i
+}
+
+/// As `closed_string`, where escapes may stand.
+fn escaped_string(text: &[u8], from: usize) -> Option<usize>
+    requires { from ≤ length text.now }
+    ensures bounds { IfSome result (λ i. (from < i) × (i ≤ length text.now)) }
+    ensures left { IfSome result (λ i. lex in_string (drop from text.now) ≡ left_at text.now i) }
+    ensures content { IfSome result (λ _. HasContent text.now from) }
+{
+    let mut i = from;
+    while byte_at(text, i) == b'\\' {
+        let Some((_, next)) = escaped(text, i + 1) else {
+            return None;
+        };
+        i = plain_end(text, next);
+    }
+    if byte_at(text, i) == b'"' {
+        Some(i + 1)
+    } else {
+        None
+    }
+}
+
+/// The place after the quote that closes a string whose inside begins at `from`; `None` where none does,
+/// or the inside is no string's.
+#[inline(always)]
+pub(crate) fn closed_string(text: &[u8], from: usize) -> Option<usize>
+    requires { from ≤ length text.now }
+    ensures bounds { IfSome result (λ i. (from < i) × (i ≤ length text.now)) }
+    ensures left { IfSome result (λ i. lex in_string (drop from text.now) ≡ left_at text.now i) }
+    ensures content { IfSome result (λ _. HasContent text.now from) }
+{
+    let end = plain_end(text, from);
+    // The usual string has no escape: another is read apart.
+    if byte_at(text, end) == b'"' {
+        return Some(end + 1);
+    }
+    escaped_string(text, end)
+}
+
+/// The first place from `from` on where no digit stands.
+#[inline(always)]
+fn digits_end(text: &[u8], from: usize) -> usize
+    requires { from ≤ length text.now }
+    ensures value { result ≡ from + prefix_len is_ascii_digit (drop from text.now) }
+    ensures bound { result ≤ length text.now }
+{
+    let mut i = from;
+    while i < text.len() && text[i].is_ascii_digit() {
+        i += 1;
+    }
+    i
+}
+
+/// The place after one digit or more.
+#[inline(always)]
+fn digits(text: &[u8], from: usize) -> Option<usize>
+    requires { from ≤ length text.now }
+    ensures { EndsAt text.now from result (after_digits (drop from text.now)) }
+{
+    let end = digits_end(text, from);
+    if end == from { None } else { Some(end) }
+}
+
+/// The place after a minus, or `from` where none stands.
+#[inline(always)]
+fn minus_end(text: &[u8], from: usize) -> usize
+    requires { from ≤ length text.now }
+    ensures value { drop result text.now ≡ after_minus (drop from text.now) }
+    ensures bounds { (from ≤ result) × (result ≤ length text.now) }
+{
+    if byte_at(text, from) == b'-' {
+        from + 1
+    } else {
+        from
+    }
+}
+
+/// The place after a sign, or `from` where none stands.
+#[inline(always)]
+fn sign_end(text: &[u8], from: usize) -> usize
+    requires { from ≤ length text.now }
+    ensures value { drop result text.now ≡ after_sign (drop from text.now) }
+    ensures bounds { (from ≤ result) × (result ≤ length text.now) }
+{
+    let c = byte_at(text, from);
+    if c == b'-' || c == b'+' {
+        from + 1
+    } else {
+        from
+    }
+}
+
+/// The place after the digits before a point: no other digit stands behind a zero.
+#[inline(always)]
+fn whole_end(text: &[u8], from: usize) -> Option<usize>
+    requires { from ≤ length text.now }
+    ensures { EndsAt text.now from result (after_whole (drop from text.now)) }
+{
+    if byte_at(text, from) == b'0' {
+        return Some(from + 1);
+    }
+    digits(text, from)
+}
+
+/// The place after a fraction, or `from` where none begins.
+#[inline(always)]
+fn fraction_end(text: &[u8], from: usize) -> Option<usize>
+    requires { from ≤ length text.now }
+    ensures { EndsAt text.now from result (after_fraction (drop from text.now)) }
+{
+    if byte_at(text, from) != b'.' {
+        return Some(from);
+    }
+    digits(text, from + 1)
+}
+
+/// The place after an exponent, or `from` where none begins.
+#[inline(always)]
+fn exponent_end(text: &[u8], from: usize) -> Option<usize>
+    requires { from ≤ length text.now }
+    ensures { EndsAt text.now from result (after_exponent (drop from text.now)) }
+{
+    let c = byte_at(text, from);
+    if c != b'e' && c != b'E' {
+        return Some(from);
+    }
+    digits(text, sign_end(text, from + 1))
+}
+
+/// The place after a number.
+#[inline(always)]
+#[tactic(auto, unfolding(json::specs::Word::after_number))]
+fn number_end(text: &[u8], from: usize) -> Option<usize>
+    requires { from ≤ length text.now }
+    ensures { EndsAt text.now from result (after_number (drop from text.now)) }
+{
+    let point = whole_end(text, minus_end(text, from))?;
+    let power = fraction_end(text, point)?;
+    exponent_end(text, power)
+}
+
+/// Whether these three bytes stand from `at` on.
+#[inline(always)]
+fn stand(text: &[u8], at: usize, a: u8, b: u8, c: u8) -> bool
+    requires { at ≤ length text.now }
+    ensures within { result ≡ true → at + 3 ≤ length text.now }
+    ensures bytes { result ≡ true → drop at text.now ≡ a ∷ (b ∷ (c ∷ drop (at + 3) text.now)) }
+{
+    text.len() - at >= 3 && text[at] == a && text[at + 1] == b && text[at + 2] == c
+}
+
+/// The place `end` if a number or a literal may end there.
+#[inline(always)]
+fn if_ended(text: &[u8], end: usize) -> Option<usize>
+    requires { end ≤ length text.now }
+    ensures { IfSome result (λ i. (i ≡ end) × (ends_word (drop end text.now) ≡ true)) }
+{
+    let c = byte_at(text, end);
+    if is_operator(c) || is_blank(c) {
+        Some(end)
+    } else {
+        None
+    }
+}
+
+/// The place after a number.
+#[inline(always)]
+fn number_close(text: &[u8], from: usize) -> Option<usize>
+    requires { from < length text.now }
+    ensures bounds { IfSome result (λ i. (from < i) × (i ≤ length text.now)) }
+    ensures spells { IfSome result (λ i. Spells text.now 0 from i) }
+{
+    let end = number_end(text, from)?;
+    if_ended(text, end)
+}
+
+/// The place after `true`, `false` or `null`.
+#[inline(always)]
+fn literal_close(text: &[u8], from: usize) -> Option<usize>
+    requires { from < length text.now }
+    ensures bounds { IfSome result (λ i. (from < i) × (i ≤ length text.now)) }
+    ensures spells { IfSome result (λ i. Spells text.now 0 from i) }
+{
+    let c = text[from];
+    if c == b't' && stand(text, from + 1, b'r', b'u', b'e') {
+        return if_ended(text, from + 4);
+    }
+    if c == b'n' && stand(text, from + 1, b'u', b'l', b'l') {
+        return if_ended(text, from + 4);
+    }
+    let second = byte_at(text, from + 1);
+    if c == b'f' && second == b'a' && stand(text, from + 2, b'l', b's', b'e') {
+        return if_ended(text, from + 5);
+    }
+    None
+}
+
+/// The place after the string, the number or the literal that begins at `from`; `None` where none does.
+#[inline(always)]
+pub(crate) fn leaf_end(text: &[u8], from: usize) -> Option<usize>
+    requires { from ≤ length text.now }
+    ensures bounds { IfSome result (λ i. (from < i) × (i ≤ length text.now)) }
+    ensures spells { IfSome result (λ i. Spells text.now 0 from i) }
+{
+    if from == text.len() {
+        return None;
+    }
+    let c = text[from];
+    if c == b'"' {
+        return closed_string(text, from + 1);
+    }
+    // A digit or a minus begins a number, a letter a literal.
+    if c <= b'9' {
+        number_close(text, from)
+    } else {
+        literal_close(text, from)
+    }
+}
