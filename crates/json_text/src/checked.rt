@@ -6,6 +6,7 @@ ghost use Rattle.json.specs.Json.{document};
 use crate::TextFault;
 use crate::reading::{find, is_deeper};
 use json::{MAX_DEPTH, Scratch, is_valid};
+use json_lexemes::is_json_within;
 use jsonptr::Pointer;
 use std::alloc::{AllocError, Global};
 
@@ -18,12 +19,13 @@ pub struct CheckedText<'a> {
 }
 
 impl<'a> CheckedText<'a> {
-    ghost use Rattle.std.specs.Prelude.{◌≡◌, None, IfErr, IfOk, OnOk, MatchOption};
+    ghost use Rattle.std.specs.Prelude.{◌≡◌, ◌≤◌, None, IfErr, IfOk, IfSome, OnOk, OnSome, MatchOption};
     ghost use Rattle.json.specs.Json.{Json};
     ghost use Rattle.jsonptr.specs.Pointers.{tokens_of};
     ghost use Rattle.json_text.specs.Checked.{text_in};
     ghost use Rattle.json_text.specs.Faults.{IsTextFault};
     ghost use Rattle.json_text.specs.Pointed.{tree_at, IsWrittenAt};
+    ghost use Rattle.json_lexemes.specs.Skipped.{nesting};
     ghost use Rattle.json_lexemes.specs.Spelled.{IsShallowText};
 
     /// The text, once it is checked.
@@ -36,6 +38,9 @@ impl<'a> CheckedText<'a> {
         ensures shallow { OnOk result ((j : Json) × IsShallowText text.now j) }
         ensures fault { IfErr result (IsTextFault text.now) }
     {
+        if let Some(checked) = CheckedText::within(text, MAX_DEPTH) {
+            return Ok(checked);
+        }
         let mut scratch = Scratch::new(alloc);
         if is_valid(text, &mut scratch)? {
             return Ok(CheckedText { text });
@@ -44,6 +49,27 @@ impl<'a> CheckedText<'a> {
             Err(TextFault::TooDeep)
         } else {
             Err(TextFault::NotJson)
+        }
+    }
+
+    /// The text, where it is JSON and nests at most so many levels deep, and no more than 128. It is
+    /// checked in one pass that takes no memory.
+    ///
+    /// `None` is the answer where it isn't so, but that is tested, not proved: [`CheckedText::new`] tells
+    /// what is wrong with a text.
+    ///
+    /// ```rust
+    /// let text = CheckedText::within(r#"{"list": [1.50, 2] }"#, 2);
+    /// // Some: the list stands in the object
+    /// ```
+    pub fn within(text: &'a str, levels: usize) -> Option<CheckedText<'a>>
+        ensures text { IfSome result (λ checked. text_in checked ≡ text.now) }
+        ensures depth { OnSome result (nesting text.now ≤ levels) }
+    {
+        if is_json_within(text.as_bytes(), levels.min(MAX_DEPTH)) {
+            Some(CheckedText::known(text))
+        } else {
+            None
         }
     }
 

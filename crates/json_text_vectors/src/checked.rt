@@ -52,6 +52,41 @@ fn calls(rt: HostRuntime) -> Result<(), Fail> {
     Ok(())
 }
 
+/// A text, and how deep it nests, or that it is no JSON.
+const NESTED: &[(&str, Option<usize>)] = &[
+    ("1.50", Some(0)),
+    (
+        r#" {"list": [1.50, {"a": "\ud83d\ude00\n"}], "a": -0e-7 } "#,
+        Some(3),
+    ),
+    ("[[], {}, [[]]]", Some(3)),
+    ("", None),
+    ("[1, 2", None),
+    ("[1, 2,]", None),
+    (r#"{"a" 1}"#, None),
+    (r#"{"a": 1]"#, None),
+    (r#"["\ud83d"]"#, None),
+    ("[01]", None),
+    ("[] []", None),
+];
+
+#[test]
+fn checked_within_levels(rt: HostRuntime) {
+    for (text, nested) in NESTED {
+        for levels in 0..5usize {
+            let is_within = match nested {
+                Some(depth) => *depth <= levels,
+                None => false,
+            };
+            assert_eq!(rt; CheckedText::within(text, levels).is_some(), is_within);
+        }
+        assert_eq!(rt;
+            CheckedText::within(text, 1_000).is_some(),
+            nested.is_some()
+        );
+    }
+}
+
 #[test]
 fn refusals(rt: HostRuntime) -> Result<(), Fail> {
     let a = rt.alloc();

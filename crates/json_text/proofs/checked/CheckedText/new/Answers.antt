@@ -9,3 +9,6 @@ returns-clause-fault c =
 
 pub returns-then-branch-clause-shallow : goal.returns-then-branch-clause-shallow
 returns-then-branch-clause-shallow c = accepted c.args.text.now (c.in_ok-is_valid.ensures.ok.0 c.if-branch.true)
+
+pub returns-in-Some-clause-shallow : goal.returns-in-Some-clause-shallow
+returns-in-Some-clause-shallow c = rw c.in-Some.ensures.text at (accepted c.in-Some.checked.text.now c.in-Some.checked.read)
