@@ -27,7 +27,7 @@ no_text l text (fault.Memory m) h = h
 -- its operations end early
 fault_within : (b : Bounds) (text patch : List ℕ) (os : List TextOperation) (f : TextLimitFault) → most_of b ≡ most_bytes b.limits text patch → HasTexts patch os → ((ops : List TreeOperation) → AreWrittenAs os ops → IsRunFaultUnder (Some b) text os ops f) → IsTextLimitFault b.limits text patch f
 fault_within b text patch os (within.Over e) most (ops, says, w, in_patch) runs = (os, ops, says, w, in_patch, subst (λ n. IsTextOverAt b.limits n text os ops e.operation e.kind) most (runs ops w))
-fault_within b text patch os (within.Patch (Document f)) most (ops, says, w, in_patch) runs = no_text b.limits text f (runs ops w).0
+fault_within b text patch os (within.Patch (Document f)) most (ops, says, w, in_patch) runs = absurd (runs ops w).0
 fault_within b text patch os (within.Patch (Patch f)) most (ops, says, w, in_patch) runs = absurd (runs ops w).0
 fault_within b text patch os (within.Patch (Unreadable e)) most (ops, says, w, in_patch) runs = absurd (runs ops w).0
 fault_within b text patch os (within.Patch (Refused e)) most (ops, says, w, in_patch) runs =

@@ -19,6 +19,15 @@ NamesFirstIn text ops e = RefusesTextAt text ops e.operation e.kind × (option_m
 
 -- ---- for private clauses
 
+-- why the document's text isn't read
+abbrev pub IsNoDocument : List ℕ → PatchTextFault → Type 0
+IsNoDocument text (Document f) = IsNoText text f
+IsNoDocument text (Patch f) = ⊥
+IsNoDocument text (Unreadable e) = ⊥
+IsNoDocument text (Refused e) = ⊥
+IsNoDocument text (TooDeep k) = ⊥
+IsNoDocument text (Memory m) = ⊤
+
 -- why the patch's text has no operations
 abbrev pub IsUnread : List ℕ → PatchTextFault → Type 0
 IsUnread patch (Document f) = ⊥
@@ -30,7 +39,7 @@ IsUnread patch (Memory m) = ⊤
 
 -- a run of the operations os, which are ops, ends so
 abbrev pub IsRunFault : List ℕ → List TextOperation → List TreeOperation → PatchTextFault → Type 0
-IsRunFault text os ops (Document f) = IsNoText text f
+IsRunFault text os ops (Document f) = ⊥
 IsRunFault text os ops (Patch f) = ⊥
 IsRunFault text os ops (Unreadable e) = ⊥
 IsRunFault text os ops (Refused e) = NamesFirstIn text ops e

@@ -1,10 +1,11 @@
 //! A JSON text patched by the text of a patch (RFC 6902).
 
-ghost use Rattle.std.specs.Prelude.{◌≡◌, IfErr, IfOk};
+ghost use Rattle.std.specs.Prelude.{◌≡◌, IfErr, IfOk, IfSome};
 ghost use Rattle.std.specs.String.{string_bytes};
 ghost use Rattle.json_patch_text.specs.Patched.{AcceptsPatch, HasTexts, IsPatchTextFault, IsPatchedText};
-ghost use Rattle.json_patch_text.specs.Stopped.{IsUnread, as_patch};
+ghost use Rattle.json_patch_text.specs.Stopped.{IsNoDocument, IsUnread, as_document, as_patch};
 ghost use Rattle.json_patch_text.specs.Within.{IsPatchedWithin, IsTextLimitFault, IsTextWithin, most_bytes};
+ghost use Rattle.json_text.specs.Checked.{text_in};
 
 use crate::bounds::Bounds;
 use crate::fault::{PatchTextFault, TextLimitFault};
@@ -24,6 +25,36 @@ fn patch_fault(fault: TextFault) -> PatchTextFault
         TextFault::Memory(failed) => PatchTextFault::Memory(failed),
         TextFault::NotJson => PatchTextFault::Patch(TextFault::NotJson),
         TextFault::TooDeep => PatchTextFault::Patch(TextFault::TooDeep),
+    }
+}
+
+/// The fault where the document's text isn't read.
+fn document_fault(fault: TextFault) -> PatchTextFault
+    ensures { result ≡ as_document fault }
+{
+    match fault {
+        TextFault::Memory(failed) => PatchTextFault::Memory(failed),
+        TextFault::NotJson => PatchTextFault::Document(TextFault::NotJson),
+        TextFault::TooDeep => PatchTextFault::Document(TextFault::TooDeep),
+    }
+}
+
+/// The document's text, checked here where it wasn't before.
+fn document<'a>(
+    alloc: Global,
+    text: &'a str,
+    checked: Option<CheckedText<'a>>,
+) -> Result<CheckedText<'a>, PatchTextFault>
+    requires { IfSome checked (λ checked. text_in checked ≡ text.now) }
+    ensures text { IfOk result (λ checked. text_in checked ≡ text.now) }
+    ensures fault { IfErr result (IsNoDocument text.now) }
+{
+    if let Some(checked) = checked {
+        return Ok(checked);
+    }
+    match CheckedText::new(alloc, text) {
+        Ok(checked) => Ok(checked),
+        Err(fault) => Err(document_fault(fault)),
     }
 }
 
@@ -63,7 +94,8 @@ pub fn patch_text(alloc: Global, text: &str, patch: &str) -> Result<String, Patc
     ensures fault { IfErr result (IsPatchTextFault text.now patch.now) }
 {
     let operations = operations_in(alloc, patch)?;
-    match run(alloc, text, operations.as_slice(), None) {
+    let document = document(alloc, text, None)?;
+    match run(alloc, document, operations.as_slice(), None) {
         Ok(new) => Ok(new),
         Err(TextLimitFault::Patch(fault)) => Err(fault),
         Err(TextLimitFault::Over(_)) => unreachable!(),
@@ -109,15 +141,18 @@ pub fn patch_text_within(
         (λ new. IsTextWithin limits (most_bytes limits text.now patch.now) (string_bytes new)) }
     ensures fault { IfErr result (IsTextLimitFault limits text.now patch.now) }
 {
-    if is_deeper(text, limits.depth) {
+    // One pass checks the text and how deep it nests, where nothing is wrong with it.
+    let checked = CheckedText::within(text, limits.depth);
+    if checked.is_none() && is_deeper(text, limits.depth) {
         let fault = PatchTextFault::Document(TextFault::TooDeep);
         return Err(TextLimitFault::Patch(fault));
     }
     let operations = operations_in(alloc, patch)?;
+    let document = document(alloc, text, checked)?;
     let bounds = Bounds {
         limits,
         document: text.len(),
         patch: patch.len(),
     };
-    run(alloc, text, operations.as_slice(), Some(bounds))
+    run(alloc, document, operations.as_slice(), Some(bounds))
 }

@@ -5,8 +5,9 @@ ghost use Rattle.std.specs.String.{string_bytes};
 ghost use Rattle.json_patch_text.specs.Bounded.{AreMadeUnder, IsRunFaultUnder, IsUnder};
 ghost use Rattle.json_patch_text.specs.Operations.{TreeOperation};
 ghost use Rattle.json_patch_text.specs.Run.{AcceptsText};
-ghost use Rattle.json_patch_text.specs.Stopped.{Reports, as_document};
+ghost use Rattle.json_patch_text.specs.Stopped.{Reports};
 ghost use Rattle.json_patch_text.specs.TextOperations.{AreWrittenAs, place_of};
+ghost use Rattle.json_text.specs.Checked.{text_in};
 
 use crate::bounds::{Bounds, is_nested, levels, over};
 use crate::fault::{PatchTextFault, StepFault, TextLimitFault};
@@ -16,7 +17,7 @@ use json::MAX_DEPTH;
 use json_patch_limits::limits::LimitError;
 use json_patch_operation::PatchError;
 use json_pieces::Pieces;
-use json_text::{CheckedText, TextFault};
+use json_text::CheckedText;
 use std::alloc::{AllocError, Global};
 
 /// The fault of a run in which the operation of this number was the first that wasn't made.
@@ -42,39 +43,24 @@ fn reported(
     }
 }
 
-/// The fault where the document's text isn't read.
-fn document_fault(fault: TextFault) -> PatchTextFault
-    ensures { result ≡ as_document fault }
-{
-    match fault {
-        TextFault::Memory(failed) => PatchTextFault::Memory(failed),
-        TextFault::NotJson => PatchTextFault::Document(TextFault::NotJson),
-        TextFault::TooDeep => PatchTextFault::Document(TextFault::TooDeep),
-    }
-}
-
 /// The text after the operations, one after another, within the bounds if there are any.
 ///
-/// The text is checked once, and put together at the end. How deep it nests after an operation is told
+/// It is put together at the end. How deep it nests after an operation is told
 /// by the value that was put in, and by a look at the whole only where that reaches too deep.
 pub(crate) fn run(
     alloc: Global,
-    text: &str,
+    text: CheckedText,
     operations: &[TextOperation],
     bounds: Option<Bounds>,
 ) -> Result<String, TextLimitFault>
-    requires under { IsUnder bounds text.now }
+    requires under { IsUnder bounds (text_in text) }
     requires written { (ops : List TreeOperation) × AreWrittenAs operations.now ops }
     ensures accepted { IfOk result (λ new. (ops : List TreeOperation)
-        → AreWrittenAs operations.now ops → AcceptsText text.now ops (string_bytes new)) }
-    ensures made { IfOk result (λ new. AreMadeUnder bounds text.now operations.now (string_bytes new)) }
+        → AreWrittenAs operations.now ops → AcceptsText (text_in text.entry) ops (string_bytes new)) }
+    ensures made { IfOk result (λ new. AreMadeUnder bounds (text_in text.entry) operations.now (string_bytes new)) }
     ensures fault { IfErr result (λ fault. (ops : List TreeOperation)
-        → AreWrittenAs operations.now ops → IsRunFaultUnder bounds text.now operations.now ops fault) }
+        → AreWrittenAs operations.now ops → IsRunFaultUnder bounds (text_in text.entry) operations.now ops fault) }
 {
-    let text = match CheckedText::new(alloc, text) {
-        Ok(text) => text,
-        Err(fault) => return Err(TextLimitFault::Patch(document_fault(fault))),
-    };
     let levels = levels(bounds);
     let mut pieces = Pieces::new(text);
     let mut deep = false;

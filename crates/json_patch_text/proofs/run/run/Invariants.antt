@@ -9,6 +9,6 @@ use Rattle.json_patch_text.proofs.run.run.Given as goal
 abbrev pub invariant-loop-number : goal.invariant-loop-number
 invariant-loop-number l = record {
   pieces : ArePieces l.pieces;
-  reached : IsReachedUnder l.bounds l.fn.text l.operations l.number (text_of l.pieces);
+  reached : IsReachedUnder l.bounds l.fn.text.text.now l.operations l.number (text_of l.pieces);
   deep : Decides l.deep (max_depth < nesting (text_of l.pieces));
 }
