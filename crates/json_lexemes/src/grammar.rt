@@ -128,7 +128,11 @@ fn past_closing(text: &[u8], from: usize, objects: &[bool], depth: usize) -> Opt
 }
 
 /// Whether the text is JSON (RFC 8259) and opens at most `levels` objects and arrays at once, 128 at the
-/// most.
+/// most: `[[1], 2]` is within 2 levels, and not within 1.
+///
+/// `true` is proved to mean this; `false` isn't proved to mean the opposite. It is meant to come for a text
+/// that isn't JSON and for one that opens more, so a caller may ask a slower check before it refuses one.
+/// Whether the bytes are UTF-8 isn't looked at. One pass, and no memory is taken.
 pub fn is_json_within(text: &[u8], levels: usize) -> bool
     ensures { IsTrue result → (j : Json) × Says text.now j × (depth j ≤ levels) }
 {
