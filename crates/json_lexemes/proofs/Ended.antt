@@ -2,7 +2,7 @@
 use Rattle.std.proofs.Common.{◌≡◌, ◌⊎◌, ℕ, zero, suc, ◌+◌, ◌-◌, ◌<◌, ◌≤◌, Bool, true, false, cond, ◌&&◌, ◌||◌, ◌==◌, nat_lt, List, [], ◌∷◌, ◌++◌, length, take, drop, get_or, Option, Some, None, inl, inr, refl, sym, ap, ap₂, ◌∙◌, subst, arith}
 use Rattle.std.proofs.Common.{drop-drop}
 use Rattle.std.proofs.lemmas.List.{take-append-drop, get_or_default, get_or_past}
-use Rattle.std.proofs.lemmas.Bool.{or_parts, not-true, eqb-true, cases_lt}
+use Rattle.std.proofs.lemmas.Bool.{or_parts, cases_lt}
 use Rattle.std.specs.Prelude.{nat_eq, IfSome, option_map}
 use Rattle.json.specs.Json.{Json, number, string, boolean, null}
 use Rattle.json.specs.Token as tokens
@@ -15,7 +15,7 @@ use Rattle.json.specs.Lex.{Lexeme, token, string_token, between, in_word, in_str
 use Rattle.json.proofs.Printed.Numbers.{number_alone, lex-number, in_word-ended}
 use Rattle.json_lexemes.specs.Places.{left_at}
 use Rattle.json_lexemes.specs.Spelled.{spelled}
-use Rattle.json_lexemes.specs.Grammar.{is_plain, HasContent, IsInside, Spells}
+use Rattle.json_lexemes.specs.Grammar.{is_stop, IsPlain, HasContent, IsInside, Spells}
 use Rattle.json_lexemes.proofs.Contents.{is_found}
 use Rattle.json_lexemes.proofs.Closed.{unit_goes}
 use Rattle.json_lexemes.proofs.Inside.{four, unit_at, quote_is, backslash_is, plain_is}
@@ -54,9 +54,9 @@ inside_itself t from = record { left = refl; content = λ h. h }
 pub inside_on : (t : List ℕ) (a b c : ℕ) → IsInside t a b → IsInside t b c → IsInside t a c
 inside_on t a b c p q = record { left = p.left ∙ q.left; content = λ h. p.content (q.content h) }
 
-pub plain_byte : (x : ℕ) → is_plain x ≡ true → (x ≡ 34 → ⊥) × (x ≡ 92 → ⊥) × (32 ≤ x)
+pub plain_byte : (x : ℕ) → is_stop x ≡ false → (x ≡ 34 → ⊥) × (x ≡ 92 → ⊥) × (32 ≤ x)
 plain_byte x h =
-    let p = or_parts ((x == 34) || (x == 92)) (nat_lt x 32) (not-true _ h) in
+    let p = or_parts ((x == 34) || (x == 92)) (nat_lt x 32) h in
     let q = or_parts (x == 34) (x == 92) p.0 in
     (no_number x 34 q.0, no_number x 92 q.1, grind arith)
   where
@@ -69,12 +69,25 @@ inside_byte t i h p = record {
   content = has_prepended (get_or t i 0 ∷ []) _ _ (plain_is t i h p.0 p.1 p.2);
 }
 
+pub inside_run : (t : List ℕ) (from n k : ℕ) → k ≡ from + n → k ≤ length t → IsPlain t from k → IsInside t from k
+inside_run t from zero k e h p = let same : from ≡ k = omega (arith, e) in subst (IsInside t from) same (inside_itself t from)
+inside_run t from (suc n) k e h p =
+    let i = from + n in
+    let next : i + 1 ≡ k = omega (arith, e) in
+    let there : i < length t = omega (arith, e, h) in
+    let before = inside_run t from n i refl (omega (arith, e, h)) (λ j le lt. p j le (omega (arith, e, lt))) in
+    subst (IsInside t from) next (inside_on t from i (i + 1) before (inside_byte t i there (plain_byte (get_or t i 0) (p i (omega arith) (omega (arith, next))))))
+
 pub inside_escape : (t bs : List ℕ) (i k : ℕ) → i < length t → get_or t i 0 ≡ 92 → lex in_escape (drop (i + 1) t) ≡ lex in_string (drop k t)
     → content after_backslash (drop (i + 1) t) ≡ prepend bs (content plain (drop k t)) → IsInside t i k
 inside_escape t bs i k h b l c = record {
   left = string_escapes t i h b ∙ l;
   content = has_prepended bs _ _ (backslash_is t i h b ∙ c);
 }
+
+pub content_on : (t : List ℕ) (from i : ℕ) (r : Option ℕ) → IsInside t from i → IfSome r (λ _. HasContent t i) → IfSome r (λ _. HasContent t from)
+content_on t from i None p h = tt
+content_on t from i (Some k) p h = p.content h
 
 pub inside_closes : (t : List ℕ) (from i : ℕ) → i < length t → get_or t i 0 ≡ 34 → IsInside t from i → (lex in_string (drop from t) ≡ left_at t (i + 1)) × HasContent t from
 inside_closes t from i h q p = (p.left ∙ string_closes t i h q, p.content ([], quote_is t i h q))

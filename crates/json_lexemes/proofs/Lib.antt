@@ -18,3 +18,4 @@ pub mod Parsed
 pub mod Nests
 pub mod Ended
 pub mod Completed
+pub mod Wide

@@ -1,59 +1,58 @@
 //! Strings, numbers and literals, each checked to its end against the grammar of JSON. Nothing here is
 //! recursive, and no memory is taken.
 
-ghost use Rattle.std.specs.Prelude.{◌≡◌, ◌≢◌, ◌<◌, ◌≤◌, ◌+◌, ◌∷◌, true, length, drop, get_or, IfSome};
+ghost use Rattle.std.specs.Prelude.{◌≡◌, ◌≢◌, ◌<◌, ◌≤◌, ◌+◌, ◌∷◌, true, length, drop, map, get_or, IfSome};
 ghost use Rattle.std.specs.List.{prefix_len};
 ghost use Rattle.std.specs.Char.{is_ascii_digit};
+ghost use Rattle.std.specs.Simd.Lanes.{mask_l};
 ghost use Rattle.json.specs.Lex.{in_string, lex};
 ghost use Rattle.json.specs.Run.{EndsAt};
 ghost use Rattle.json.specs.Word.{after_digits, after_minus, after_sign, after_whole, after_fraction, after_exponent, after_number, ends_word};
 ghost use Rattle.json_lexemes.specs.Places.{left_at};
-ghost use Rattle.json_lexemes.specs.Grammar.{HasContent, IsInside, Spells, is_plain};
+ghost use Rattle.json_lexemes.specs.Grammar.{is_stop, HasContent, IsPlain, Spells};
 
 use crate::lexemes::{byte_at, is_blank, is_operator};
 use crate::names::escaped;
+use std::simd::prelude::*;
 
-/// Of each byte: `1` where it stands for itself in a string, `0` for a quote, a backslash and the bytes
-/// below the space. One load takes the place of three comparisons.
-static PLAIN: [u8; 256] = *b"\
-    00000000000000000000000000000000\
-    11011111111111111111111111111111\
-    11111111111111111111111111110111\
-    11111111111111111111111111111111\
-    11111111111111111111111111111111\
-    11111111111111111111111111111111\
-    11111111111111111111111111111111\
-    11111111111111111111111111111111";
+/// How many bytes of a string are tested at once.
+const WIDE: usize = 16;
 
-/// How many bytes are tested between two tests for the text's end: as many as LLVM unrolls.
-const STRIDE: usize = 8;
-
-/// Whether this byte stands for itself in a string.
+/// Whether this byte doesn't stand for itself in a string.
 #[inline(always)]
-fn is_plain(c: u8) -> bool
-    ensures { result ≡ is_plain c }
+fn is_stop(c: u8) -> bool
+    ensures { result ≡ is_stop c }
 {
-    PLAIN[usize::from(c)] == b'1'
+    c == b'"' || c == b'\\' || c < b' '
 }
 
-/// The first place from `from` on, in a string, where no plain byte stands.
+/// A bit for each of these bytes, set where it doesn't stand for itself in a string.
+#[inline(always)]
+fn stops(bytes: u8x16) -> u64
+    ensures { result ≡ mask_l (map is_stop bytes) }
+{
+    let quotes = bytes.simd_eq(u8x16::splat(b'"'));
+    let backslashes = bytes.simd_eq(u8x16::splat(b'\\'));
+    let controls = bytes.simd_lt(u8x16::splat(b' '));
+    (quotes | backslashes | controls).to_bitmask()
+}
+
+/// The first place from `from` on, in a string, where a byte doesn't stand for itself, or the text's end.
 #[inline(always)]
 fn plain_end(text: &[u8], from: usize) -> usize
     requires { from ≤ length text.now }
     ensures bounds { (from ≤ result) × (result ≤ length text.now) }
-    ensures inside { IsInside text.now from result }
+    ensures plain { IsPlain text.now from result }
 {
     let mut i = from;
-    while text.len() - i >= STRIDE {
-        let stop = i + STRIDE;
-        while i < stop {
-            if !is_plain(text[i]) {
-                return i;
-            }
-            i += 1;
+    while text.len() - i >= WIDE {
+        let found = stops(u8x16::from_slice(&text[i..]));
+        if found != 0 {
+            return i + found.trailing_zeros() as usize;
         }
+        i += WIDE;
     }
-    while i < text.len() && is_plain(text[i]) {
+    while i < text.len() && !is_stop(text[i]) {
         i += 1;
     }
     i

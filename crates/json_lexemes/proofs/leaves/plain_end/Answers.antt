@@ -1,19 +1,35 @@
-use Rattle.std.proofs.Common.{◌≡◌, ◌<◌, ◌+◌, true, length, get_or, sym, ◌∙◌, arith}
-use Rattle.json_lexemes.specs.Grammar.{is_plain}
-use Rattle.json_lexemes.proofs.Ended.{inside_on, inside_byte, plain_byte}
+use Rattle.std.proofs.Common.{ap, ◌∙◌, ◌+◌, sym, arith}
+use lib.Count.{count_trailing_zeros}
+use Rattle.json_lexemes.proofs.Wide.{plain_on, plain_load, plain_stops, plain_byte}
 use Rattle.json_lexemes.proofs.leaves.plain_end.Goals as goal
+
+pub returns-then-found-ne0 : goal.returns-then-found-ne0
+returns-then-found-ne0 c =
+    let t = c.args.text.now in
+    let i = c.loop-i.i in
+    let found = c.stops-found.ensures in
+    let s = plain_stops t i _ (omega arith) (omega (arith, found)) (ap (count_trailing_zeros 64) found) in
+    record {
+      bounds = (omega arith, omega (arith, s.within));
+      plain = plain_on t c.args.from i _ c.loop-i.invariant.plain s.plain;
+    }
+
+pub loop-i-preserved : goal.loop-i-preserved
+loop-i-preserved c =
+    let t = c.args.text.now in
+    let i = c.loop-i.i in
+    record {
+      low = omega arith;
+      high = omega arith;
+      plain = plain_on t c.args.from i _ c.loop-i.invariant.plain (plain_load t i (omega arith) (omega (arith, c.stops-found.ensures)));
+    }
 
 pub loop-i-2-preserved : goal.loop-i-2-preserved
 loop-i-2-preserved c =
     let t = c.args.text.now in
     let i = c.loop-i-2.i in
-    let h : i < length t = omega arith in
-    let p : is_plain (get_or t i 0) ≡ true = sym c.is_plain.ensures ∙ c.if-not-is_plain.false in
-    record { low = omega arith; high = omega arith; inner = omega arith; on = omega arith; inside = inside_on t c.args.from i (i + 1) c.loop-i-2.invariant.inside (inside_byte t i h (plain_byte _ p)) }
-
-pub loop-i-3-preserved : goal.loop-i-3-preserved
-loop-i-3-preserved c =
-    let t = c.args.text.now in
-    let i = c.loop-i-3.i in
-    let p : is_plain (get_or t i 0) ≡ true = sym c.is_plain-in-loop-i-3.ensures ∙ c.if-is_plain.true in
-    record { low = omega arith; high = omega arith; inside = inside_on t c.args.from i (i + 1) c.loop-i-3.invariant.inside (inside_byte t i c.loop-i-3-test.true (plain_byte _ p)) }
+    record {
+      low = omega arith;
+      high = omega arith;
+      plain = plain_on t c.args.from i _ c.loop-i-2.invariant.plain (plain_byte t i (sym c.is_stop.ensures ∙ c.if-not-is_stop.true));
+    }
