@@ -1,16 +1,16 @@
 -- A check of a text against the grammar, a lexeme at a time.
 use Rattle.std.proofs.Common.{◌≡◌, ℕ, zero, suc, ◌+◌, ◌-◌, ◌<◌, ◌≤◌, Bool, true, false, cond, List, [], ◌∷◌, ◌++◌, length, drop, get_or, set, inl, inr, ◌⊎◌, ◌==◌, refl, sym, ap, ap₂, ◌∙◌, subst, arith, append_assoc, append-nil}
-use Rattle.std.specs.Prelude.{max, Option, Some, None, IfSome, nat_lt}
+use Rattle.std.specs.Prelude.{Option, Some, None, IfSome, nat_lt}
 use Rattle.std.proofs.lemmas.Bool.{false≢true, cases_lt, lt-ltb, le-ltb}
 use Rattle.std.proofs.lemmas.List.{get_or-set_other, get_or-set_same}
-use Rattle.json.specs.Json.{Json, array, object, Items, no_items, item, Members, no_members, member}
+use Rattle.json.specs.Json.{Json, array, object, no_items, item, no_members, member}
 use Rattle.json.specs.Token as tokens
 use Rattle.json.specs.Lex.{Lexeme, token, comma, colon, in_string, lex, operator_lexeme}
 use Rattle.json.specs.Word.{is_operator}
-use Rattle.json.specs.Tree.{depth, items_depth, members_depth}
+use Rattle.json.specs.Tree.{depth}
 use Rattle.json_lexemes.specs.Places.{left_at}
-use Rattle.json_lexemes.specs.Spelled.{spelled, first_items, more_items, first_members, more_members, Says}
-use Rattle.json_lexemes.specs.Grammar.{HasContent, Spells, Named, Opens, Continues, opening, closing, Remains, Completes, Begins, innermost}
+use Rattle.json_lexemes.specs.Spelled.{spelled, more_items, more_members, Says}
+use Rattle.json_lexemes.specs.Grammar.{HasContent, Spells, Named, Opens, Continues, opening, closing, Completes, Begins, innermost}
 use Rattle.json_lexemes.proofs.Steps.{operator_left}
 use Rattle.json_lexemes.proofs.Ended.{here, string_spells}
 

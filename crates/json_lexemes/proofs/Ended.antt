@@ -1,25 +1,24 @@
 -- Strings, numbers and literals that are checked to their end.
-use Rattle.std.proofs.Common.{◌≡◌, ◌⊎◌, ℕ, zero, suc, ◌+◌, ◌-◌, ◌<◌, ◌≤◌, Bool, true, false, cond, ◌&&◌, ◌||◌, ◌==◌, nat_lt, List, [], ◌∷◌, ◌++◌, length, take, drop, get_or, Option, Some, None, inl, inr, refl, sym, ap, ap₂, ◌∙◌, subst, arith}
+use Rattle.std.proofs.Common.{◌≡◌, ◌⊎◌, ℕ, zero, suc, ◌+◌, ◌-◌, ◌<◌, ◌≤◌, true, false, ◌||◌, ◌==◌, nat_lt, List, [], ◌∷◌, ◌++◌, length, take, drop, get_or, Option, Some, None, inl, inr, refl, sym, ap, ap₂, ◌∙◌, subst, arith}
 use Rattle.std.proofs.Common.{drop-drop}
 use Rattle.std.proofs.lemmas.List.{take-append-drop, get_or_default, get_or_past}
 use Rattle.std.proofs.lemmas.Bool.{or_parts, cases_lt}
-use Rattle.std.specs.Prelude.{nat_eq, IfSome, option_map}
-use Rattle.json.specs.Json.{Json, number, string, boolean, null}
+use Rattle.std.specs.Prelude.{IfSome}
+use Rattle.json.specs.Json.{number, string, boolean, null}
 use Rattle.json.specs.Token as tokens
 use Rattle.json.specs.Text.{content, plain, after_backslash, prepend}
 use Rattle.json.specs.Word.{ends_word, word, after_number}
 use Rattle.json.specs.Run.{EndsAt}
 use Rattle.json.specs.Print.{IsNumber}
 use Rattle.std.proofs.lemmas.Option.{none-some}
-use Rattle.json.specs.Lex.{Lexeme, token, string_token, between, in_word, in_string, in_escape, lex, lex_byte}
+use Rattle.json.specs.Lex.{Lexeme, token, string_token, between, in_string, in_escape, lex}
 use Rattle.json.proofs.Printed.Numbers.{number_alone, lex-number, in_word-ended}
 use Rattle.json_lexemes.specs.Places.{left_at}
-use Rattle.json_lexemes.specs.Spelled.{spelled}
-use Rattle.json_lexemes.specs.Grammar.{is_stop, IsPlain, HasContent, IsInside, Spells}
+use Rattle.json_lexemes.specs.Grammar.{is_stop, IsFree, HasContent, IsInside, Spells}
 use Rattle.json_lexemes.proofs.Contents.{is_found}
 use Rattle.json_lexemes.proofs.Closed.{unit_goes}
 use Rattle.json_lexemes.proofs.Inside.{four, unit_at, quote_is, backslash_is, plain_is}
-use Rattle.json_lexemes.proofs.Steps.{drop_step, escaped, escape_passes, string_closes, string_escapes, string_passes}
+use Rattle.json_lexemes.proofs.Steps.{drop_step, escaped, string_closes, string_escapes, string_passes}
 
 -- a byte that is read with a blank past the end
 pub here : (t : List ℕ) (i x : ℕ) → (32 ≡ x → ⊥) → get_or t i 32 ≡ x → (i < length t) × (get_or t i 0 ≡ x)
@@ -69,7 +68,7 @@ inside_byte t i h p = record {
   content = has_prepended (get_or t i 0 ∷ []) _ _ (plain_is t i h p.0 p.1 p.2);
 }
 
-pub inside_run : (t : List ℕ) (from n k : ℕ) → k ≡ from + n → k ≤ length t → IsPlain t from k → IsInside t from k
+pub inside_run : (t : List ℕ) (from n k : ℕ) → k ≡ from + n → k ≤ length t → IsFree is_stop t from k → IsInside t from k
 inside_run t from zero k e h p = let same : from ≡ k = omega (arith, e) in subst (IsInside t from) same (inside_itself t from)
 inside_run t from (suc n) k e h p =
     let i = from + n in

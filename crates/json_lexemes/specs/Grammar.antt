@@ -1,5 +1,6 @@
 -- What a check of a text against the grammar has passed over, and what must follow.
-use Rattle.std.specs.Prelude.{◌≡◌, ◌≤◌, ℕ, zero, suc, Bool, true, false, ◌||◌, ◌==◌, nat_lt, ◌<◌, List, [], ◌∷◌, ◌++◌, drop, get_or, Some}
+use Rattle.std.specs.Prelude.{◌≡◌, ◌≤◌, ℕ, zero, suc, Bool, true, false, not, ◌||◌, ◌==◌, nat_lt, ◌<◌, List, [], ◌∷◌, ◌++◌, drop, get_or, Some}
+use Rattle.std.specs.Char.{is_ascii_digit}
 use Rattle.json.specs.Json.{Json, Items, Members}
 use Rattle.json.specs.Token as t
 use Rattle.json.specs.Text.{content, plain}
@@ -8,15 +9,19 @@ use Rattle.json.specs.Tree.{depth, items_depth, members_depth}
 use Rattle.json_lexemes.specs.Places.{left_at}
 use Rattle.json_lexemes.specs.Spelled.{spelled, more_items, more_members}
 
--- ---- strings
+-- ---- runs of bytes, and strings
 
 -- a byte that doesn't stand for itself in a string: a quote, a backslash or a control byte
 abbrev pub is_stop : ℕ → Bool
 is_stop x = (x == 34) || (x == 92) || nat_lt x 32
 
--- each byte from `from` to i stands for itself
-abbrev pub IsPlain : List ℕ → ℕ → ℕ → Type 0
-IsPlain t from i = (k : ℕ) → from ≤ k → k < i → is_stop (get_or t k 0) ≡ false
+-- a byte at which a run of digits ends
+abbrev pub is_no_digit : ℕ → Bool
+is_no_digit x = not (is_ascii_digit x)
+
+-- no byte from `from` to i passes p
+abbrev pub IsFree : (ℕ → Bool) → List ℕ → ℕ → ℕ → Type 0
+IsFree p t from i = (k : ℕ) → from ≤ k → k < i → p (get_or t k 0) ≡ false
 
 -- from i on stands the inside of a string, and the quote that closes it
 abbrev pub HasContent : List ℕ → ℕ → Type 0

@@ -9,7 +9,7 @@ ghost use Rattle.json.specs.Lex.{in_string, lex};
 ghost use Rattle.json.specs.Run.{EndsAt};
 ghost use Rattle.json.specs.Word.{after_digits, after_minus, after_sign, after_whole, after_fraction, after_exponent, after_number, ends_word};
 ghost use Rattle.json_lexemes.specs.Places.{left_at};
-ghost use Rattle.json_lexemes.specs.Grammar.{is_stop, HasContent, IsPlain, Spells};
+ghost use Rattle.json_lexemes.specs.Grammar.{is_no_digit, is_stop, HasContent, IsFree, Spells};
 
 use crate::lexemes::{byte_at, is_blank, is_operator};
 use crate::names::escaped;
@@ -42,7 +42,7 @@ fn stops(bytes: u8x16) -> u64
 fn plain_end(text: &[u8], from: usize) -> usize
     requires { from ≤ length text.now }
     ensures bounds { (from ≤ result) × (result ≤ length text.now) }
-    ensures plain { IsPlain text.now from result }
+    ensures plain { IsFree is_stop text.now from result }
 {
     let mut i = from;
     while text.len() - i >= WIDE {
@@ -96,14 +96,31 @@ pub(crate) fn closed_string(text: &[u8], from: usize) -> Option<usize>
     escaped_string(text, end)
 }
 
+/// A bit for each of these bytes, set where it is no digit.
+#[inline(always)]
+fn non_digits(bytes: u8x16) -> u64
+    ensures { result ≡ mask_l (map is_no_digit bytes) }
+{
+    (bytes - u8x16::splat(b'0'))
+        .simd_ge(u8x16::splat(10))
+        .to_bitmask()
+}
+
 /// The first place from `from` on where no digit stands.
 #[inline(always)]
 fn digits_end(text: &[u8], from: usize) -> usize
     requires { from ≤ length text.now }
+    ensures bounds { (from ≤ result) × (result ≤ length text.now) }
     ensures value { result ≡ from + prefix_len is_ascii_digit (drop from text.now) }
-    ensures bound { result ≤ length text.now }
 {
     let mut i = from;
+    while text.len() - i >= WIDE {
+        let found = non_digits(u8x16::from_slice(&text[i..]));
+        if found != 0 {
+            return i + found.trailing_zeros() as usize;
+        }
+        i += WIDE;
+    }
     while i < text.len() && text[i].is_ascii_digit() {
         i += 1;
     }

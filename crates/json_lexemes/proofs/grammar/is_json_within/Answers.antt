@@ -1,8 +1,8 @@
-use Rattle.std.proofs.Common.{◌≡◌, ◌<◌, ◌-◌, ◌+◌, ◌==◌, [], length, get_or, ap, ◌∙◌, refl, sym, subst, arith}
+use Rattle.std.proofs.Common.{◌≡◌, ◌<◌, ◌-◌, ◌==◌, [], length, get_or, ◌∙◌, sym, arith}
 use Rattle.std.proofs.lemmas.Bool.Decides.{Decides-ltb, Decides-eqb}
 use Rattle.std.proofs.lemmas.List.{length-set}
 use Rattle.json_lexemes.specs.Places.{left_at}
-use Rattle.json_lexemes.specs.Grammar.{Begins, innermost}
+use Rattle.json_lexemes.specs.Grammar.{innermost}
 use Rattle.json_lexemes.proofs.Trimmed.{end_left}
 use Rattle.json_lexemes.proofs.Completed.{opens_on, whole_begins, room_for}
 use Rattle.json_lexemes.proofs.grammar.is_json_within.Goals as goal

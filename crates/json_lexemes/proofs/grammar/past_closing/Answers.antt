@@ -1,4 +1,4 @@
-use Rattle.std.proofs.Common.{◌-◌, ◌+◌, refl, arith}
+use Rattle.std.proofs.Common.{arith}
 use Rattle.json_lexemes.proofs.Completed.{next_on, closing_on}
 use Rattle.json_lexemes.proofs.grammar.past_closing.Goals as goal
 

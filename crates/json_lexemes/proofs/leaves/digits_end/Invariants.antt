@@ -1,13 +1,23 @@
-use Rattle.std.proofs.Common.{◌≡◌, ◌+◌, ◌-◌, ◌≤◌, length, drop}
-use Rattle.std.specs.List.{prefix_len}
-use Rattle.std.specs.Char.{is_ascii_digit}
+use Rattle.std.proofs.Common.{◌-◌, ◌≤◌, length}
+use Rattle.json_lexemes.specs.Grammar.{is_no_digit, IsFree}
 use Rattle.json_lexemes.proofs.leaves.digits_end.Given as goal
 
 abbrev pub invariant-loop-i : goal.invariant-loop-i
 invariant-loop-i l = record {
+  low : l.from ≤ l.i;
   high : l.i ≤ length l.text;
-  same : l.i + prefix_len is_ascii_digit (drop l.i l.text) ≡ l.from + prefix_len is_ascii_digit (drop l.from l.text);
+  digits : IsFree is_no_digit l.text l.from l.i;
 }
 
 abbrev pub decreases-loop-i : goal.decreases-loop-i
 decreases-loop-i l = length l.text - l.i
+
+abbrev pub invariant-loop-i-2 : goal.invariant-loop-i-2
+invariant-loop-i-2 l = record {
+  low : l.from ≤ l.i;
+  high : l.i ≤ length l.text;
+  digits : IsFree is_no_digit l.text l.from l.i;
+}
+
+abbrev pub decreases-loop-i-2 : goal.decreases-loop-i-2
+decreases-loop-i-2 l = length l.text - l.i

@@ -1,4 +1,4 @@
-use Rattle.std.proofs.Common.{◌≡◌, ◌<◌, ◌+◌, ◌-◌, length, get_or, sym, ◌∙◌, arith}
+use Rattle.std.proofs.Common.{◌-◌, sym, ◌∙◌, arith}
 use Rattle.json_lexemes.proofs.Ended.{here, inside_on, inside_escape, inside_closes, inside_run}
 use Rattle.json_lexemes.proofs.leaves.escaped_string.Goals as goal
 

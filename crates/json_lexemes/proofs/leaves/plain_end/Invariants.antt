@@ -1,12 +1,12 @@
 use Rattle.std.proofs.Common.{◌-◌, ◌≤◌, length}
-use Rattle.json_lexemes.specs.Grammar.{IsPlain}
+use Rattle.json_lexemes.specs.Grammar.{is_stop, IsFree}
 use Rattle.json_lexemes.proofs.leaves.plain_end.Given as goal
 
 abbrev pub invariant-loop-i : goal.invariant-loop-i
 invariant-loop-i l = record {
   low : l.from ≤ l.i;
   high : l.i ≤ length l.text;
-  plain : IsPlain l.text l.from l.i;
+  plain : IsFree is_stop l.text l.from l.i;
 }
 
 abbrev pub decreases-loop-i : goal.decreases-loop-i
@@ -16,7 +16,7 @@ abbrev pub invariant-loop-i-2 : goal.invariant-loop-i-2
 invariant-loop-i-2 l = record {
   low : l.from ≤ l.i;
   high : l.i ≤ length l.text;
-  plain : IsPlain l.text l.from l.i;
+  plain : IsFree is_stop l.text l.from l.i;
 }
 
 abbrev pub decreases-loop-i-2 : goal.decreases-loop-i-2
