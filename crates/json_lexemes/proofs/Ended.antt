@@ -14,7 +14,7 @@ use Rattle.std.proofs.lemmas.Option.{none-some}
 use Rattle.json.specs.Lex.{Lexeme, token, string_token, between, in_string, in_escape, lex}
 use Rattle.json.proofs.Printed.Numbers.{number_alone, lex-number, in_word-ended}
 use Rattle.json_lexemes.specs.Places.{left_at}
-use Rattle.json_lexemes.specs.Grammar.{is_stop, IsFree, HasContent, IsInside, Spells}
+use Rattle.json_lexemes.specs.Grammar.{is_stop, IsFree, HasContent, Spells}
 use Rattle.json_lexemes.proofs.Contents.{is_found}
 use Rattle.json_lexemes.proofs.Closed.{unit_goes}
 use Rattle.json_lexemes.proofs.Inside.{four, unit_at, quote_is, backslash_is, plain_is}
@@ -43,6 +43,11 @@ passes_by None a b f e h = tt
 passes_by (Some p) a b f e h = e ∙ h
 
 -- ---- the inside of a string
+
+-- the bytes from `from` to i are of a string's inside
+pub record IsInside (t : List ℕ) (from i : ℕ) : Type 0 where
+  pub left : lex in_string (drop from t) ≡ lex in_string (drop i t)
+  pub content : HasContent t i → HasContent t from
 
 has_prepended : (bs : List ℕ) (o p : Option (List ℕ)) → o ≡ prepend bs p → (s : List ℕ) × (p ≡ Some s) → (s : List ℕ) × (o ≡ Some s)
 has_prepended bs o p e h = (bs ++ h.0, e ∙ ap (prepend bs) h.1)

@@ -4,7 +4,7 @@ use Rattle.std.specs.Char.{is_ascii_digit}
 use Rattle.json.specs.Json.{Json, Items, Members}
 use Rattle.json.specs.Token as t
 use Rattle.json.specs.Text.{content, plain}
-use Rattle.json.specs.Lex.{Lexeme, token, comma, colon, in_string, lex}
+use Rattle.json.specs.Lex.{Lexeme, token, comma, colon}
 use Rattle.json.specs.Tree.{depth, items_depth, members_depth}
 use Rattle.json_lexemes.specs.Places.{left_at}
 use Rattle.json_lexemes.specs.Spelled.{spelled, more_items, more_members}
@@ -26,11 +26,6 @@ IsFree p t from i = (k : ℕ) → from ≤ k → k < i → p (get_or t k 0) ≡ 
 -- from i on stands the inside of a string, and the quote that closes it
 abbrev pub HasContent : List ℕ → ℕ → Type 0
 HasContent t i = (s : List ℕ) × (content plain (drop i t) ≡ Some s)
-
--- the bytes from `from` to i are of a string's inside
-pub record IsInside (t : List ℕ) (from i : ℕ) : Type 0 where
-  pub left : lex in_string (drop from t) ≡ lex in_string (drop i t)
-  pub content : HasContent t i → HasContent t from
 
 -- ---- values
 

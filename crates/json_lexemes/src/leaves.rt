@@ -1,7 +1,7 @@
 //! Strings, numbers and literals, each checked to its end against the grammar of JSON. Nothing here is
 //! recursive, and no memory is taken.
 
-ghost use Rattle.std.specs.Prelude.{◌≡◌, ◌≢◌, ◌<◌, ◌≤◌, ◌+◌, ◌∷◌, true, length, drop, map, get_or, IfSome};
+ghost use Rattle.std.specs.Prelude.{◌≡◌, ◌<◌, ◌≤◌, ◌+◌, ◌∷◌, true, length, drop, map, get_or, IfSome};
 ghost use Rattle.std.specs.List.{prefix_len};
 ghost use Rattle.std.specs.Char.{is_ascii_digit};
 ghost use Rattle.std.specs.Simd.Lanes.{mask_l};
@@ -15,7 +15,7 @@ use crate::lexemes::{byte_at, is_blank, is_operator};
 use crate::names::escaped;
 use std::simd::prelude::*;
 
-/// How many bytes of a string are tested at once.
+/// How many bytes of a string, or of a number's digits, are tested at once.
 const WIDE: usize = 16;
 
 /// Whether this byte doesn't stand for itself in a string.

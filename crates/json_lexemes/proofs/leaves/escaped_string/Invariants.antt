@@ -1,5 +1,5 @@
 use Rattle.std.proofs.Common.{length, ◌-◌, ◌≤◌}
-use Rattle.json_lexemes.specs.Grammar.{IsInside}
+use Rattle.json_lexemes.proofs.Ended.{IsInside}
 use Rattle.json_lexemes.proofs.leaves.escaped_string.Given as goal
 
 abbrev pub invariant-loop-i : goal.invariant-loop-i
