@@ -39,6 +39,7 @@ CAPTIONS = {
     "json_patch_c": ("the calls for C and Python", "library"),
     "json_patch_tool": ("the program, bytes to bytes", "program"),
     "json_patch_uses": ("proved examples", "program"),
+    "json_patch_examples": ("the README's examples, tests", "test"),
     "json_patch_vectors": ("tables of cases", "test"),
     "json_text_vectors": ("tables of texts", "test"),
     "json_patch_memory": ("one call, for memory/run", "test"),

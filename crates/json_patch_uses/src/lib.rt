@@ -7,16 +7,12 @@ mod history;
 mod layers;
 mod newest;
 mod pointers;
-#[cfg(test)]
-mod readme;
 mod replaced;
 mod section;
 mod session;
 mod settings;
 mod shared;
 mod store;
-#[cfg(test)]
-mod tests;
 mod texts;
 mod versioned;
 

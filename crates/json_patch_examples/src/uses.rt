@@ -1,13 +1,13 @@
-//! Each program on an example.
+//! Each program of `json_patch_uses` on an example.
 
-use crate::{
+use json_patch::jsonptr::Pointer;
+use json_patch::{Fault, Patch, document_from_str, is_whole, patch};
+use json_patch_editor::Editor;
+use json_patch_uses::{
     ChangeFault, GuardFault, Guarded, SectionFault, Settings, SharedDocument, Store, VersionFault,
     depth, first_example, item, member, merge_all, number_or, patch_section, patched, replace_with,
     tried, undo_newest, update_version,
 };
-use json_patch::jsonptr::Pointer;
-use json_patch::{Fault, Patch, document_from_str, is_whole, patch};
-use json_patch_editor::Editor;
 use serde_json::Value;
 use std::test::Fail;
 

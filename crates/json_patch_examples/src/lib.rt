@@ -1,0 +1,8 @@
+//! Tests of `json_patch_uses`, and the examples that the README and the crates' comments show, each as
+//! a proved function. It has no public item.
+#![tactic(auto)]
+
+#[cfg(test)]
+mod readme;
+#[cfg(test)]
+mod uses;
