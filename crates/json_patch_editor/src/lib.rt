@@ -7,12 +7,8 @@
 //! ```
 #![tactic(auto)]
 
-#[cfg(test)]
-mod callers;
 mod editor;
 pub mod laws;
 mod shifting;
-#[cfg(test)]
-mod tests;
 
 pub use editor::Editor;

@@ -3,8 +3,8 @@ use Rattle.serde_json.specs.View.{view}
 use Rattle.json_patch.specs.Operation.{operations, operations_of}
 use Rattle.json_patch.specs.Run.{Accepts}
 use Rattle.json_patch_editor.specs.Shown.{versions}
-use Rattle.json_patch_editor.proofs.Rounds.{rounds}
-use Rattle.json_patch_editor.proofs.callers.back_and_on.Goals as goal
+use Rattle.json_patch_examples.proofs.Rounds.{rounds}
+use Rattle.json_patch_examples.proofs.callers.back_and_on.Goals as goal
 
 pub returns : goal.returns
 returns c =

@@ -1,4 +1,5 @@
-//! A caller with a contract of its own, which rests on the public contracts and laws alone.
+//! A caller of `json_patch_editor` with a contract of its own, which rests on the public contracts and
+//! laws alone.
 
 ghost use Rattle.std.specs.Prelude.{◌∷◌, [], IfOk, true, false};
 ghost use Rattle.serde_json.specs.View.{view};
@@ -8,8 +9,8 @@ ghost use Rattle.json_patch_editor.specs.Commands.{RepliesInTurn, accepted, appl
 ghost use Rattle.json_patch_editor.specs.Shown.{versions};
 ghost use Rattle.json_patch_editor.specs.Versions.{initial};
 
-use crate::{Editor, laws};
 use json_patch::{Patch, PatchFault};
+use json_patch_editor::{Editor, laws};
 use serde_json::Value;
 use std::alloc::Global;
 use std::test::Fail;
