@@ -37,6 +37,7 @@ CAPTIONS = {
     "json_patch_bytes": ("from bytes to bytes, or why not", "library"),
     "json_patch_text_bytes": ("texts in place, bytes to bytes", "library"),
     "json_patch_c": ("the calls for C and Python", "library"),
+    "json_patch_answers": ("what the program answers to bytes", "library"),
     "json_patch_tool": ("the program, bytes to bytes", "program"),
     "json_patch_uses": ("proved examples", "program"),
     "json_patch_examples": ("the README's examples, tests", "test"),

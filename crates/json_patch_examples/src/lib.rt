@@ -1,5 +1,5 @@
-//! Tests of `json_patch_editor` and `json_patch_uses`, and the examples that the README and the crates'
-//! comments show, each as a proved function. It has no public item.
+//! Tests of `json_patch_editor`, `json_patch_answers` and `json_patch_uses`, and the examples that the
+//! README and the crates' comments show, each as a proved function. It has no public item.
 #![tactic(auto)]
 
 #[cfg(test)]
@@ -8,5 +8,7 @@ mod callers;
 mod editor;
 #[cfg(test)]
 mod readme;
+#[cfg(test)]
+mod texts;
 #[cfg(test)]
 mod uses;

@@ -1,9 +1,2 @@
-pub mod ModeAnswers
-pub mod Below
-pub mod SomeAnswer
-pub mod OneEdit
-pub mod Commands
 pub mod MovedBytes
-pub mod OneAnswer
-pub mod Pairs
-pub mod RecordLines
+pub mod Runs

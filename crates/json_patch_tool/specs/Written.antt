@@ -1,11 +1,11 @@
 -- What a run writes, and how it ends.
 use Rattle.std.specs.Prelude.{◌≡◌, ◌⊎◌, ℕ, List, Option, Ok, Err, IfSome, take}
 use Rattle.std.specs.Io.KnownBytes.{Appends, Keeps}
-use Rattle.json_patch_tool.specs.Answer.{Answer}
-use Rattle.json_patch_tool.specs.Statuses.{status_of}
-use Rattle.json_patch_tool.specs.declared.mode.Mode.{Mode}
-use Rattle.json_patch_tool.specs.declared.fault.ToolFault.{ToolFault}
-use Rattle.json_patch_tool.specs.declared.fault.ToolFault.TheVariants.{Memory, ReadFailed, WriteFailed}
+use Rattle.json_patch_answers.specs.Answer.{Answer}
+use Rattle.json_patch_answers.specs.Statuses.{status_of}
+use Rattle.json_patch_answers.specs.declared.mode.Mode.{Mode}
+use Rattle.json_patch_answers.specs.declared.fault.ToolFault.{ToolFault}
+use Rattle.json_patch_answers.specs.declared.fault.ToolFault.TheVariants.{Memory, ReadFailed, WriteFailed}
 
 -- the line that answers the input was written, and nothing else
 abbrev pub WritesAnswer : Mode → List ℕ → Option (List ℕ) → Option (List ℕ) → Type 0

@@ -3,16 +3,13 @@
 ghost use Rattle.std.specs.Prelude.{◌≡◌, ◌≢◌, ◌≤◌, ◌<◌, ◌⊎◌, ◌↔◌, ℕ, List, length, take, Ok, Err, IfOk, IfErr, IfSome};
 ghost use Rattle.std.specs.Prelude.{OnOk, OnErr, IsErrOf, vec_len, true, false};
 ghost use Rattle.std.specs.Io.KnownBytes.{Keeps, Appends, Consumes};
-ghost use Rattle.json_patch_tool.specs.Answer.{Answer};
+ghost use Rattle.json_patch_answers.specs.Answer.{Answer};
 ghost use Rattle.json_patch_tool.specs.Watched.{IsUnread, IsUnwritten};
 ghost use Rattle.json_patch_tool.specs.Written.{WritesAnswer, BeginsAnswer};
-ghost use Rattle.json_patch_tool.specs.declared.fault.ToolFault.TheVariants.{Memory, TooLarge, ReadFailed, WriteFailed};
+ghost use Rattle.json_patch_answers.specs.declared.fault.ToolFault.TheVariants.{Memory, TooLarge, ReadFailed, WriteFailed};
 
-use crate::answer::respond;
-use crate::fault::ToolFault;
-use crate::input::MAX_INPUT;
-use crate::mode::Mode;
 use crate::watch::{WatchedReader, WatchedWriter};
+use json_patch_answers::{MAX_INPUT, Mode, ToolFault, respond};
 use std::alloc::Global;
 use std::io::{ErrorKind, Read, Write};
 

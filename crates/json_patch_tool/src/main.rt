@@ -5,24 +5,14 @@
 //! patches and of the words `undo` and `redo`, which an editor of the document does in turn.
 #![tactic(auto)]
 
-mod answer;
 mod edge;
-mod editing;
-mod fault;
-mod input;
-pub mod laws;
-mod line;
-mod mode;
 mod program;
 #[cfg(test)]
 mod tests;
 mod watch;
 
-pub use answer::respond;
 pub use edge::{MAX_READS, run, run_watched};
-pub use fault::{ToolFault, status};
-pub use input::MAX_INPUT;
-pub use mode::{Mode, mode_of, usage};
+pub use json_patch_answers::{MAX_INPUT, Mode, ToolFault, laws, mode_of, respond, status, usage};
 use std::env;
 use std::process::ExitCode;
 pub use watch::{WatchedReader, WatchedWriter};

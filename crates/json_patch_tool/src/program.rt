@@ -3,15 +3,14 @@
 ghost use Rattle.std.specs.Prelude.{◌≡◌, ◌≢◌, ◌↔◌, Some, None, Ok, Err, IfOk, IfErr, OnOk, IsOkAnd, map, string_bytes};
 ghost use Rattle.std.specs.Vec.Iter.{into_iter_items};
 ghost use Rattle.std.specs.IoError.{error_kind};
-ghost use Rattle.json_patch_tool.specs.Modes.{AsksFor};
-ghost use Rattle.json_patch_tool.specs.Statuses.{status_of};
+ghost use Rattle.json_patch_answers.specs.Modes.{AsksFor};
+ghost use Rattle.json_patch_answers.specs.Statuses.{status_of};
 ghost use Rattle.json_patch_tool.specs.Written.{EndsWith};
-ghost use Rattle.json_patch_tool.specs.declared.fault.ToolFault.TheVariants.{Memory};
-ghost use Rattle.json_patch_tool.specs.declared.mode.Mode.{Mode};
+ghost use Rattle.json_patch_answers.specs.declared.fault.ToolFault.TheVariants.{Memory};
+ghost use Rattle.json_patch_answers.specs.declared.mode.Mode.{Mode};
 
 use crate::edge::run;
-use crate::fault::{ToolFault, status};
-use crate::mode::{Mode, mode_of, usage};
+use json_patch_answers::{Mode, ToolFault, mode_of, status, usage};
 use std::alloc::Global;
 use std::env::Args;
 use std::io;

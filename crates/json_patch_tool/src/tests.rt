@@ -8,34 +8,14 @@ mod fakes;
 mod inputs;
 mod refusals;
 mod streams;
-mod texts;
 
 use crate::edge::run;
-use crate::fault::{ToolFault, status};
-use crate::mode::Mode;
 use crate::program::run_as_asked;
 use fakes::{Drip, Trouble, writer_with};
-use std::fmt::Debug;
+use json_patch_answers::{Mode, ToolFault, status};
 use std::io::Read;
 use std::process::Abort;
 use std::test::Fail;
-
-/// Asserts the status and the text of a fault; `at` says of which case.
-fn assert_fault<C: Debug>(
-    rt: &(impl Abort + AllocGlobal),
-    fault: &ToolFault,
-    number: u8,
-    text: &str,
-    at: &C,
-) -> Result<(), Fail> {
-    assert_eq!(rt; status(fault), number, "at {at:?}");
-    assert_eq!(rt;
-        format!(in rt.alloc(); "{fault}")?.as_str(),
-        text,
-        "at {at:?}"
-    );
-    Ok(())
-}
 
 /// Asserts that the input, read byte by byte, is refused with this text and status, and that
 /// nothing is written.
@@ -51,7 +31,11 @@ fn refuse(
         let mut reader = Drip::new(input, 1, interrupts);
         match run(rt.alloc(), mode, &mut reader, &mut writer) {
             Ok(()) => assert!(rt; false, "{text} is wanted at {input:?}"),
-            Err(fault) => assert_fault(rt, &fault, number, text, &input)?,
+            Err(fault) => {
+                let told = format!(in rt.alloc(); "{fault}")?;
+                assert_eq!(rt; status(&fault), number, "at {input:?}");
+                assert_eq!(rt; told.as_str(), text, "at {input:?}");
+            }
         }
         assert_eq!(rt; writer.calls, 0);
     }

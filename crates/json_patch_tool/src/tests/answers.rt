@@ -6,9 +6,8 @@ use super::inputs::{
     TITLED, TITLED_LINE,
 };
 use super::{ended, refuse};
-use crate::answer::respond;
 use crate::edge::run;
-use crate::mode::Mode;
+use json_patch_answers::{Mode, respond};
 use std::test::Fail;
 
 /// An input of a mode, and its line.

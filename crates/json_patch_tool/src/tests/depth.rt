@@ -3,7 +3,7 @@
 use super::fakes::{Trouble, writer_with};
 use super::refuse;
 use crate::edge::run;
-use crate::mode::Mode;
+use json_patch_answers::Mode;
 use std::test::Fail;
 
 /// An object of one member that holds such an object, this deep, and at last 1.

@@ -3,8 +3,7 @@
 use super::ended;
 use super::fakes::{Broken, Trouble};
 use super::inputs::{EDITED, EDITED_LINE, HAPPY, HAPPY_LINE, OVER, OVER_BACK, TITLED, TITLED_LINE};
-use crate::fault::ToolFault;
-use crate::mode::Mode;
+use json_patch_answers::{Mode, ToolFault};
 use std::io::ErrorKind;
 
 const MODES: [Mode; 4] = [Mode::Patch, Mode::Record, Mode::Merge, Mode::Edit];

@@ -2,7 +2,7 @@
 
 use super::inputs::HAPPY;
 use super::refuse;
-use crate::mode::Mode;
+use json_patch_answers::Mode;
 use std::test::Fail;
 
 #[test]

@@ -3,9 +3,8 @@
 use super::fakes::{Broken, Interrupted, Padded, Trouble, writer_with};
 use super::inputs::{HAPPY, HAPPY_LINE};
 use crate::edge::run;
-use crate::fault::ToolFault;
-use crate::mode::Mode;
 use crate::program::run_as_asked;
+use json_patch_answers::{Mode, ToolFault};
 use std::io::ErrorKind;
 use std::test::Fail;
 

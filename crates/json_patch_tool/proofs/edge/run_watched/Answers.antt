@@ -1,4 +1,4 @@
-use Rattle.json_patch_tool.proofs.ModeAnswers.{refused_at}
+use Rattle.json_patch_tool.proofs.Runs.{refused_at}
 use Rattle.json_patch_tool.proofs.edge.run_watched.Goals as goal
 
 pub returns-in_err-line-clause-refused : goal.returns-in_err-line-clause-refused

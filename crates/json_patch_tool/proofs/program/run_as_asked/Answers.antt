@@ -1,6 +1,6 @@
 use Rattle.std.proofs.Common.{◌≡◌, Ok, Some, rules, subst}
 use Rattle.json_patch_tool.specs.Written.{EndsWith}
-use Rattle.json_patch_tool.proofs.ModeAnswers.{mode_asked, run_ends}
+use Rattle.json_patch_tool.proofs.Runs.{mode_asked, run_ends}
 use Rattle.json_patch_tool.proofs.program.run_as_asked.Goals as goal
 
 pub returns-in-Ok-Some-clause-ended : goal.returns-in-Ok-Some-clause-ended
