@@ -6,14 +6,13 @@ ghost use Rattle.json_patch_text_bytes.specs.Failures.{IsLookupFault};
 ghost use Rattle.json_patch_text_bytes.specs.Reasons.{of_merge, of_patch};
 ghost use Rattle.json_patch_text_bytes.specs.Texts.{IsMergedInto, IsPatched, IsValueAt};
 
-use crate::failures::{of_document, of_merge, of_run};
+use crate::failures::{of_merge, of_run};
 use crate::lookup::LookupFault;
-use crate::texts::{flat_text, told};
+use crate::texts::{checked_text, flat_text, told};
 use json_merge_text::merge_text;
 use json_patch::Limits;
 use json_patch_bytes::failure::{Failure, NOT_JSON};
 use json_patch_text::patch_text_within;
-use json_text::value_text;
 use jsonptr::Pointer;
 use std::alloc::Global;
 
@@ -98,13 +97,13 @@ pub fn value_at<'a>(
     let Ok(path) = Pointer::parse(text) else {
         return Err(LookupFault::NoPointer);
     };
-    let document = match flat_text(document, levels) {
+    let document = match checked_text(alloc, document, levels) {
         Ok(document) => document,
-        Err(kind) => return Err(LookupFault::Document(Failure::NoDocument(kind))),
+        Err(failure) => return Err(LookupFault::Document(failure)),
     };
-    match value_text(alloc, document, path) {
-        Ok(Some(value)) => Ok(value),
+    match document.value(alloc, path) {
+        Ok(Some(value)) => Ok(value.as_str()),
         Ok(None) => Err(LookupFault::Nothing),
-        Err(fault) => Err(LookupFault::Document(of_document(fault))),
+        Err(_) => Err(LookupFault::Document(Failure::Memory)),
     }
 }

@@ -6,11 +6,11 @@ ghost use Rattle.json_patch_bytes.specs.Failures.{IsFailure};
 ghost use Rattle.json_patch_text_bytes.specs.Failures.{IsTold};
 ghost use Rattle.json_patch_text_bytes.specs.Reasons.{of_text};
 ghost use Rattle.json_patch_text_bytes.specs.Texts.{IsJsonText, IsNoFlatText};
+ghost use Rattle.json_text.specs.Checked.{text_in};
 
 use crate::failures::of_document;
 use json_patch_bytes::failure::{Failure, NOT_JSON, TOO_DEEP};
-use json_text::{is_deeper, value_text};
-use jsonptr::Pointer;
+use json_text::{CheckedText, is_deeper};
 use std::alloc::Global;
 
 /// The text that the bytes are, of at most so many levels, or the kind of what is wrong with them.
@@ -29,18 +29,28 @@ pub(crate) fn flat_text(bytes: &[u8], levels: usize) -> Result<&str, u8>
     Ok(text)
 }
 
-/// Whether the bytes are a JSON text of at most so many levels, and else why not.
-fn check_text(alloc: Global, bytes: &[u8], levels: usize) -> Result<(), Failure>
+/// The JSON text that the bytes are, of at most so many levels, and else why they are none.
+pub(crate) fn checked_text(
+    alloc: Global,
+    bytes: &[u8],
+    levels: usize,
+) -> Result<CheckedText<'_>, Failure>
     requires { levels ≤ 124 }
-    ensures text { IfOk result (λ _. IsJsonText levels bytes.now) }
+    ensures text { IfOk result (λ text. (text_in text ≡ bytes.now) × IsJsonText levels bytes.now) }
     ensures failure { IfErr result (IsFailure (of_text levels bytes.now)) }
 {
+    // One pass checks the text and how deep it nests, where nothing is wrong with it.
+    if let Ok(text) = str::from_utf8(bytes) {
+        if let Some(checked) = CheckedText::within(text, levels) {
+            return Ok(checked);
+        }
+    }
     let text = match flat_text(bytes, levels) {
         Ok(text) => text,
         Err(kind) => return Err(Failure::NoDocument(kind)),
     };
-    match value_text(alloc, text, Pointer::root()) {
-        Ok(_) => Ok(()),
+    match CheckedText::new(alloc, text) {
+        Ok(checked) => Ok(checked),
         Err(fault) => Err(of_document(fault)),
     }
 }
@@ -55,8 +65,8 @@ pub(crate) fn told(alloc: Global, document: &[u8], levels: usize, failure: Failu
         Failure::NoDocument(_) | Failure::NoPatch(_, _) => {}
         _ => return failure,
     }
-    match check_text(alloc, document, levels) {
-        Ok(()) => failure,
+    match checked_text(alloc, document, levels) {
+        Ok(_) => failure,
         Err(own) => own,
     }
 }
