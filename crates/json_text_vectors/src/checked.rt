@@ -52,6 +52,11 @@ fn calls(rt: HostRuntime) -> Result<(), Fail> {
     Ok(())
 }
 
+fn is_of_two_levels() -> bool {
+    let text = CheckedText::within(r#"{"list": [1.50, 2] }"#, 2);
+    text.is_some()
+}
+
 /// A text, and how deep it nests, or that it is no JSON.
 const NESTED: &[(&str, Option<usize>)] = &[
     ("1.50", Some(0)),
@@ -72,6 +77,7 @@ const NESTED: &[(&str, Option<usize>)] = &[
 
 #[test]
 fn checked_within_levels(rt: HostRuntime) {
+    assert!(rt; is_of_two_levels());
     for (text, nested) in NESTED {
         for levels in 0..5usize {
             let is_within = match nested {
