@@ -7,7 +7,8 @@ use Rattle.json.specs.Lex.{Lexeme, token, comma, colon, operator_lexeme, Class, 
 use Rattle.json_lexemes.specs.Lexing.{next_mode}
 use Rattle.json_lexemes.specs.Skipped.{depth_after, most_open, if_open, skip}
 use Rattle.json_lexemes.specs.Places.{mode_at, left_at, depth_by, IsEnd, Steps}
-use Rattle.json_lexemes.specs.Runs.{is_bracket, is_flat, of_word, is_of_word, goes_on, mode_of, run_mode, string_mode, Passes, InRun, InString}
+use Rattle.json_lexemes.specs.Runs.{is_bracket, is_quote, is_flat, of_word, is_of_word, goes_on, mode_of, run_mode, string_mode, Passes, InRun, InString}
+use Rattle.json_lexemes.specs.Grammar.{IsFree}
 use Rattle.json_lexemes.proofs.Steps.{drop_step, mode_step, end_modes, begins_here, most_least, flat_word, word_left, string_escapes, escape_passes, string_passes}
 use Rattle.json_lexemes.proofs.Steps.{string_mode as plain_in_string}
 
@@ -201,6 +202,18 @@ string_byte t from k l h q false left mode = by_byte (cases_eq (get_or t k 0) 92
 
 pub string_step : (t : List ℕ) (from k : ℕ) → from ≤ k → k < length t → get_or t k 0 ≢ 34 → InString t from k → InString t from (k + 1)
 string_step t from k l h q s = string_byte t from k l h q s.escaped s.left s.mode
+
+not_quote : (x : ℕ) → is_quote x ≡ false → x ≢ 34
+not_quote x h e = grind arith
+
+-- the same of several bytes
+pub string_run : (t : List ℕ) (from n i k : ℕ) → k ≡ i + n → from ≤ i → k ≤ length t → IsFree is_quote t i k → InString t from i → InString t from k
+string_run t from zero i k e l h p s = let same : i ≡ k = omega (arith, e) in subst (InString t from) same s
+string_run t from (suc n) i k e l h p s =
+    let j = i + n in
+    let next : j + 1 ≡ k = omega (arith, e) in
+    let before = string_run t from n i j refl l (omega (arith, e, h)) (λ m le lt. p m le (omega (arith, e, lt))) s in
+    subst (InString t from) next (string_step t from j (omega (arith, l)) (omega (arith, next, h)) (not_quote _ (p j (omega arith) (omega (arith, next)))) before)
 
 -- where no backslash stands before k, its byte isn't escaped
 pub unescaped : (t : List ℕ) (from k : ℕ) → (s : InString t from k) → (from < k → get_or t (k - 1) 0 ≢ 92) → s.escaped ≡ false

@@ -15,6 +15,10 @@ use Rattle.json_lexemes.specs.Grammar.{is_no_digit, IsFree}
 abbrev pub compared : ℕ → ℕ
 compared x = bit_or (bit_or (cond (eqb x 34) 255 0) (cond (eqb x 92) 255 0)) (cond (ltb x 32) 255 0)
 
+-- what one comparison with a quote leaves
+abbrev pub quoted : ℕ → ℕ
+quoted x = cond (eqb x 34) 255 0
+
 -- and what those of a digit leave
 abbrev pub shifted : ℕ → ℕ
 shifted x = cond (leb 10 ((x + (256 - 48)) % 256)) 255 0

@@ -7,6 +7,9 @@ use Rattle.json_lexemes.specs.Skipped.{most_open, skip}
 abbrev pub is_bracket : ℕ → Bool
 is_bracket x = (x == 123) || (x == 125) || (x == 91) || (x == 93)
 
+abbrev pub is_quote : ℕ → Bool
+is_quote x = x == 34
+
 -- no quote and no bracket
 abbrev pub is_flat : ℕ → Bool
 is_flat x = not (is_bracket x || (x == 34))

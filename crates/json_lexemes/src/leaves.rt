@@ -11,12 +11,9 @@ ghost use Rattle.json.specs.Word.{after_digits, after_minus, after_sign, after_w
 ghost use Rattle.json_lexemes.specs.Places.{left_at};
 ghost use Rattle.json_lexemes.specs.Grammar.{is_no_digit, is_stop, HasContent, IsFree, Spells};
 
-use crate::lexemes::{byte_at, is_blank, is_operator};
+use crate::lexemes::{WIDE, byte_at, is_blank, is_operator};
 use crate::names::escaped;
 use std::simd::prelude::*;
-
-/// How many bytes of a string, or of a number's digits, are tested at once.
-const WIDE: usize = 16;
 
 /// Whether this byte doesn't stand for itself in a string.
 #[inline(always)]

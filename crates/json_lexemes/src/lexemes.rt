@@ -1,15 +1,18 @@
 //! Lexemes of a JSON text, by their places. Nothing here is recursive.
 
-ghost use Rattle.std.specs.Prelude.{◌≡◌, ◌≢◌, ◌⊎◌, ◌<◌, ◌≤◌, ◌+◌, ◌-◌, ◌^◌, [], ◌∷◌, List, true, false, length, drop, get_or};
+ghost use Rattle.std.specs.Prelude.{◌≡◌, ◌≢◌, ◌⊎◌, ◌<◌, ◌≤◌, ◌+◌, ◌-◌, ◌^◌, [], ◌∷◌, List, true, false, length, drop, map, get_or};
 ghost use Rattle.std.specs.Prelude.{IfSome, IfNone};
 ghost use Rattle.std.specs.Bool.{Decides};
 ghost use Rattle.std.specs.Str.{IsUtf8, IsCharBoundary};
+ghost use Rattle.std.specs.Simd.Lanes.{mask_l};
 ghost use Rattle.json.specs.Word.{is_operator, is_space, ends_word};
 ghost use Rattle.json.specs.Lex.{Lexeme, between, in_word, in_string, lex, operator_lexeme};
 ghost use Rattle.json_lexemes.specs.Lexing.{Outside};
 ghost use Rattle.json_lexemes.specs.Places.{mode_at, left_at, depth_by, Closes, HasEnd, IsEnd, Steps};
 ghost use Rattle.json_lexemes.specs.Skipped.{nesting, skip};
-ghost use Rattle.json_lexemes.specs.Runs.{goes_on, is_bracket, is_flat, is_of_word, run_mode, InRun, InString, Passes};
+ghost use Rattle.json_lexemes.specs.Runs.{goes_on, is_bracket, is_flat, is_of_word, is_quote, run_mode, InRun, InString, Passes};
+
+use std::simd::prelude::*;
 
 /// Of each byte outside of strings: `0` for a quote or a bracket, `1` for a blank, a comma or a colon, `2`
 /// for a part of a word. One load takes the place of up to ten comparisons.
@@ -23,7 +26,10 @@ static KIND: [u8; 256] = *b"\
     22222222222222222222222222222222\
     22222222222222222222222222222222";
 
-/// How many bytes are tested between two tests for the text's end: as many as LLVM unrolls.
+/// How many bytes are tested at once where the next that counts may be far.
+pub(crate) const WIDE: usize = 16;
+
+/// How many bytes are tested, one by one, between two tests for the text's end: as many as LLVM unrolls.
 const STRIDE: usize = 8;
 
 /// Whether this is a blank: a space, a tab, a line feed or a carriage return.
@@ -93,6 +99,14 @@ pub fn after(text: &[u8], from: usize, c: u8) -> Option<usize>
     }
 }
 
+/// A bit for each of these bytes, set where it is a quote.
+#[inline(always)]
+fn quotes(bytes: u8x16) -> u64
+    ensures { result ≡ mask_l (map is_quote bytes) }
+{
+    bytes.simd_eq(u8x16::splat(b'"')).to_bitmask()
+}
+
 /// The first place from `from` on where a quote stands.
 #[inline(always)]
 fn quote_from(text: &[u8], from: usize) -> Option<usize>
@@ -102,14 +116,12 @@ fn quote_from(text: &[u8], from: usize) -> Option<usize>
     ensures quote { IfSome result (λ i. get_or text.now i 0 ≡ 34) }
 {
     let mut i = from;
-    while text.len() - i >= STRIDE {
-        let stop = i + STRIDE;
-        while i < stop {
-            if text[i] == b'"' {
-                return Some(i);
-            }
-            i += 1;
+    while text.len() - i >= WIDE {
+        let found = quotes(u8x16::from_slice(&text[i..]));
+        if found != 0 {
+            return Some(i + found.trailing_zeros() as usize);
         }
+        i += WIDE;
     }
     while i < text.len() {
         if text[i] == b'"' {
