@@ -1,5 +1,5 @@
 -- Passing over bytes that open and close no bracket.
-use Rattle.std.proofs.Common.{◌≡◌, ◌≢◌, ◌⊎◌, ℕ, zero, suc, ◌+◌, ◌-◌, ◌<◌, ◌≤◌, Bool, true, false, cond, ◌&&◌, ◌||◌, ◌==◌, max, List, ◌∷◌, length, drop, get_or, inl, inr, refl, sym, ap, ap₂, ◌∙◌, subst, arith}
+use Rattle.std.proofs.Common.{◌≡◌, ◌≢◌, ◌⊎◌, ℕ, zero, suc, ◌+◌, ◌-◌, ◌<◌, ◌≤◌, Bool, true, false, not, cond, ◌&&◌, ◌||◌, ◌==◌, max, List, ◌∷◌, length, drop, get_or, inl, inr, refl, sym, ap, ap₂, ◌∙◌, subst, arith}
 use Rattle.std.proofs.lemmas.Bool.{false≢true, not-true, not-false, or_parts, or_cases, or_left, cases_Bool, cases_eq, lt-ltb, le-ltb, eqb-true}
 use Rattle.json.specs.Token.{bad}
 use Rattle.json.specs.Word.{is_operator, is_space, ends_word, word}
@@ -7,7 +7,7 @@ use Rattle.json.specs.Lex.{Lexeme, token, comma, colon, operator_lexeme, Class, 
 use Rattle.json_lexemes.specs.Lexing.{next_mode}
 use Rattle.json_lexemes.specs.Skipped.{depth_after, most_open, if_open, skip}
 use Rattle.json_lexemes.specs.Places.{mode_at, left_at, depth_by, IsEnd, Steps}
-use Rattle.json_lexemes.specs.Runs.{is_bracket, is_quote, is_flat, of_word, is_of_word, goes_on, mode_of, run_mode, string_mode, Passes, InRun, InString}
+use Rattle.json_lexemes.specs.Runs.{is_bracket, is_quote, is_mark, is_flat, of_word, is_of_word, goes_on, mode_of, run_mode, string_mode, Passes, InRun, InString}
 use Rattle.json_lexemes.specs.Grammar.{IsFree}
 use Rattle.json_lexemes.proofs.Steps.{drop_step, mode_step, end_modes, begins_here, most_least, flat_word, word_left, string_escapes, escape_passes, string_passes}
 use Rattle.json_lexemes.proofs.Steps.{string_mode as plain_in_string}
@@ -136,6 +136,15 @@ run_step t from k l h f r =
           let m = mode_here t from k h e (r.mode e) in
           inr (mode_step t k h ∙ ap (λ n. next_mode n (class x)) m.1 ∙ byte_mode m.0 (class x) q ∙ ap mode_of g);
     }
+
+-- the same of several bytes
+pub flat_run : (t : List ℕ) (from n i k : ℕ) → k ≡ i + n → from ≤ i → k ≤ length t → IsFree is_mark t i k → InRun t from i → InRun t from k
+flat_run t from zero i k e l h p r = let same : i ≡ k = omega (arith, e) in subst (InRun t from) same r
+flat_run t from (suc n) i k e l h p r =
+    let j = i + n in
+    let next : j + 1 ≡ k = omega (arith, e) in
+    let before = flat_run t from n i j refl l (omega (arith, e, h)) (λ m le lt. p m le (omega (arith, e, lt))) r in
+    subst (InRun t from) next (run_step t from j (omega (arith, l)) (omega (arith, next, h)) (ap not (p j (omega arith) (omega (arith, next)))) before)
 
 ended_left : (t : List ℕ) (k : ℕ) (b : Bool) → ends_word (drop k t) ≡ true → lex (mode_of b) (drop k t) ≡ left_at t k
 ended_left t k true e = word_left t k e

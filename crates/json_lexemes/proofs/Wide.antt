@@ -19,6 +19,10 @@ compared x = bit_or (bit_or (cond (eqb x 34) 255 0) (cond (eqb x 92) 255 0)) (co
 abbrev pub quoted : ℕ → ℕ
 quoted x = cond (eqb x 34) 255 0
 
+-- what those with a quote and the brackets leave
+abbrev pub marked : ℕ → ℕ
+marked x = bit_or (bit_or (cond (eqb (bit_or x 32) 123) 255 0) (cond (eqb (bit_or x 32) 125) 255 0)) (cond (eqb x 34) 255 0)
+
 -- and what those of a digit leave
 abbrev pub shifted : ℕ → ℕ
 shifted x = cond (leb 10 ((x + (256 - 48)) % 256)) 255 0

@@ -10,9 +10,13 @@ is_bracket x = (x == 123) || (x == 125) || (x == 91) || (x == 93)
 abbrev pub is_quote : ℕ → Bool
 is_quote x = x == 34
 
+-- a quote or a bracket
+abbrev pub is_mark : ℕ → Bool
+is_mark x = is_bracket x || is_quote x
+
 -- no quote and no bracket
 abbrev pub is_flat : ℕ → Bool
-is_flat x = not (is_bracket x || (x == 34))
+is_flat x = not (is_mark x)
 
 -- a word goes on behind a byte of this class, outside of strings and a quote aside
 abbrev pub of_word : Class → Bool

@@ -10,7 +10,7 @@ ghost use Rattle.json.specs.Lex.{Lexeme, between, in_word, in_string, lex, opera
 ghost use Rattle.json_lexemes.specs.Lexing.{Outside};
 ghost use Rattle.json_lexemes.specs.Places.{mode_at, left_at, depth_by, Closes, HasEnd, IsEnd, Steps};
 ghost use Rattle.json_lexemes.specs.Skipped.{nesting, skip};
-ghost use Rattle.json_lexemes.specs.Runs.{goes_on, is_bracket, is_flat, is_of_word, is_quote, run_mode, InRun, InString, Passes};
+ghost use Rattle.json_lexemes.specs.Runs.{goes_on, is_bracket, is_flat, is_mark, is_of_word, is_quote, run_mode, InRun, InString, Passes};
 
 use std::simd::prelude::*;
 
@@ -28,9 +28,6 @@ static KIND: [u8; 256] = *b"\
 
 /// How many bytes are tested at once where the next that counts may be far.
 pub(crate) const WIDE: usize = 16;
-
-/// How many bytes are tested, one by one, between two tests for the text's end: as many as LLVM unrolls.
-const STRIDE: usize = 8;
 
 /// Whether this is a blank: a space, a tab, a line feed or a carriage return.
 #[inline(always)]
@@ -272,6 +269,19 @@ fn is_of_word(c: u8) -> bool
     KIND[usize::from(c)] == b'2'
 }
 
+/// A bit for each of these bytes, set where it is a quote or a bracket.
+#[inline(always)]
+fn marks(bytes: u8x16) -> u64
+    ensures { result ≡ mask_l (map is_mark bytes) }
+{
+    // This bit makes braces of the other brackets, and of no other byte.
+    let braces = bytes | u8x16::splat(32);
+    let opening = braces.simd_eq(u8x16::splat(b'{'));
+    let closing = braces.simd_eq(u8x16::splat(b'}'));
+    let quotes = bytes.simd_eq(u8x16::splat(b'"'));
+    (opening | closing | quotes).to_bitmask()
+}
+
 /// The first place from `from` on where a quote or a bracket stands. What is passed leaves the count of
 /// brackets as it is.
 #[inline(always)]
@@ -283,14 +293,22 @@ fn flat_end(text: &[u8], from: usize) -> Option<usize>
     ensures none { IfNone result (InRun text.now from (length text.now)) }
 {
     let mut i = from;
-    while text.len() - i >= STRIDE {
-        let stop = i + STRIDE;
+    // Most are a few bytes away, and are found sooner one by one.
+    if text.len() - i >= WIDE {
+        let stop = i + WIDE;
         while i < stop {
             if !is_flat(text[i]) {
                 return Some(i);
             }
             i += 1;
         }
+    }
+    while text.len() - i >= WIDE {
+        let found = marks(u8x16::from_slice(&text[i..]));
+        if found != 0 {
+            return Some(i + found.trailing_zeros() as usize);
+        }
+        i += WIDE;
     }
     while i < text.len() {
         if !is_flat(text[i]) {
