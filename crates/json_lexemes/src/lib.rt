@@ -2,8 +2,8 @@
 //!
 //! A text says a tree by its lexemes: brackets, commas, colons, and one for each leaf and each name. Here
 //! a text is passed over by byte places, a lexeme or a value at a time, with no recursion, no memory and
-//! no check that it is JSON, but for one call. Each contract says which lexemes are left at the place that it answers, and
-//! that no lexeme and no character is cut there.
+//! no check that it is JSON, but for one call. Each contract says which lexemes are left at the place that
+//! it answers, and that no lexeme and no character is cut there.
 //!
 //! [`value_end`] passes over a value by counting brackets, [`member`] and [`item`] find one in an object
 //! or a list, and [`is_name`] compares a name with its escapes read. [`is_json_within`] is the one check:
