@@ -1,5 +1,5 @@
 -- Strings, numbers and literals that are checked to their end.
-use Rattle.std.proofs.Common.{◌≡◌, ◌⊎◌, ℕ, zero, suc, ◌+◌, ◌-◌, ◌<◌, ◌≤◌, true, false, ◌||◌, ◌==◌, nat_lt, List, [], ◌∷◌, ◌++◌, length, take, drop, get_or, Option, Some, None, inl, inr, refl, sym, ap, ap₂, ◌∙◌, subst, arith}
+use Rattle.std.proofs.Common.{◌≡◌, ◌⊎◌, ℕ, ◌+◌, ◌-◌, ◌<◌, ◌≤◌, true, false, ◌||◌, ◌==◌, nat_lt, List, [], ◌∷◌, ◌++◌, length, take, drop, get_or, Option, Some, None, inl, inr, refl, sym, ap, ap₂, ◌∙◌, subst, arith}
 use Rattle.std.proofs.Common.{drop-drop}
 use Rattle.std.proofs.lemmas.List.{take-append-drop, get_or_default, get_or_past}
 use Rattle.std.proofs.lemmas.Bool.{or_parts, cases_lt}
@@ -17,6 +17,7 @@ use Rattle.json_lexemes.specs.Places.{left_at}
 use Rattle.json_lexemes.specs.Grammar.{is_stop, IsFree, HasContent, Spells}
 use Rattle.json_lexemes.proofs.Contents.{is_found}
 use Rattle.json_lexemes.proofs.Closed.{unit_goes}
+use Rattle.json_lexemes.proofs.Wide.{free_along}
 use Rattle.json_lexemes.proofs.Inside.{four, unit_at, quote_is, backslash_is, plain_is}
 use Rattle.json_lexemes.proofs.Steps.{drop_step, escaped, string_closes, string_escapes, string_passes}
 
@@ -73,14 +74,10 @@ inside_byte t i h p = record {
   content = has_prepended (get_or t i 0 ∷ []) _ _ (plain_is t i h p.0 p.1 p.2);
 }
 
-pub inside_run : (t : List ℕ) (from n k : ℕ) → k ≡ from + n → k ≤ length t → IsFree is_stop t from k → IsInside t from k
-inside_run t from zero k e h p = let same : from ≡ k = omega (arith, e) in subst (IsInside t from) same (inside_itself t from)
-inside_run t from (suc n) k e h p =
-    let i = from + n in
-    let next : i + 1 ≡ k = omega (arith, e) in
-    let there : i < length t = omega (arith, e, h) in
-    let before = inside_run t from n i refl (omega (arith, e, h)) (λ j le lt. p j le (omega (arith, e, lt))) in
-    subst (IsInside t from) next (inside_on t from i (i + 1) before (inside_byte t i there (plain_byte (get_or t i 0) (p i (omega arith) (omega (arith, next))))))
+pub inside_to : (t : List ℕ) (from i : ℕ) → (from ≤ i) × (i ≤ length t) → IsFree is_stop t from i → IsInside t from i
+inside_to t from i bounds p =
+    free_along (IsInside t from) is_stop t from (i - from) i (omega (arith, bounds)) bounds.1
+    (λ j le lt f before. inside_on t from j (j + 1) before (inside_byte t j lt (plain_byte (get_or t j 0) f))) p (inside_itself t from)
 
 pub inside_escape : (t bs : List ℕ) (i k : ℕ) → i < length t → get_or t i 0 ≡ 92 → lex in_escape (drop (i + 1) t) ≡ lex in_string (drop k t)
     → content after_backslash (drop (i + 1) t) ≡ prepend bs (content plain (drop k t)) → IsInside t i k

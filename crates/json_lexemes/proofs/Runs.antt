@@ -11,6 +11,7 @@ use Rattle.json_lexemes.specs.Runs.{is_bracket, is_quote, is_mark, is_flat, of_w
 use Rattle.json_lexemes.specs.Grammar.{IsFree}
 use Rattle.json_lexemes.proofs.Steps.{drop_step, mode_step, end_modes, begins_here, most_least, flat_word, word_left, string_escapes, escape_passes, string_passes}
 use Rattle.json_lexemes.proofs.Steps.{string_mode as plain_in_string}
+use Rattle.json_lexemes.proofs.Wide.{free_along}
 
 -- ---- lexemes that open and close nothing
 
@@ -139,12 +140,7 @@ run_step t from k l h f r =
 
 -- the same of several bytes
 pub flat_run : (t : List ℕ) (from n i k : ℕ) → k ≡ i + n → from ≤ i → k ≤ length t → IsFree is_mark t i k → InRun t from i → InRun t from k
-flat_run t from zero i k e l h p r = let same : i ≡ k = omega (arith, e) in subst (InRun t from) same r
-flat_run t from (suc n) i k e l h p r =
-    let j = i + n in
-    let next : j + 1 ≡ k = omega (arith, e) in
-    let before = flat_run t from n i j refl l (omega (arith, e, h)) (λ m le lt. p m le (omega (arith, e, lt))) r in
-    subst (InRun t from) next (run_step t from j (omega (arith, l)) (omega (arith, next, h)) (ap not (p j (omega arith) (omega (arith, next)))) before)
+flat_run t from n i k e l h p r = free_along (InRun t from) is_mark t i n k e h (λ j le lt f. run_step t from j (omega (arith, l, le)) lt (ap not f)) p r
 
 ended_left : (t : List ℕ) (k : ℕ) (b : Bool) → ends_word (drop k t) ≡ true → lex (mode_of b) (drop k t) ≡ left_at t k
 ended_left t k true e = word_left t k e
@@ -217,12 +213,7 @@ not_quote x h e = grind arith
 
 -- the same of several bytes
 pub string_run : (t : List ℕ) (from n i k : ℕ) → k ≡ i + n → from ≤ i → k ≤ length t → IsFree is_quote t i k → InString t from i → InString t from k
-string_run t from zero i k e l h p s = let same : i ≡ k = omega (arith, e) in subst (InString t from) same s
-string_run t from (suc n) i k e l h p s =
-    let j = i + n in
-    let next : j + 1 ≡ k = omega (arith, e) in
-    let before = string_run t from n i j refl l (omega (arith, e, h)) (λ m le lt. p m le (omega (arith, e, lt))) s in
-    subst (InString t from) next (string_step t from j (omega (arith, l)) (omega (arith, next, h)) (not_quote _ (p j (omega arith) (omega (arith, next)))) before)
+string_run t from n i k e l h p s = free_along (InString t from) is_quote t i n k e h (λ j le lt f. string_step t from j (omega (arith, l, le)) lt (not_quote _ f)) p s
 
 -- where no backslash stands before k, its byte isn't escaped
 pub unescaped : (t : List ℕ) (from k : ℕ) → (s : InString t from k) → (from < k → get_or t (k - 1) 0 ≢ 92) → s.escaped ≡ false

@@ -1,5 +1,5 @@
 -- Bytes of a string that are tested beside each other.
-use Rattle.std.proofs.Common.{◌≡◌, ℕ, suc, ◌+◌, ◌-◌, ◌*◌, ◌<◌, ◌≤◌, ◌^◌, ◌%◌, Bool, true, false, not, cond, ◌⊎◌, inl, inr, List, [], ◌∷◌, map, length, drop, get_or, refl, sym, ap, ap₂, ◌∙◌, arith, w8, Fits, eqb, leb, ltb}
+use Rattle.std.proofs.Common.{◌≡◌, ℕ, zero, suc, ◌+◌, ◌-◌, ◌*◌, ◌<◌, ◌≤◌, ◌^◌, ◌%◌, Bool, true, false, not, cond, ◌⊎◌, inl, inr, List, [], ◌∷◌, map, length, drop, get_or, refl, sym, ap, ap₂, ◌∙◌, subst, arith, w8, Fits, eqb, leb, ltb}
 use Rattle.std.proofs.lemmas.Bool.{agree_below, agree_below_at, cases_lt, not-false, not-true}
 use Rattle.std.proofs.lemmas.List.{length-map, length-drop, get_or-drop}
 use Rattle.std.proofs.lemmas.List.Sums.{prefix_len_is, prefix_len-le-length}
@@ -50,6 +50,15 @@ free_load p t i room none = none_from_empty_mask p t i 16 0 room none
 
 pub free_byte : (p : ℕ → Bool) (t : List ℕ) (i : ℕ) → p (get_or t i 0) ≡ false → IsFree p t i (i + 1)
 free_byte p t i h j le lt = let same : i ≡ j = omega (arith, le, lt) in ap (λ k. p (get_or t k 0)) (sym same) ∙ h
+
+-- what one such byte more leaves true, several do
+pub free_along : (R : ℕ → Type 0) (p : ℕ → Bool) (t : List ℕ) (i n k : ℕ) → k ≡ i + n → k ≤ length t → ((j : ℕ) → i ≤ j → j < length t → p (get_or t j 0) ≡ false → R j → R (j + 1)) → IsFree p t i k → R i → R k
+free_along R p t i zero k e h step free r = let same : i ≡ k = omega (arith, e) in subst R same r
+free_along R p t i (suc n) k e h step free r =
+    let j = i + n in
+    let next : j + 1 ≡ k = omega (arith, e) in
+    let before = free_along R p t i n j refl (omega (arith, e, h)) step (λ m le lt. free m le (omega (arith, e, lt))) r in
+    subst R next (step j (omega arith) (omega (arith, next, h)) (free j (omega arith) (omega (arith, next))) before)
 
 none_first : (b : Bool) (n l m : ℕ) → n ≤ l → cond (not b) (1 + n) 0 ≡ suc l → (n ≡ l → m ≡ 0) → cond b 1 0 + 2 * m ≡ 0
 none_first true n l m le e f = let never : ⊥ = omega arith in absurd never

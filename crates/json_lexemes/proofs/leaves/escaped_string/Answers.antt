@@ -1,5 +1,5 @@
-use Rattle.std.proofs.Common.{◌-◌, sym, ◌∙◌, arith}
-use Rattle.json_lexemes.proofs.Ended.{here, inside_on, inside_escape, inside_closes, inside_run}
+use Rattle.std.proofs.Common.{sym, ◌∙◌, arith}
+use Rattle.json_lexemes.proofs.Ended.{here, inside_on, inside_escape, inside_closes, inside_to}
 use Rattle.json_lexemes.proofs.leaves.escaped_string.Goals as goal
 
 pub loop-i-preserved : goal.loop-i-preserved
@@ -12,7 +12,7 @@ loop-i-preserved c =
     record {
       low = omega (arith, c.in-Some.ensures.bounds, c.plain_end-i.ensures.bounds);
       high = c.plain_end-i.ensures.bounds.1;
-      inside = inside_on t _ i k c.loop-i.invariant.inside (inside_on t i _ k e (inside_run t _ (k - c.in-Some.next) k (omega (arith, c.plain_end-i.ensures.bounds)) c.plain_end-i.ensures.bounds.1 c.plain_end-i.ensures.plain));
+      inside = inside_on t _ i k c.loop-i.invariant.inside (inside_on t i _ k e (inside_to t _ k c.plain_end-i.ensures.bounds c.plain_end-i.ensures.plain));
     }
 
 pub returns-then-byte_at-eq34-clause-left : goal.returns-then-byte_at-eq34-clause-left
