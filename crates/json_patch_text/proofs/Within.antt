@@ -1,14 +1,12 @@
 -- Why a text isn't patched within limits, from the run of its operations; and laws of limits.
-use Rattle.std.proofs.Common.{◌≡◌, inr, ◌≤◌, ℕ, List, take, Some, Result, Ok, Err, IfOk, IfErr, subst, arith}
+use Rattle.std.proofs.Common.{◌≡◌, ◌≤◌, ℕ, List, take, Some, Result, Ok, Err, IfOk, IfErr, subst, arith}
 use Rattle.std.specs.String.{string_bytes}
 use Rattle.std.specs.declared.string.String.{String}
-use Rattle.json_patch_limits.specs.declared.limits.Limits.{Limits}
 use Rattle.json_patch_text.specs.Bounded.{AreMadeUnder, IsRunFaultUnder, most_of}
-use Rattle.json_patch_text.specs.Made.{IsNoText}
 use Rattle.json_patch_text.specs.Operations.{TreeOperation}
 use Rattle.json_patch_text.specs.Patched.{HasTexts, IsPatchedText}
 use Rattle.json_patch_text.specs.TextOperations.{AreWrittenAs}
-use Rattle.json_patch_text.specs.Within.{AreMadeWithin, IsNoTextWithin, IsTextLimitFault, IsTextOverAt, IsTextWithin, most_bytes}
+use Rattle.json_patch_text.specs.Within.{AreMadeWithin, IsTextLimitFault, IsTextOverAt, IsTextWithin, most_bytes}
 use Rattle.json_patch_text.specs.declared.bounds.Bounds.{Bounds}
 use Rattle.json_patch_text.specs.declared.fault.PatchTextFault.TheVariants.{Document, Patch, Unreadable, Refused, TooDeep, Memory}
 use Rattle.json_patch_text.specs.declared.fault.TextLimitFault.{TextLimitFault}
@@ -16,13 +14,6 @@ use Rattle.json_patch_text.specs.declared.fault.TextLimitFault.TheVariants as wi
 use Rattle.json_patch_text.specs.declared.operation.TextOperation.{TextOperation}
 use Rattle.json_patch_text.proofs.Bounded.{last_within, within_made}
 use Rattle.json_lexemes.specs.Skipped.{nesting}
-use Rattle.json_text.specs.declared.fault.TextFault.{TextFault}
-use Rattle.json_text.specs.declared.fault.TextFault.TheVariants as fault
-
-no_text : (l : Limits) (text : List ℕ) (f : TextFault) → IsNoText text f → IsNoTextWithin l text f
-no_text l text fault.NotJson h = h
-no_text l text fault.TooDeep h = inr h
-no_text l text (fault.Memory m) h = h
 
 -- its operations end early
 fault_within : (b : Bounds) (text patch : List ℕ) (os : List TextOperation) (f : TextLimitFault) → most_of b ≡ most_bytes b.limits text patch → HasTexts patch os → ((ops : List TreeOperation) → AreWrittenAs os ops → IsRunFaultUnder (Some b) text os ops f) → IsTextLimitFault b.limits text patch f

@@ -1,4 +1,4 @@
-use Rattle.std.proofs.Common.{◌∙◌, ◌≡◌, length, sym, subst, arith}
+use Rattle.std.proofs.Common.{◌≡◌, length, sym, subst, arith}
 use Rattle.json_patch_text.specs.Run.{AcceptsText}
 use Rattle.json_patch_text.proofs.Bounded.{first_shallow, not_over, over_reached, reached_shallow, reached_under_first, reached_under_more, reported_under, step_shallow, written_here}
 use Rattle.json_patch_text.proofs.Reached.{all_accepted, reached_first}

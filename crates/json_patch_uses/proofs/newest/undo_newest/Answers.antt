@@ -1,7 +1,7 @@
-use Rattle.std.proofs.Common.{◌≡◌, ◌+◌, ◌-◌, arith, rules, subst, sym}
+use Rattle.std.proofs.Common.{◌+◌, ◌-◌, arith, rules, subst, sym}
 use Rattle.std.proofs.lemmas.Grind.{common_steps}
 use Rattle.json_patch.specs.Run.{Accepts}
-use Rattle.json_patch_uses.specs.SharedDocuments.{AtVersion, document_of, since, version_of}
+use Rattle.json_patch_uses.specs.SharedDocuments.{AtVersion, document_of, since}
 use Rattle.json_patch_uses.proofs.SharedChanges.{newest_meets_none, none_since}
 use Rattle.json_patch_uses.proofs.newest.undo_newest.Goals as goal
 
