@@ -1,6 +1,6 @@
 -- Documents with a history: each change leaves the patch that takes it back, and an undo is one UPDATE.
 --
---     sqlite3 < example.sql        in the folder of json_patch.so
+--     sqlite3 < sqlite/example.sql        in the unpacked folder, where json_patch.so was built
 .load ./json_patch
 
 CREATE TABLE documents (

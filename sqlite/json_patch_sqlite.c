@@ -33,7 +33,7 @@ SQLITE_EXTENSION_INIT1
 /* What SQLite's own functions give a text that is JSON, so that they take it for a value. */
 enum { JSON_SUBTYPE = 'J' };
 
-/* More than any text is longer than those that it was made of, but for what is copied or displaced. */
+/* Room beside as much as the texts that are handed in take: mostly that suffices. */
 enum { SPARE_ROOM = 64 };
 
 typedef struct {
