@@ -1,7 +1,7 @@
 /*
  * JSON Patch (RFC 6902) and JSON Merge Patch (RFC 7396), for documents whose numbers are whole ones
- * of 64 bits, and for texts with numbers of any form, which json_patch_apply_text and
- * json_patch_merge_text change in place. Link with -ljson_patch.
+ * of 64 bits, and for texts with numbers of any form, of which json_patch_apply_text and
+ * json_patch_merge_text keep every byte that isn't changed. Link with -ljson_patch.
  *
  *     char out[64];
  *     json_patch_report report;
