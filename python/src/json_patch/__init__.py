@@ -1,6 +1,6 @@
 """JSON Patch (RFC 6902), JSON Pointer (RFC 6901) and JSON Merge Patch (RFC 7396).
 
-Patches are made by a library that is proved to do what RFC 6902 says. The names are those of the
+Patches are applied by a library that is proved to do what RFC 6902 says. The names are those of the
 packages jsonpatch and jsonpointer:
 
 >>> apply_patch({"a": [1, 2]}, [{"op": "move", "from": "/a/0", "path": "/b"}])

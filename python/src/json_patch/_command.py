@@ -57,7 +57,7 @@ class _Parser(argparse.ArgumentParser):
 def _parser() -> argparse.ArgumentParser:
     parser = _Parser(
         prog="json-patch",
-        description="Makes JSON patches (RFC 6902) and JSON merge patches (RFC 7396) on files.",
+        description="Applies JSON patches (RFC 6902) and JSON merge patches (RFC 7396) to files, and makes and checks patches.",
         epilog=_EPILOG,
         formatter_class=argparse.RawDescriptionHelpFormatter,
     )
@@ -71,7 +71,7 @@ def _parser() -> argparse.ArgumentParser:
     for name, told in (
         ("apply", "write what a patch leaves of a document"),
         ("merge", "write a document with a merge patch merged into it"),
-        ("record", "apply a patch, and write the patch that leads back to another file"),
+        ("record", "apply a patch, and write the patch that leads back, to another file"),
     ):
         changing = command(name, told)
         changing.add_argument("document", metavar="DOCUMENT", help="the document's file, or -")

@@ -1,4 +1,4 @@
-"""Patches, and the calls that make them on Python's objects."""
+"""Patches, and the calls that apply them to Python's objects."""
 from __future__ import annotations
 
 import json
