@@ -1,5 +1,6 @@
 pub mod Bounded
 pub mod Changed
+pub mod Drafts
 pub mod Made
 pub mod Operations
 pub mod Outline

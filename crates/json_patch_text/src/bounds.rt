@@ -3,14 +3,13 @@
 ghost use Rattle.std.specs.Prelude.{◌≡◌, ◌<◌, ◌≤◌, false, IfOk, MatchOption};
 ghost use Rattle.std.specs.Bool.{Decides};
 ghost use Rattle.json_patch_text.specs.Bounded.{IsUnder, OverBy, levels_of, most_of};
+ghost use Rattle.json_patch_text.specs.Drafts.{IsDraft, draft_text};
 ghost use Rattle.json_patch_text.specs.Within.{IsTextOver, IsTextWithin};
-ghost use Rattle.json_pieces.specs.Whole.{ArePieces, text_of};
 ghost use Rattle.json_lexemes.specs.Skipped.{nesting};
 
+use crate::draft::Draft;
 use json::MAX_DEPTH;
 use json_patch_limits::limits::{LimitKind, Limits};
-use json_pieces::Pieces;
-use json_text::is_deeper;
 use std::alloc::{AllocError, Global};
 
 /// Limits, with the lengths of the texts of the document and of the patch.
@@ -24,19 +23,18 @@ pub(crate) struct Bounds {
 /// Whether the text nests deeper than so many levels, where it may.
 pub(crate) fn is_nested(
     alloc: Global,
-    pieces: &Pieces,
+    draft: &Draft,
     deeper: bool,
     levels: usize,
 ) -> Result<bool, AllocError>
-    requires pieces { ArePieces pieces.now }
-    requires depth { deeper ≡ false → nesting (text_of pieces.now) ≤ levels }
-    ensures { IfOk result (λ nested. Decides nested (levels < nesting (text_of pieces.now))) }
+    requires draft { IsDraft draft.now }
+    requires depth { deeper ≡ false → nesting (draft_text draft.now) ≤ levels }
+    ensures { IfOk result (λ nested. Decides nested (levels < nesting (draft_text draft.now))) }
 {
     if !deeper {
         return Ok(false);
     }
-    let text = pieces.to_text(alloc)?;
-    Ok(is_deeper(text.as_str(), levels))
+    draft.is_deeper(alloc, levels)
 }
 
 impl Bounds {
@@ -44,19 +42,19 @@ impl Bounds {
     fn over(
         self,
         alloc: Global,
-        pieces: &Pieces,
+        draft: &Draft,
         deeper: bool,
     ) -> Result<Option<LimitKind>, AllocError>
-        requires pieces { ArePieces pieces.now }
-        requires depth { deeper ≡ false → nesting (text_of pieces.now) ≤ self.limits.depth }
+        requires draft { IsDraft draft.now }
+        requires depth { deeper ≡ false → nesting (draft_text draft.now) ≤ self.limits.depth }
         ensures { IfOk result (λ over. MatchOption over
-            (IsTextWithin self.limits (most_of self) (text_of pieces.now))
-            (IsTextOver self.limits (most_of self) (text_of pieces.now))) }
+            (IsTextWithin self.limits (most_of self) (draft_text draft.now))
+            (IsTextOver self.limits (most_of self) (draft_text draft.now))) }
     {
-        if is_nested(alloc, pieces, deeper, self.limits.depth)? {
+        if is_nested(alloc, draft, deeper, self.limits.depth)? {
             return Ok(Some(LimitKind::TooDeep));
         }
-        let more = pieces.len().saturating_sub(self.document);
+        let more = draft.len().saturating_sub(self.document);
         if more.saturating_sub(self.patch) > self.limits.copied {
             return Ok(Some(LimitKind::TooMuch));
         }
@@ -68,16 +66,16 @@ impl Bounds {
 pub(crate) fn over(
     alloc: Global,
     bounds: Option<Bounds>,
-    pieces: &Pieces,
+    draft: &Draft,
     deeper: bool,
 ) -> Result<Option<LimitKind>, AllocError>
-    requires pieces { ArePieces pieces.now }
-    requires depth { deeper ≡ false → nesting (text_of pieces.now) ≤ levels_of bounds }
-    ensures { IfOk result (λ over. MatchOption over (IsUnder bounds (text_of pieces.now))
-        (OverBy bounds (text_of pieces.now))) }
+    requires draft { IsDraft draft.now }
+    requires depth { deeper ≡ false → nesting (draft_text draft.now) ≤ levels_of bounds }
+    ensures { IfOk result (λ over. MatchOption over (IsUnder bounds (draft_text draft.now))
+        (OverBy bounds (draft_text draft.now))) }
 {
     match bounds {
-        Some(bounds) => bounds.over(alloc, pieces, deeper),
+        Some(bounds) => bounds.over(alloc, draft, deeper),
         None => Ok(None),
     }
 }

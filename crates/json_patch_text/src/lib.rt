@@ -12,6 +12,7 @@
 #![tactic(auto)]
 
 mod bounds;
+mod draft;
 mod fault;
 pub mod laws;
 mod operation;

@@ -37,4 +37,9 @@ impl TextOperation<'_> {
             | TextOperation::Test(path, _) => path.as_pointer(),
         }
     }
+
+    /// Whether it takes a value away from where it stands.
+    pub(crate) fn is_removing(&self) -> bool {
+        matches!(self, TextOperation::Remove(_) | TextOperation::Move(_, _))
+    }
 }

@@ -10,13 +10,13 @@ ghost use Rattle.json_patch_text.specs.TextOperations.{AreWrittenAs, place_of};
 ghost use Rattle.json_text.specs.Checked.{text_in};
 
 use crate::bounds::{Bounds, is_nested, levels, over};
+use crate::draft::Draft;
 use crate::fault::{PatchTextFault, StepFault, TextLimitFault};
 use crate::operation::TextOperation;
 use crate::step::step;
 use json::MAX_DEPTH;
 use json_patch_limits::limits::LimitError;
 use json_patch_operation::PatchError;
-use json_pieces::Pieces;
 use json_text::CheckedText;
 use std::alloc::{AllocError, Global};
 
@@ -62,7 +62,7 @@ pub(crate) fn run(
         → AreWrittenAs operations.now ops → IsRunFaultUnder bounds (text_in text.entry) operations.now ops fault) }
 {
     let levels = levels(bounds);
-    let mut pieces = Pieces::new(text);
+    let mut draft = Draft::new(text, operations);
     let mut deep = false;
     for number in 0..operations.len() {
         if deep {
@@ -70,19 +70,19 @@ pub(crate) fn run(
             return Err(TextLimitFault::Patch(fault));
         }
         let operation = &operations[number];
-        let deeper = match step(alloc, &mut pieces, operation, levels) {
+        let deeper = match step(alloc, &mut draft, operation, levels) {
             Ok(deeper) => deeper,
             Err(fault) => {
                 return Err(TextLimitFault::Patch(reported(alloc, number, operation, fault)));
             }
         };
-        if let Some(kind) = over(alloc, bounds, &pieces, deeper)? {
+        if let Some(kind) = over(alloc, bounds, &draft, deeper)? {
             return Err(TextLimitFault::Over(LimitError {
                 operation: number,
                 kind,
             }));
         }
-        deep = is_nested(alloc, &pieces, deeper, MAX_DEPTH)?;
+        deep = is_nested(alloc, &draft, deeper, MAX_DEPTH)?;
     }
-    Ok(pieces.to_text(alloc)?)
+    Ok(draft.into_text(alloc)?)
 }

@@ -5,11 +5,11 @@ ghost use Rattle.std.specs.Bool.{Decides};
 ghost use Rattle.json.specs.Json.{Json};
 ghost use Rattle.jsonptr.specs.Pointers.{tokens_of};
 ghost use Rattle.jsonptr.specs.Text.{IsProperPrefix};
+ghost use Rattle.json_patch_text.specs.Drafts.{IsDraft, draft_text};
 ghost use Rattle.json_patch_text.specs.Made.{IsCopied, IsLeft, IsMadeIn, IsMoved, IsNoDeeper, IsNotMade, IsStepped, IsStopped};
 ghost use Rattle.json_patch_text.specs.Operations.{TreeOperation, copy as copy_of, move as move_of, test as test_of};
 ghost use Rattle.json_patch_text.specs.Step.{ComesTo};
 ghost use Rattle.json_patch_text.specs.TextOperations.{IsWrittenAs};
-ghost use Rattle.json_pieces.specs.Whole.{ArePieces, text_of};
 ghost use Rattle.json_reading.specs.Same.{SameTree};
 ghost use Rattle.json_text.specs.Added.{HasNoPlace, IsAdded};
 ghost use Rattle.json_text.specs.Checked.{text_in};
@@ -18,12 +18,12 @@ ghost use Rattle.json_text.specs.Removed.{HasNothingToRemove, IsRemoved};
 ghost use Rattle.json_text.specs.Replaced.{IsReplaced, LeadsNowhere};
 ghost use Rattle.json_lexemes.specs.Spelled.{IsShallowText, Says};
 
+use crate::draft::Draft;
 use crate::fault::StepFault;
 use crate::operation::TextOperation;
 use json::{Scratch, Value};
 use json_patch_limits::measure::count_tokens;
 use json_patch_operation::PatchErrorKind;
-use json_pieces::Pieces;
 use json_reading::same_tree;
 use json_text::{CheckedText, is_deeper, string_of};
 use jsonptr::Pointer;
@@ -41,21 +41,21 @@ fn reaches(path: Pointer, value: CheckedText, levels: usize) -> bool
 /// A value added to the text (RFC 6902, section 4.1), and whether it may nest deeper now.
 fn added(
     alloc: Global,
-    pieces: &mut Pieces,
+    draft: &mut Draft,
     path: Pointer,
     value: CheckedText,
     levels: usize,
 ) -> Result<bool, StepFault>
-    requires pieces { ArePieces pieces.old }
-    requires shallow { (j : Json) × IsShallowText (text_of pieces.old) j }
-    ensures pieces { IfOk result (λ deeper. ArePieces pieces.new) }
-    ensures made { IfOk result (λ deeper. IsAdded (text_of pieces.old) (tokens_of path.entry)
-        (text_in value.entry) (text_of pieces.new)) }
-    ensures depth { IfOk result (IsNoDeeper levels (text_of pieces.old) (text_of pieces.new)) }
+    requires draft { IsDraft draft.old }
+    requires shallow { (j : Json) × IsShallowText (draft_text draft.old) j }
+    ensures draft { IfOk result (λ deeper. IsDraft draft.new) }
+    ensures made { IfOk result (λ deeper. IsAdded (draft_text draft.old) (tokens_of path.entry)
+        (text_in value.entry) (draft_text draft.new)) }
+    ensures depth { IfOk result (IsNoDeeper levels (draft_text draft.old) (draft_text draft.new)) }
     ensures stopped { IfErr result
-        (IsNotMade (HasNoPlace (text_of pieces.old) (tokens_of path.entry))) }
+        (IsNotMade (HasNoPlace (draft_text draft.old) (tokens_of path.entry))) }
 {
-    if pieces.add(alloc, path, value)? {
+    if draft.add(alloc, path, value)? {
         Ok(reaches(path, value, levels))
     } else {
         Err(StepFault::Refused(PatchErrorKind::InvalidPointer))
@@ -63,16 +63,16 @@ fn added(
 }
 
 /// A value removed from the text (RFC 6902, section 4.2), and `false`, since it nests no deeper now.
-fn removed(alloc: Global, pieces: &mut Pieces, path: Pointer) -> Result<bool, StepFault>
-    requires pieces { ArePieces pieces.old }
-    requires shallow { (j : Json) × IsShallowText (text_of pieces.old) j }
-    ensures pieces { IfOk result (λ deeper. ArePieces pieces.new) }
+fn removed(alloc: Global, draft: &mut Draft, path: Pointer) -> Result<bool, StepFault>
+    requires draft { IsDraft draft.old }
+    requires shallow { (j : Json) × IsShallowText (draft_text draft.old) j }
+    ensures draft { IfOk result (λ deeper. IsDraft draft.new) }
     ensures made { IfOk result (λ deeper.
-        IsRemoved (text_of pieces.old) (tokens_of path.entry) (text_of pieces.new)) }
+        IsRemoved (draft_text draft.old) (tokens_of path.entry) (draft_text draft.new)) }
     ensures stopped { IfErr result
-        (IsNotMade (HasNothingToRemove (text_of pieces.old) (tokens_of path.entry))) }
+        (IsNotMade (HasNothingToRemove (draft_text draft.old) (tokens_of path.entry))) }
 {
-    if pieces.remove(alloc, path)? {
+    if draft.remove(alloc, path)? {
         Ok(false)
     } else {
         Err(StepFault::Refused(PatchErrorKind::InvalidPointer))
@@ -82,21 +82,21 @@ fn removed(alloc: Global, pieces: &mut Pieces, path: Pointer) -> Result<bool, St
 /// A value of the text replaced (RFC 6902, section 4.3), and whether it may nest deeper now.
 fn replaced(
     alloc: Global,
-    pieces: &mut Pieces,
+    draft: &mut Draft,
     path: Pointer,
     value: CheckedText,
     levels: usize,
 ) -> Result<bool, StepFault>
-    requires pieces { ArePieces pieces.old }
-    requires shallow { (j : Json) × IsShallowText (text_of pieces.old) j }
-    ensures pieces { IfOk result (λ deeper. ArePieces pieces.new) }
-    ensures made { IfOk result (λ deeper. IsReplaced (text_of pieces.old) (tokens_of path.entry)
-        (text_in value.entry) (text_of pieces.new)) }
-    ensures depth { IfOk result (IsNoDeeper levels (text_of pieces.old) (text_of pieces.new)) }
+    requires draft { IsDraft draft.old }
+    requires shallow { (j : Json) × IsShallowText (draft_text draft.old) j }
+    ensures draft { IfOk result (λ deeper. IsDraft draft.new) }
+    ensures made { IfOk result (λ deeper. IsReplaced (draft_text draft.old) (tokens_of path.entry)
+        (text_in value.entry) (draft_text draft.new)) }
+    ensures depth { IfOk result (IsNoDeeper levels (draft_text draft.old) (draft_text draft.new)) }
     ensures stopped { IfErr result
-        (IsNotMade (LeadsNowhere (text_of pieces.old) (tokens_of path.entry))) }
+        (IsNotMade (LeadsNowhere (draft_text draft.old) (tokens_of path.entry))) }
 {
-    if pieces.replace(alloc, path, value)? {
+    if draft.replace(alloc, path, value)? {
         Ok(reaches(path, value, levels))
     } else {
         Err(StepFault::Refused(PatchErrorKind::InvalidPointer))
@@ -139,22 +139,22 @@ fn is_same(alloc: Global, a: &str, b: &str) -> Result<bool, AllocError>
 /// That the value is the same as what stands where the pointer leads (RFC 6902, section 4.6).
 fn tested(
     alloc: Global,
-    pieces: &mut Pieces,
+    draft: &mut Draft,
     path: Pointer,
     value: CheckedText,
 ) -> Result<(), StepFault>
-    requires pieces { ArePieces pieces.old }
-    requires shallow { (j : Json) × IsShallowText (text_of pieces.old) j }
-    ensures pieces { OnOk result (ArePieces pieces.new) }
-    ensures kept { OnOk result (text_of pieces.new ≡ text_of pieces.old) }
-    ensures same { OnOk result ((i w : Json) → Says (text_of pieces.old) i
+    requires draft { IsDraft draft.old }
+    requires shallow { (j : Json) × IsShallowText (draft_text draft.old) j }
+    ensures draft { OnOk result (IsDraft draft.new) }
+    ensures kept { OnOk result (draft_text draft.new ≡ draft_text draft.old) }
+    ensures same { OnOk result ((i w : Json) → Says (draft_text draft.old) i
         → IsShallowText (text_in value.entry) w
         → ComesTo i (test_of (tokens_of path.entry) w) (Ok i)) }
-    ensures stopped { IfErr result (λ fault. (i w : Json) → Says (text_of pieces.old) i
+    ensures stopped { IfErr result (λ fault. (i w : Json) → Says (draft_text draft.old) i
         → IsShallowText (text_in value.entry) w
         → IsStopped i (test_of (tokens_of path.entry) w) fault) }
 {
-    let Some(here) = pieces.value(alloc, path)? else {
+    let Some(here) = draft.value(alloc, path)? else {
         return Err(StepFault::Refused(PatchErrorKind::InvalidPointer));
     };
     if is_same(alloc, here.as_str(), value.as_str())? {
@@ -168,27 +168,27 @@ fn tested(
 /// now.
 fn copied(
     alloc: Global,
-    pieces: &mut Pieces,
+    draft: &mut Draft,
     from: Pointer,
     path: Pointer,
     levels: usize,
 ) -> Result<bool, StepFault>
-    requires pieces { ArePieces pieces.old }
-    requires shallow { (j : Json) × IsShallowText (text_of pieces.old) j }
-    ensures pieces { IfOk result (λ deeper. ArePieces pieces.new) }
-    ensures made { IfOk result (λ deeper. IsCopied (text_of pieces.old) (tokens_of from.entry)
-        (tokens_of path.entry) (text_of pieces.new)) }
-    ensures tree { IfOk result (λ deeper. (i : Json) → Says (text_of pieces.old) i
-        → IsLeft (text_of pieces.new) i (copy_of (tokens_of from.entry) (tokens_of path.entry))) }
-    ensures depth { IfOk result (IsNoDeeper levels (text_of pieces.old) (text_of pieces.new)) }
-    ensures stopped { IfErr result (λ fault. (i : Json) → Says (text_of pieces.old) i
+    requires draft { IsDraft draft.old }
+    requires shallow { (j : Json) × IsShallowText (draft_text draft.old) j }
+    ensures draft { IfOk result (λ deeper. IsDraft draft.new) }
+    ensures made { IfOk result (λ deeper. IsCopied (draft_text draft.old) (tokens_of from.entry)
+        (tokens_of path.entry) (draft_text draft.new)) }
+    ensures tree { IfOk result (λ deeper. (i : Json) → Says (draft_text draft.old) i
+        → IsLeft (draft_text draft.new) i (copy_of (tokens_of from.entry) (tokens_of path.entry))) }
+    ensures depth { IfOk result (IsNoDeeper levels (draft_text draft.old) (draft_text draft.new)) }
+    ensures stopped { IfErr result (λ fault. (i : Json) → Says (draft_text draft.old) i
         → IsStopped i (copy_of (tokens_of from.entry) (tokens_of path.entry)) fault) }
 {
-    let Some(copy) = pieces.value(alloc, from)? else {
+    let Some(copy) = draft.value(alloc, from)? else {
         return Err(StepFault::Refused(PatchErrorKind::InvalidFromPointer));
     };
     let value = CheckedText::known(copy.as_str());
-    added(alloc, pieces, path, value, levels)
+    added(alloc, draft, path, value, levels)
 }
 
 /// Whether `path` is below `from`.
@@ -205,71 +205,71 @@ fn is_inside(path: Pointer, from: Pointer) -> bool
 /// nest deeper now.
 fn moved(
     alloc: Global,
-    pieces: &mut Pieces,
+    draft: &mut Draft,
     from: Pointer,
     path: Pointer,
     levels: usize,
 ) -> Result<bool, StepFault>
-    requires pieces { ArePieces pieces.old }
-    requires shallow { (j : Json) × IsShallowText (text_of pieces.old) j }
-    ensures pieces { IfOk result (λ deeper. ArePieces pieces.new) }
-    ensures made { IfOk result (λ deeper. IsMoved (text_of pieces.old) (tokens_of from.entry)
-        (tokens_of path.entry) (text_of pieces.new)) }
-    ensures tree { IfOk result (λ deeper. (i : Json) → Says (text_of pieces.old) i
-        → IsLeft (text_of pieces.new) i (move_of (tokens_of from.entry) (tokens_of path.entry))) }
-    ensures depth { IfOk result (IsNoDeeper levels (text_of pieces.old) (text_of pieces.new)) }
-    ensures stopped { IfErr result (λ fault. (i : Json) → Says (text_of pieces.old) i
+    requires draft { IsDraft draft.old }
+    requires shallow { (j : Json) × IsShallowText (draft_text draft.old) j }
+    ensures draft { IfOk result (λ deeper. IsDraft draft.new) }
+    ensures made { IfOk result (λ deeper. IsMoved (draft_text draft.old) (tokens_of from.entry)
+        (tokens_of path.entry) (draft_text draft.new)) }
+    ensures tree { IfOk result (λ deeper. (i : Json) → Says (draft_text draft.old) i
+        → IsLeft (draft_text draft.new) i (move_of (tokens_of from.entry) (tokens_of path.entry))) }
+    ensures depth { IfOk result (IsNoDeeper levels (draft_text draft.old) (draft_text draft.new)) }
+    ensures stopped { IfErr result (λ fault. (i : Json) → Says (draft_text draft.old) i
         → IsStopped i (move_of (tokens_of from.entry) (tokens_of path.entry)) fault) }
 {
     if is_inside(path, from) {
         return Err(StepFault::Refused(PatchErrorKind::CannotMoveInsideItself));
     }
-    let Some(taken) = pieces.value(alloc, from)? else {
+    let Some(taken) = draft.value(alloc, from)? else {
         return Err(StepFault::Refused(PatchErrorKind::InvalidFromPointer));
     };
-    if !pieces.remove(alloc, from)? {
+    if !draft.remove(alloc, from)? {
         return Err(StepFault::Refused(PatchErrorKind::InvalidFromPointer));
     }
     let taken = CheckedText::known(taken.as_str());
-    added(alloc, pieces, path, taken, levels)
+    added(alloc, draft, path, taken, levels)
 }
 
 /// The operation made on the text, and whether this may nest deeper than so many levels now, though it
 /// didn't before.
 pub(crate) fn step(
     alloc: Global,
-    pieces: &mut Pieces,
+    draft: &mut Draft,
     operation: &TextOperation,
     levels: usize,
 ) -> Result<bool, StepFault>
-    requires pieces { ArePieces pieces.old }
-    requires shallow { (j : Json) × IsShallowText (text_of pieces.old) j }
+    requires draft { IsDraft draft.old }
+    requires shallow { (j : Json) × IsShallowText (draft_text draft.old) j }
     requires written { (op : TreeOperation) × IsWrittenAs operation.now op }
-    ensures pieces { IfOk result (λ deeper. ArePieces pieces.new) }
+    ensures draft { IfOk result (λ deeper. IsDraft draft.new) }
     ensures made { IfOk result (λ deeper.
-        IsMadeIn (text_of pieces.old) operation.now (text_of pieces.new)) }
-    ensures tree { (i : Json) (op : TreeOperation) → Says (text_of pieces.old) i
-        → IsWrittenAs operation.now op → IsStepped i op (text_of pieces.new) result }
-    ensures depth { IfOk result (IsNoDeeper levels (text_of pieces.old) (text_of pieces.new)) }
+        IsMadeIn (draft_text draft.old) operation.now (draft_text draft.new)) }
+    ensures tree { (i : Json) (op : TreeOperation) → Says (draft_text draft.old) i
+        → IsWrittenAs operation.now op → IsStepped i op (draft_text draft.new) result }
+    ensures depth { IfOk result (IsNoDeeper levels (draft_text draft.old) (draft_text draft.new)) }
 {
     match operation {
         TextOperation::Add(path, value) => {
             let value = CheckedText::known(value);
-            added(alloc, pieces, path.as_pointer(), value, levels)
+            added(alloc, draft, path.as_pointer(), value, levels)
         }
-        TextOperation::Remove(path) => removed(alloc, pieces, path.as_pointer()),
+        TextOperation::Remove(path) => removed(alloc, draft, path.as_pointer()),
         TextOperation::Replace(path, value) => {
             let value = CheckedText::known(value);
-            replaced(alloc, pieces, path.as_pointer(), value, levels)
+            replaced(alloc, draft, path.as_pointer(), value, levels)
         }
         TextOperation::Move(from, path) => {
-            moved(alloc, pieces, from.as_pointer(), path.as_pointer(), levels)
+            moved(alloc, draft, from.as_pointer(), path.as_pointer(), levels)
         }
         TextOperation::Copy(from, path) => {
-            copied(alloc, pieces, from.as_pointer(), path.as_pointer(), levels)
+            copied(alloc, draft, from.as_pointer(), path.as_pointer(), levels)
         }
         TextOperation::Test(path, value) => {
-            tested(alloc, pieces, path.as_pointer(), CheckedText::known(value))?;
+            tested(alloc, draft, path.as_pointer(), CheckedText::known(value))?;
             Ok(false)
         }
     }

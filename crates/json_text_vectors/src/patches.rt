@@ -16,6 +16,18 @@ fn outcome(alloc: Global, text: &str, patch: &str) -> Result<String, Fail> {
     }
 }
 
+/// The same with one more operation, which leaves the text as it is: a single one is made on the whole
+/// text, several in pieces.
+fn outcome_of_more(alloc: Global, text: &str, patch: &str) -> Result<String, Fail> {
+    let Some(operations) = patch.strip_suffix(']') else {
+        return outcome(alloc, text, patch);
+    };
+    let more = format!(in alloc;
+        "{operations}, {{\"op\": \"copy\", \"from\": \"\", \"path\": \"\"}}]"
+    )?;
+    outcome(alloc, text, more.as_str())
+}
+
 /// As many lists, each in the one before.
 fn lists(alloc: Global, levels: usize) -> Result<String, Fail> {
     let mut text = String::new(alloc);
@@ -75,6 +87,7 @@ fn appendix_adds(rt: HostRuntime) -> Result<(), Fail> {
         ),
     ] {
         assert_eq!(rt; outcome(a, text, patch)?.as_str(), wanted);
+        assert_eq!(rt; outcome_of_more(a, text, patch)?.as_str(), wanted);
     }
     Ok(())
 }
@@ -110,6 +123,7 @@ fn appendix_changes(rt: HostRuntime) -> Result<(), Fail> {
         ),
     ] {
         assert_eq!(rt; outcome(a, text, patch)?.as_str(), wanted);
+        assert_eq!(rt; outcome_of_more(a, text, patch)?.as_str(), wanted);
     }
     Ok(())
 }
@@ -145,6 +159,7 @@ fn appendix_tests(rt: HostRuntime) -> Result<(), Fail> {
         ),
     ] {
         assert_eq!(rt; outcome(a, text, patch)?.as_str(), wanted);
+        assert_eq!(rt; outcome_of_more(a, text, patch)?.as_str(), wanted);
     }
     Ok(())
 }
@@ -183,10 +198,11 @@ fn numbers_and_names(rt: HostRuntime) -> Result<(), Fail> {
             r#"[{"value": 0, "op": "add", "path": "", "value":  { "\u0061" : 1.0} }]"#,
             r#" { "\u0061" : 1.0} "#,
         ),
-        ("[1, 2]", "[]", "[1, 2]"),
     ] {
         assert_eq!(rt; outcome(a, text, patch)?.as_str(), wanted);
+        assert_eq!(rt; outcome_of_more(a, text, patch)?.as_str(), wanted);
     }
+    assert_eq!(rt; outcome(a, "[1, 2]", "[]")?.as_str(), "[1, 2]");
     Ok(())
 }
 
@@ -217,7 +233,9 @@ fn refusals(rt: HostRuntime) -> Result<(), Fail> {
         ("{}", "patch is not a list"),
         ("[", "patch: the text is not JSON"),
     ] {
-        assert_eq!(rt; outcome(a, r#"{"a": 1, "b": {}}"#, patch)?.as_str(), wanted);
+        let text = r#"{"a": 1, "b": {}}"#;
+        assert_eq!(rt; outcome(a, text, patch)?.as_str(), wanted);
+        assert_eq!(rt; outcome_of_more(a, text, patch)?.as_str(), wanted);
     }
     assert_eq!(rt;
         outcome(a, "01", "[]")?.as_str(),

@@ -3,21 +3,21 @@ use Rattle.json_patch_text.specs.Run.{AcceptsText}
 use Rattle.json_patch_text.proofs.Bounded.{first_shallow, not_over, over_reached, reached_shallow, reached_under_first, reached_under_more, reported_under, step_shallow, written_here}
 use Rattle.json_patch_text.proofs.Reached.{all_accepted, reached_first}
 use Rattle.json_lexemes.proofs.Nests.{accepted}
-use Rattle.json_pieces.specs.Whole.{text_of}
+use Rattle.json_patch_text.specs.Drafts.{draft_text}
 use Rattle.json_patch_text.proofs.run.run.Goals as goal
 
 pub loop-number-init : goal.loop-number-init
 loop-number-init c =
-    let here : text_of c.new-pieces.result ≡ c.args.text.text.now = c.new-pieces.ensures.text in
+    let here : draft_text c.new-draft.result ≡ c.args.text.text.now = c.new-draft.ensures.text in
     record {
-      pieces = c.new-pieces.ensures.pieces;
-      reached = reached_under_first c.args.bounds c.args.text.text.now (text_of c.new-pieces.result) c.args.operations.now here (reached_first c.args.text.text.now (text_of c.new-pieces.result) c.args.operations.now here) c.requires.under;
-      deep = first_shallow c.args.text.text.now (text_of c.new-pieces.result) here (accepted c.args.text.text.now c.args.text.read);
+      draft = c.new-draft.ensures.draft;
+      reached = reached_under_first c.args.bounds c.args.text.text.now (draft_text c.new-draft.result) c.args.operations.now here (reached_first c.args.text.text.now (draft_text c.new-draft.result) c.args.operations.now here) c.requires.under;
+      deep = first_shallow c.args.text.text.now (draft_text c.new-draft.result) here (accepted c.args.text.text.now c.args.text.read);
     }
 
 pub step-requires-clause-shallow : goal.step-requires-clause-shallow
 step-requires-clause-shallow c =
-    reached_shallow c.args.bounds c.args.text.text.now (text_of c.loop-number.pieces) c.args.operations.now c.loop-number.number c.loop-number.deep
+    reached_shallow c.args.bounds c.args.text.text.now (draft_text c.loop-number.draft) c.args.operations.now c.loop-number.number c.loop-number.deep
     (accepted c.args.text.text.now c.args.text.read) c.requires.written c.loop-number.invariant.reached c.loop-number.invariant.deep c.if-deep.false
 
 pub step-requires-clause-written : goal.step-requires-clause-written
@@ -25,30 +25,30 @@ step-requires-clause-written c = written_here c.args.operations.now c.loop-numbe
 
 pub returns-in-Err-clause-fault : goal.returns-in-Err-clause-fault
 returns-in-Err-clause-fault c ops w =
-    reported_under c.args.bounds c.args.text.text.now (text_of c.loop-number.pieces) c.args.operations.now ops c.loop-number.number c.index-operations-number.result c.in-Err.fault c.reported.result
+    reported_under c.args.bounds c.args.text.text.now (draft_text c.loop-number.draft) c.args.operations.now ops c.loop-number.number c.index-operations-number.result c.in-Err.fault c.reported.result
     (accepted c.args.text.text.now c.args.text.read) c.loop-number-test.true c.index-operations-number.is c.loop-number.invariant.reached c.in-Err.ensures.tree c.reported.ensures w
 
 pub over-requires-clause-depth : goal.over-requires-clause-depth
 over-requires-clause-depth c = λ e.
-    step_shallow c.args.bounds c.args.text.text.now (text_of c.loop-number.pieces) (text_of c.step.new.pieces) c.args.operations.now c.loop-number.number c.levels-levels.result c.loop-number.deep c.in-Ok.deeper
+    step_shallow c.args.bounds c.args.text.text.now (draft_text c.loop-number.draft) (draft_text c.step.new.draft) c.args.operations.now c.loop-number.number c.levels-levels.result c.loop-number.deep c.in-Ok.deeper
     c.levels-levels.ensures c.loop-number.invariant.reached c.loop-number.invariant.deep c.if-deep.false c.in-Ok.ensures.depth e
 
 pub returns-in-Some-clause-fault : goal.returns-in-Some-clause-fault
 returns-in-Some-clause-fault c ops w =
-    over_reached c.args.bounds c.args.text.text.now (text_of c.loop-number.pieces) (text_of c.step.new.pieces) c.args.operations.now ops c.loop-number.number c.index-operations-number.result c.in-Some.kind
+    over_reached c.args.bounds c.args.text.text.now (draft_text c.loop-number.draft) (draft_text c.step.new.draft) c.args.operations.now ops c.loop-number.number c.index-operations-number.result c.in-Some.kind
     (accepted c.args.text.text.now c.args.text.read) c.loop-number-test.true c.index-operations-number.is c.loop-number.invariant.reached c.in-Ok.ensures.made c.in-Ok.ensures.tree (rw c.in-Some.is at c.in_ok-kind.ensures) w
 
 pub loop-number-preserved : goal.loop-number-preserved
 loop-number-preserved c = record {
-  pieces = c.in-Ok.ensures.pieces;
-  reached = reached_under_more c.args.bounds c.args.text.text.now (text_of c.loop-number.pieces) (text_of c.step.new.pieces) c.args.operations.now c.loop-number.number c.index-operations-number.result
+  draft = c.in-Ok.ensures.draft;
+  reached = reached_under_more c.args.bounds c.args.text.text.now (draft_text c.loop-number.draft) (draft_text c.step.new.draft) c.args.operations.now c.loop-number.number c.index-operations-number.result
       c.loop-number-test.true c.index-operations-number.is c.loop-number.invariant.reached c.in-Ok.ensures.made c.in-Ok.ensures.tree
-      (not_over c.args.bounds (text_of c.step.new.pieces) c.in_ok-kind.field-0 c.in_default.not-Some c.in_ok-kind.ensures);
+      (not_over c.args.bounds (draft_text c.step.new.draft) c.in_ok-kind.field-0 c.in_default.not-Some c.in_ok-kind.ensures);
   deep = c.in_ok-deep.ensures;
 }
 
 pub returns-clause-accepted : goal.returns-clause-accepted
 returns-clause-accepted c ops w =
     let end : length c.args.operations.now ≡ c.loop-number.number = omega arith in
-    subst (AcceptsText c.args.text.text.now ops) (sym c.in_ok-to_text.ensures)
-    (all_accepted c.args.text.text.now (text_of c.loop-number.pieces) c.args.operations.now ops c.loop-number.number end (accepted c.args.text.text.now c.args.text.read) c.loop-number.invariant.reached.0 w)
+    subst (AcceptsText c.args.text.text.now ops) (sym c.in_ok-into_text.ensures)
+    (all_accepted c.args.text.text.now (draft_text c.loop-number.draft) c.args.operations.now ops c.loop-number.number end (accepted c.args.text.text.now c.args.text.read) c.loop-number.invariant.reached.0 w)

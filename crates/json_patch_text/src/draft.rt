@@ -1,0 +1,208 @@
+//! The text that operations work on: as a whole, or in pieces.
+
+ghost use Rattle.std.specs.Prelude.{◌≡◌, IfOk, MatchOption, false, true};
+ghost use Rattle.std.specs.String.{string_bytes};
+ghost use Rattle.json.specs.Json.{Json};
+ghost use Rattle.json_lexemes.specs.Spelled.{IsShallowText};
+ghost use Rattle.jsonptr.specs.Pointers.{tokens_of};
+ghost use Rattle.json_patch_text.specs.Drafts.{IsCopyOf, whole_text};
+ghost use Rattle.json_text.specs.Checked.{text_in};
+
+use crate::operation::TextOperation;
+use json_pieces::Pieces;
+use json_text::{CheckedText, is_deeper};
+use jsonptr::Pointer;
+use std::alloc::{AllocError, Global};
+
+/// A text as a whole. Each call passes over it to its place.
+#[derive(Drop)]
+pub(crate) enum WholeText<'a> {
+    /// The document's.
+    Kept(CheckedText<'a>),
+    /// One that a change made.
+    Made(String),
+}
+
+impl WholeText<'_> {
+    fn as_str(&self) -> &str
+        ensures { result.now ≡ whole_text self.now }
+    {
+        match self {
+            WholeText::Kept(text) => text.as_str(),
+            WholeText::Made(text) => text.as_str(),
+        }
+    }
+
+    fn checked(&self) -> CheckedText<'_>
+        requires { (j : Json) × IsShallowText (whole_text self.now) j }
+        ensures { text_in result ≡ whole_text self.now }
+    {
+        CheckedText::known(self.as_str())
+    }
+
+    /// A copy of the text of the value where the pointer leads.
+    fn value(&self, alloc: Global, pointer: Pointer) -> Result<Option<String>, AllocError>
+        requires { (j : Json) × IsShallowText (whole_text self.now) j }
+        ensures { IfOk result (IsCopyOf (whole_text self.now) (tokens_of pointer.entry)) }
+    {
+        match self.checked().value(alloc, pointer)? {
+            Some(value) => Ok(Some(String::from_str(alloc, value.as_str())?)),
+            None => Ok(None),
+        }
+    }
+
+    /// Takes on the text that a change made, and tells whether it made one.
+    fn take(&mut self, made: Option<String>) -> bool
+        ensures { MatchOption made ((result ≡ false) × (whole_text self.new ≡ whole_text self.old))
+            (λ new. (result ≡ true) × (whole_text self.new ≡ string_bytes new)) }
+    {
+        match made {
+            Some(new) => {
+                *self = WholeText::Made(new);
+                true
+            }
+            None => false,
+        }
+    }
+}
+
+/// The text that operations work on.
+#[derive(Drop)]
+pub(crate) enum Draft<'a> {
+    Whole(WholeText<'a>),
+    /// An object or a list is passed over once, however many calls go through it.
+    Pieces(Pieces<'a>),
+}
+
+impl<'a> Draft<'a> {
+    ghost use Rattle.std.specs.Prelude.{◌<◌, length};
+    ghost use Rattle.std.specs.Bool.{Decides};
+    ghost use Rattle.json_lexemes.specs.Skipped.{nesting};
+    ghost use Rattle.json_patch_text.specs.Drafts.{IsDraft, draft_text};
+    ghost use Rattle.json_pieces.specs.Changes.{Adds, Removes, Replaces};
+
+    /// The document's text, as serves these operations best: a single one is made on the whole. It is
+    /// made in pieces if it removes, since each member of a name would be one more pass.
+    pub(crate) fn new(text: CheckedText<'a>, operations: &[TextOperation]) -> Draft<'a>
+        ensures draft { IsDraft result }
+        ensures text { draft_text result ≡ text_in text.entry }
+    {
+        if operations.len() == 1 && !operations[0].is_removing() {
+            Draft::Whole(WholeText::Kept(text))
+        } else {
+            Draft::Pieces(Pieces::new(text))
+        }
+    }
+
+    pub(crate) fn len(&self) -> usize
+        requires { IsDraft self.now }
+        ensures { result ≡ length (draft_text self.now) }
+    {
+        match self {
+            Draft::Whole(text) => text.as_str().len(),
+            Draft::Pieces(pieces) => pieces.len(),
+        }
+    }
+
+    /// Whether more than so many objects and arrays of the text are open at once.
+    pub(crate) fn is_deeper(&self, alloc: Global, most: usize) -> Result<bool, AllocError>
+        requires { IsDraft self.now }
+        ensures { IfOk result (λ deeper. Decides deeper (most < nesting (draft_text self.now))) }
+    {
+        match self {
+            Draft::Whole(text) => Ok(is_deeper(text.as_str(), most)),
+            Draft::Pieces(pieces) => Ok(is_deeper(pieces.to_text(alloc)?.as_str(), most)),
+        }
+    }
+
+    /// The text, in one string.
+    pub(crate) fn into_text(self, alloc: Global) -> Result<String, AllocError>
+        requires { IsDraft self }
+        ensures { IfOk result (λ text. string_bytes text ≡ draft_text self.entry) }
+    {
+        match self {
+            Draft::Whole(WholeText::Kept(text)) => String::from_str(alloc, text.as_str()),
+            Draft::Whole(WholeText::Made(text)) => Ok(text),
+            Draft::Pieces(pieces) => pieces.to_text(alloc),
+        }
+    }
+
+    /// As [`Pieces::value`].
+    pub(crate) fn value(
+        &mut self,
+        alloc: Global,
+        pointer: Pointer,
+    ) -> Result<Option<String>, AllocError>
+        requires draft { IsDraft self.old }
+        requires shallow { (j : Json) × IsShallowText (draft_text self.old) j }
+        ensures draft { IfOk result (λ found. IsDraft self.new) }
+        ensures kept { IfOk result (λ found. draft_text self.new ≡ draft_text self.old) }
+        ensures value { IfOk result (IsCopyOf (draft_text self.old) (tokens_of pointer.entry)) }
+    {
+        match self {
+            Draft::Whole(text) => text.value(alloc, pointer),
+            Draft::Pieces(pieces) => pieces.value(alloc, pointer),
+        }
+    }
+
+    /// As [`Pieces::replace`].
+    pub(crate) fn replace(
+        &mut self,
+        alloc: Global,
+        pointer: Pointer,
+        value: CheckedText,
+    ) -> Result<bool, AllocError>
+        requires draft { IsDraft self.old }
+        requires shallow { (j : Json) × IsShallowText (draft_text self.old) j }
+        ensures draft { IfOk result (λ done. IsDraft self.new) }
+        ensures replaced { IfOk result (Replaces (draft_text self.old) (tokens_of pointer.entry)
+            (text_in value.entry) (draft_text self.new)) }
+    {
+        match self {
+            Draft::Whole(text) => {
+                let new = text.checked().replace(alloc, pointer, value)?;
+                Ok(text.take(new))
+            }
+            Draft::Pieces(pieces) => pieces.replace(alloc, pointer, value),
+        }
+    }
+
+    /// As [`Pieces::remove`].
+    pub(crate) fn remove(&mut self, alloc: Global, pointer: Pointer) -> Result<bool, AllocError>
+        requires draft { IsDraft self.old }
+        requires shallow { (j : Json) × IsShallowText (draft_text self.old) j }
+        ensures draft { IfOk result (λ done. IsDraft self.new) }
+        ensures removed { IfOk result (Removes (draft_text self.old) (tokens_of pointer.entry)
+            (draft_text self.new)) }
+    {
+        match self {
+            Draft::Whole(text) => {
+                let new = text.checked().remove(alloc, pointer)?;
+                Ok(text.take(new))
+            }
+            Draft::Pieces(pieces) => pieces.remove(alloc, pointer),
+        }
+    }
+
+    /// As [`Pieces::add`].
+    pub(crate) fn add(
+        &mut self,
+        alloc: Global,
+        pointer: Pointer,
+        value: CheckedText,
+    ) -> Result<bool, AllocError>
+        requires draft { IsDraft self.old }
+        requires shallow { (j : Json) × IsShallowText (draft_text self.old) j }
+        ensures draft { IfOk result (λ done. IsDraft self.new) }
+        ensures added { IfOk result (Adds (draft_text self.old) (tokens_of pointer.entry)
+            (text_in value.entry) (draft_text self.new)) }
+    {
+        match self {
+            Draft::Whole(text) => {
+                let new = text.checked().add(alloc, pointer, value)?;
+                Ok(text.take(new))
+            }
+            Draft::Pieces(pieces) => pieces.add(alloc, pointer, value),
+        }
+    }
+}
