@@ -4,7 +4,7 @@
 #include <stdio.h>
 #include <string.h>
 
-/* Prints the text that was made, or why none was. */
+/* Prints the text that was made, or why none was. `out` has room for every path of these patches. */
 static void print(const char *call, json_patch_status status, const char *out,
                   const json_patch_report *report) {
     switch (status) {

@@ -1,4 +1,4 @@
-/* The rows of cases.json, as both tests read them. */
+/* The rows of cases.json, as the tests read them. */
 #include "json_patch.h"
 
 #include <stdarg.h>

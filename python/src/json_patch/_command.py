@@ -100,7 +100,7 @@ def _parser() -> argparse.ArgumentParser:
 
 def _add_output(parser: argparse.ArgumentParser) -> None:
     parser.add_argument("--indent", type=_spaces, metavar="N", help="write anew, each item on a line, indented by N spaces")
-    parser.add_argument("-u", "--preserve-unicode", action="store_true", help="as it always is: no character is escaped")
+    parser.add_argument("-u", "--preserve-unicode", action="store_true", help="changes nothing: no character is ever escaped")
 
 
 def _add_levels(parser: argparse.ArgumentParser) -> None:
