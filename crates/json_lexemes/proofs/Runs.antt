@@ -139,8 +139,8 @@ run_step t from k l h f r =
     }
 
 -- the same of several bytes
-pub flat_run : (t : List ℕ) (from n i k : ℕ) → k ≡ i + n → from ≤ i → k ≤ length t → IsFree is_mark t i k → InRun t from i → InRun t from k
-flat_run t from n i k e l h p r = free_along (InRun t from) is_mark t i n k e h (λ j le lt f. run_step t from j (omega (arith, l, le)) lt (ap not f)) p r
+pub flat_run : (t : List ℕ) (from i k : ℕ) → from ≤ i → i ≤ k → k ≤ length t → IsFree is_mark t i k → InRun t from i → InRun t from k
+flat_run t from i k l m h p r = free_along (InRun t from) is_mark t i (k - i) k (omega arith) h (λ j le lt f. run_step t from j (omega (arith, l, le)) lt (ap not f)) p r
 
 ended_left : (t : List ℕ) (k : ℕ) (b : Bool) → ends_word (drop k t) ≡ true → lex (mode_of b) (drop k t) ≡ left_at t k
 ended_left t k true e = word_left t k e
@@ -211,9 +211,9 @@ string_step t from k l h q s = string_byte t from k l h q s.escaped s.left s.mod
 not_quote : (x : ℕ) → is_quote x ≡ false → x ≢ 34
 not_quote x h e = grind arith
 
--- the same of several bytes
-pub string_run : (t : List ℕ) (from n i k : ℕ) → k ≡ i + n → from ≤ i → k ≤ length t → IsFree is_quote t i k → InString t from i → InString t from k
-string_run t from n i k e l h p s = free_along (InString t from) is_quote t i n k e h (λ j le lt f. string_step t from j (omega (arith, l, le)) lt (not_quote _ f)) p s
+-- the same of several bytes, from the string's inside on
+pub string_run : (t : List ℕ) (from k : ℕ) → from ≤ k → k ≤ length t → IsFree is_quote t from k → InString t from k
+string_run t from k l h p = free_along (InString t from) is_quote t from (k - from) k (omega arith) h (λ j le lt f. string_step t from j le lt (not_quote _ f)) p (string_begins t from)
 
 -- where no backslash stands before k, its byte isn't escaped
 pub unescaped : (t : List ℕ) (from k : ℕ) → (s : InString t from k) → (from < k → get_or t (k - 1) 0 ≢ 92) → s.escaped ≡ false

@@ -48,9 +48,6 @@ free_on p t from i k a b j le lt = by_place (cases_lt j i)
 pub free_load : (p : ℕ → Bool) (t : List ℕ) (i : ℕ) → i + 16 ≤ length t → mask_l (map p (chunk i 16 t)) ≡ 0 → IsFree p t i (i + 16)
 free_load p t i room none = none_from_empty_mask p t i 16 0 room none
 
-pub free_byte : (p : ℕ → Bool) (t : List ℕ) (i : ℕ) → p (get_or t i 0) ≡ false → IsFree p t i (i + 1)
-free_byte p t i h j le lt = let same : i ≡ j = omega (arith, le, lt) in ap (λ k. p (get_or t k 0)) (sym same) ∙ h
-
 -- what one such byte more leaves true, several do
 pub free_along : (R : ℕ → Type 0) (p : ℕ → Bool) (t : List ℕ) (i n k : ℕ) → k ≡ i + n → k ≤ length t → ((j : ℕ) → i ≤ j → j < length t → p (get_or t j 0) ≡ false → R j → R (j + 1)) → IsFree p t i k → R i → R k
 free_along R p t i zero k e h step free r = let same : i ≡ k = omega (arith, e) in subst R same r

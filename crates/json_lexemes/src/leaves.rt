@@ -1,37 +1,38 @@
 //! Strings, numbers and literals, each checked to its end against the grammar of JSON. Nothing here is
 //! recursive, and no memory is taken.
 
-ghost use Rattle.std.specs.Prelude.{◌≡◌, ◌<◌, ◌≤◌, ◌+◌, ◌∷◌, true, length, drop, map, get_or, IfSome};
+ghost use Rattle.std.specs.Prelude.{◌≡◌, ◌<◌, ◌≤◌, ◌+◌, ◌∷◌, true, length, drop, get_or, IfSome};
 ghost use Rattle.std.specs.List.{prefix_len};
 ghost use Rattle.std.specs.Char.{is_ascii_digit};
-ghost use Rattle.std.specs.Simd.Lanes.{mask_l};
 ghost use Rattle.json.specs.Lex.{in_string, lex};
 ghost use Rattle.json.specs.Run.{EndsAt};
 ghost use Rattle.json.specs.Word.{after_digits, after_minus, after_sign, after_whole, after_fraction, after_exponent, after_number, ends_word};
 ghost use Rattle.json_lexemes.specs.Places.{left_at};
 ghost use Rattle.json_lexemes.specs.Grammar.{is_no_digit, is_stop, HasContent, IsFree, Spells};
 
-use crate::lexemes::{WIDE, byte_at, is_blank, is_operator};
+use crate::lexemes::{byte_at, is_blank, is_operator};
 use crate::names::escaped;
+use crate::scan::{Sought, first_of};
 use std::simd::prelude::*;
 
-/// Whether this byte doesn't stand for itself in a string.
-#[inline(always)]
-fn is_stop(c: u8) -> bool
-    ensures { result ≡ is_stop c }
-{
-    c == b'"' || c == b'\\' || c < b' '
-}
+/// A byte that doesn't stand for itself in a string.
+struct Stop;
 
-/// A bit for each of these bytes, set where it doesn't stand for itself in a string.
-#[inline(always)]
-fn stops(bytes: u8x16) -> u64
-    ensures { result ≡ mask_l (map is_stop bytes) }
-{
-    let quotes = bytes.simd_eq(u8x16::splat(b'"'));
-    let backslashes = bytes.simd_eq(u8x16::splat(b'\\'));
-    let controls = bytes.simd_lt(u8x16::splat(b' '));
-    (quotes | backslashes | controls).to_bitmask()
+impl Sought for Stop {
+    ghost is_sought = { is_stop };
+
+    #[inline(always)]
+    fn is(c: u8) -> bool {
+        c == b'"' || c == b'\\' || c < b' '
+    }
+
+    #[inline(always)]
+    fn mask(bytes: u8x16) -> u64 {
+        let quotes = bytes.simd_eq(u8x16::splat(b'"'));
+        let backslashes = bytes.simd_eq(u8x16::splat(b'\\'));
+        let controls = bytes.simd_lt(u8x16::splat(b' '));
+        (quotes | backslashes | controls).to_bitmask()
+    }
 }
 
 /// The first place from `from` on, in a string, where a byte doesn't stand for itself, or the text's end.
@@ -41,18 +42,7 @@ fn plain_end(text: &[u8], from: usize) -> usize
     ensures bounds { (from ≤ result) × (result ≤ length text.now) }
     ensures plain { IsFree is_stop text.now from result }
 {
-    let mut i = from;
-    while text.len() - i >= WIDE {
-        let found = stops(u8x16::from_slice(&text[i..]));
-        if found != 0 {
-            return i + found.trailing_zeros() as usize;
-        }
-        i += WIDE;
-    }
-    while i < text.len() && !is_stop(text[i]) {
-        i += 1;
-    }
-    i
+    first_of::<Stop>(text, from)
 }
 
 /// As `closed_string`, where escapes may stand.
@@ -93,14 +83,23 @@ pub(crate) fn closed_string(text: &[u8], from: usize) -> Option<usize>
     escaped_string(text, end)
 }
 
-/// A bit for each of these bytes, set where it is no digit.
-#[inline(always)]
-fn non_digits(bytes: u8x16) -> u64
-    ensures { result ≡ mask_l (map is_no_digit bytes) }
-{
-    (bytes - u8x16::splat(b'0'))
-        .simd_ge(u8x16::splat(10))
-        .to_bitmask()
+/// A byte that is no digit.
+struct NonDigit;
+
+impl Sought for NonDigit {
+    ghost is_sought = { is_no_digit };
+
+    #[inline(always)]
+    fn is(c: u8) -> bool {
+        !c.is_ascii_digit()
+    }
+
+    #[inline(always)]
+    fn mask(bytes: u8x16) -> u64 {
+        (bytes - u8x16::splat(b'0'))
+            .simd_ge(u8x16::splat(10))
+            .to_bitmask()
+    }
 }
 
 /// The first place from `from` on where no digit stands.
@@ -110,18 +109,7 @@ fn digits_end(text: &[u8], from: usize) -> usize
     ensures bounds { (from ≤ result) × (result ≤ length text.now) }
     ensures value { result ≡ from + prefix_len is_ascii_digit (drop from text.now) }
 {
-    let mut i = from;
-    while text.len() - i >= WIDE {
-        let found = non_digits(u8x16::from_slice(&text[i..]));
-        if found != 0 {
-            return i + found.trailing_zeros() as usize;
-        }
-        i += WIDE;
-    }
-    while i < text.len() && text[i].is_ascii_digit() {
-        i += 1;
-    }
-    i
+    first_of::<NonDigit>(text, from)
 }
 
 /// The place after one digit or more.

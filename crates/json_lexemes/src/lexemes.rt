@@ -1,10 +1,9 @@
 //! Lexemes of a JSON text, by their places. Nothing here is recursive.
 
-ghost use Rattle.std.specs.Prelude.{◌≡◌, ◌≢◌, ◌⊎◌, ◌<◌, ◌≤◌, ◌+◌, ◌-◌, ◌^◌, [], ◌∷◌, List, true, false, length, drop, map, get_or};
+ghost use Rattle.std.specs.Prelude.{◌≡◌, ◌≢◌, ◌⊎◌, ◌<◌, ◌≤◌, ◌+◌, ◌-◌, ◌^◌, [], ◌∷◌, List, true, false, length, drop, get_or};
 ghost use Rattle.std.specs.Prelude.{IfSome, IfNone};
 ghost use Rattle.std.specs.Bool.{Decides};
 ghost use Rattle.std.specs.Str.{IsUtf8, IsCharBoundary};
-ghost use Rattle.std.specs.Simd.Lanes.{mask_l};
 ghost use Rattle.json.specs.Word.{is_operator, is_space, ends_word};
 ghost use Rattle.json.specs.Lex.{Lexeme, between, in_word, in_string, lex, operator_lexeme};
 ghost use Rattle.json_lexemes.specs.Lexing.{Outside};
@@ -12,6 +11,7 @@ ghost use Rattle.json_lexemes.specs.Places.{mode_at, left_at, depth_by, Closes, 
 ghost use Rattle.json_lexemes.specs.Skipped.{nesting, skip};
 ghost use Rattle.json_lexemes.specs.Runs.{goes_on, is_bracket, is_flat, is_mark, is_of_word, is_quote, run_mode, InRun, InString, Passes};
 
+use crate::scan::{Sought, WIDE, first_of};
 use std::simd::prelude::*;
 
 /// Of each byte outside of strings: `0` for a quote or a bracket, `1` for a blank, a comma or a colon, `2`
@@ -25,9 +25,6 @@ static KIND: [u8; 256] = *b"\
     22222222222222222222222222222222\
     22222222222222222222222222222222\
     22222222222222222222222222222222";
-
-/// How many bytes are tested at once where the next that counts may be far.
-pub(crate) const WIDE: usize = 16;
 
 /// Whether this is a blank: a space, a tab, a line feed or a carriage return.
 #[inline(always)]
@@ -96,12 +93,21 @@ pub fn after(text: &[u8], from: usize, c: u8) -> Option<usize>
     }
 }
 
-/// A bit for each of these bytes, set where it is a quote.
-#[inline(always)]
-fn quotes(bytes: u8x16) -> u64
-    ensures { result ≡ mask_l (map is_quote bytes) }
-{
-    bytes.simd_eq(u8x16::splat(b'"')).to_bitmask()
+/// A quote.
+struct Quote;
+
+impl Sought for Quote {
+    ghost is_sought = { is_quote };
+
+    #[inline(always)]
+    fn is(c: u8) -> bool {
+        c == b'"'
+    }
+
+    #[inline(always)]
+    fn mask(bytes: u8x16) -> u64 {
+        bytes.simd_eq(u8x16::splat(b'"')).to_bitmask()
+    }
 }
 
 /// The first place from `from` on where a quote stands.
@@ -112,21 +118,8 @@ fn quote_from(text: &[u8], from: usize) -> Option<usize>
     ensures inside { IfSome result (λ i. InString text.now from i) }
     ensures quote { IfSome result (λ i. get_or text.now i 0 ≡ 34) }
 {
-    let mut i = from;
-    while text.len() - i >= WIDE {
-        let found = quotes(u8x16::from_slice(&text[i..]));
-        if found != 0 {
-            return Some(i + found.trailing_zeros() as usize);
-        }
-        i += WIDE;
-    }
-    while i < text.len() {
-        if text[i] == b'"' {
-            return Some(i);
-        }
-        i += 1;
-    }
-    None
+    let i = first_of::<Quote>(text, from);
+    if i < text.len() { Some(i) } else { None }
 }
 
 /// The place after the quote that closes a string whose inside begins at `from`, or the text's end where
@@ -269,17 +262,26 @@ fn is_of_word(c: u8) -> bool
     KIND[usize::from(c)] == b'2'
 }
 
-/// A bit for each of these bytes, set where it is a quote or a bracket.
-#[inline(always)]
-fn marks(bytes: u8x16) -> u64
-    ensures { result ≡ mask_l (map is_mark bytes) }
-{
-    // This bit makes braces of the other brackets, and of no other byte.
-    let braces = bytes | u8x16::splat(32);
-    let opening = braces.simd_eq(u8x16::splat(b'{'));
-    let closing = braces.simd_eq(u8x16::splat(b'}'));
-    let quotes = bytes.simd_eq(u8x16::splat(b'"'));
-    (opening | closing | quotes).to_bitmask()
+/// A quote or a bracket.
+struct Mark;
+
+impl Sought for Mark {
+    ghost is_sought = { is_mark };
+
+    #[inline(always)]
+    fn is(c: u8) -> bool {
+        !is_flat(c)
+    }
+
+    #[inline(always)]
+    fn mask(bytes: u8x16) -> u64 {
+        // This bit makes braces of the other brackets, and of no other byte.
+        let braces = bytes | u8x16::splat(32);
+        let opening = braces.simd_eq(u8x16::splat(b'{'));
+        let closing = braces.simd_eq(u8x16::splat(b'}'));
+        let quotes = bytes.simd_eq(u8x16::splat(b'"'));
+        (opening | closing | quotes).to_bitmask()
+    }
 }
 
 /// The first place from `from` on where a quote or a bracket stands. What is passed leaves the count of
@@ -292,31 +294,18 @@ fn flat_end(text: &[u8], from: usize) -> Option<usize>
     ensures stops { IfSome result (λ i. is_flat (get_or text.now i 0) ≡ false) }
     ensures none { IfNone result (InRun text.now from (length text.now)) }
 {
-    let mut i = from;
-    // Most are a few bytes away, and are found sooner one by one.
-    if text.len() - i >= WIDE {
-        let stop = i + WIDE;
-        while i < stop {
-            if !is_flat(text[i]) {
-                return Some(i);
+    let mut tested = 0;
+    // Most are a few bytes away, and are found sooner one by one. Counted from 0, they are unrolled.
+    if text.len() - from >= WIDE {
+        while tested < WIDE {
+            if !is_flat(text[from + tested]) {
+                return Some(from + tested);
             }
-            i += 1;
+            tested += 1;
         }
     }
-    while text.len() - i >= WIDE {
-        let found = marks(u8x16::from_slice(&text[i..]));
-        if found != 0 {
-            return Some(i + found.trailing_zeros() as usize);
-        }
-        i += WIDE;
-    }
-    while i < text.len() {
-        if !is_flat(text[i]) {
-            return Some(i);
-        }
-        i += 1;
-    }
-    None
+    let end = first_of::<Mark>(text, from + tested);
+    if end < text.len() { Some(end) } else { None }
 }
 
 /// Whether a word goes on at `at`, of a run of flat bytes that began at `from`.

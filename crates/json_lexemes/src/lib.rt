@@ -14,6 +14,7 @@ mod grammar;
 mod leaves;
 mod lexemes;
 mod names;
+mod scan;
 mod span;
 #[cfg(test)]
 mod tests;

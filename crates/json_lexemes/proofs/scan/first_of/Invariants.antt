@@ -1,23 +1,23 @@
 use Rattle.std.proofs.Common.{◌-◌, ◌≤◌, length}
-use Rattle.json_lexemes.specs.Grammar.{is_no_digit, IsFree}
-use Rattle.json_lexemes.proofs.leaves.digits_end.Given as goal
+use Rattle.json_lexemes.specs.Grammar.{IsFree}
+use Rattle.json_lexemes.proofs.scan.first_of.Given as goal
 
 abbrev pub invariant-loop-i : goal.invariant-loop-i
-invariant-loop-i l = record {
+invariant-loop-i g l = record {
   low : l.from ≤ l.i;
   high : l.i ≤ length l.text;
-  digits : IsFree is_no_digit l.text l.from l.i;
+  free : IsFree g.K.Sought.is_sought l.text l.from l.i;
 }
 
 abbrev pub decreases-loop-i : goal.decreases-loop-i
-decreases-loop-i l = length l.text - l.i
+decreases-loop-i g l = length l.text - l.i
 
 abbrev pub invariant-loop-i-2 : goal.invariant-loop-i-2
-invariant-loop-i-2 l = record {
+invariant-loop-i-2 g l = record {
   low : l.from ≤ l.i;
   high : l.i ≤ length l.text;
-  digits : IsFree is_no_digit l.text l.from l.i;
+  free : IsFree g.K.Sought.is_sought l.text l.from l.i;
 }
 
 abbrev pub decreases-loop-i-2 : goal.decreases-loop-i-2
-decreases-loop-i-2 l = length l.text - l.i
+decreases-loop-i-2 g l = length l.text - l.i

@@ -2,7 +2,7 @@ use Rattle.std.proofs.Common.{◌+◌, ◌-◌, ◌%◌, cond, leb, refl, arith}
 use Rattle.std.proofs.lemmas.Simd.{zip2_splat, zip2_of_maps, splat_is_map}
 use Rattle.json_lexemes.specs.Grammar.{is_no_digit}
 use Rattle.json_lexemes.proofs.Wide.{shifted, mask_is}
-use Rattle.json_lexemes.proofs.leaves.non_digits.Goals as goal
+use Rattle.json_lexemes.proofs.leaves.NonDigitSought.mask.Goals as goal
 
 pub returns : goal.returns
 returns c =

@@ -3,7 +3,7 @@ use Rattle.std.proofs.lemmas.Simd.{zip2_splat, zip2_of_maps, splat_is_map}
 use lib.Bits.{bit_or}
 use Rattle.json_lexemes.specs.Runs.{is_mark}
 use Rattle.json_lexemes.proofs.Wide.{marked, mask_is}
-use Rattle.json_lexemes.proofs.lexemes.marks.Goals as goal
+use Rattle.json_lexemes.proofs.lexemes.MarkSought.mask.Goals as goal
 
 pub returns : goal.returns
 returns c =

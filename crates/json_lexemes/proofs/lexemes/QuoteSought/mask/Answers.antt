@@ -2,7 +2,7 @@ use Rattle.std.proofs.Common.{cond, eqb, refl, arith}
 use Rattle.std.proofs.lemmas.Simd.{zip2_splat}
 use Rattle.json_lexemes.specs.Runs.{is_quote}
 use Rattle.json_lexemes.proofs.Wide.{quoted, mask_is}
-use Rattle.json_lexemes.proofs.lexemes.quotes.Goals as goal
+use Rattle.json_lexemes.proofs.lexemes.QuoteSought.mask.Goals as goal
 
 pub returns : goal.returns
 returns c =

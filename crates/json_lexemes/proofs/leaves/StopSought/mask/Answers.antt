@@ -2,7 +2,7 @@ use Rattle.std.proofs.Common.{cond, eqb, ltb, refl, arith}
 use Rattle.std.proofs.lemmas.Simd.{zip2_splat, zip2_of_maps}
 use Rattle.json_lexemes.specs.Grammar.{is_stop}
 use Rattle.json_lexemes.proofs.Wide.{compared, mask_is}
-use Rattle.json_lexemes.proofs.leaves.stops.Goals as goal
+use Rattle.json_lexemes.proofs.leaves.StopSought.mask.Goals as goal
 
 pub returns : goal.returns
 returns c =
