@@ -81,13 +81,14 @@ impl<'a> Draft<'a> {
     ghost use Rattle.json_patch_text.specs.Drafts.{IsDraft, draft_text};
     ghost use Rattle.json_pieces.specs.Changes.{Adds, Removes, Replaces};
 
-    /// The document's text, as serves these operations best: a single one is made on the whole. It is
-    /// made in pieces if it removes, since each member of a name would be one more pass.
+    /// The document's text, as serves these operations best: for a single one in place as a whole, since
+    /// to find its place is all that it takes. Another would pass over the objects and lists around it, or
+    /// copy them, more than once.
     pub(crate) fn new(text: CheckedText<'a>, operations: &[TextOperation]) -> Draft<'a>
         ensures draft { IsDraft result }
         ensures text { draft_text result ≡ text_in text.entry }
     {
-        if operations.len() == 1 && !operations[0].is_removing() {
+        if operations.len() == 1 && operations[0].is_in_place() {
             Draft::Whole(WholeText::Kept(text))
         } else {
             Draft::Pieces(Pieces::new(text))

@@ -38,8 +38,11 @@ impl TextOperation<'_> {
         }
     }
 
-    /// Whether it takes a value away from where it stands.
-    pub(crate) fn is_removing(&self) -> bool {
-        matches!(self, TextOperation::Remove(_) | TextOperation::Move(_, _))
+    /// Whether it exchanges or reads a value where it stands, and puts nothing beside others.
+    pub(crate) fn is_in_place(&self) -> bool {
+        matches!(
+            self,
+            TextOperation::Replace(_, _) | TextOperation::Test(_, _)
+        )
     }
 }

@@ -16,8 +16,8 @@ fn outcome(alloc: Global, text: &str, patch: &str) -> Result<String, Fail> {
     }
 }
 
-/// The same with one more operation, which leaves the text as it is: a single one is made on the whole
-/// text, several in pieces.
+/// The same with one more operation, which leaves the text as it is: a single `replace` or `test` is made
+/// on the whole text, several in pieces.
 fn outcome_of_more(alloc: Global, text: &str, patch: &str) -> Result<String, Fail> {
     let Some(operations) = patch.strip_suffix(']') else {
         return outcome(alloc, text, patch);
