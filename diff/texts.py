@@ -1,27 +1,32 @@
 #!/usr/bin/env python3
 """Random JSON texts, patched in place, against a model of the bytes.
 
-    diff/texts.py [--seed S] [--cases N] --ours PROGRAM [--wide] [--spoil]
+    diff/texts.py [--seed S] [--cases N] --ours PROGRAM [--rust PROGRAM] [--wide] [--spoil]
 
 PROGRAM is that of diff/texts.rt.txt, which `diff/build FOLDER json_patch_texts diff/texts.rt.txt
 json_patch_text` proves and builds. The texts have blanks of all kinds anywhere, names and strings with
 escapes, names that come twice, decimals and exponents of any size, and empty objects and lists. Each
 answer has to be the model's (`texts_model`), byte by byte, and each refusal its number, path and kind.
 In one case of eight a byte of the text or of the patch is changed or cut off: then there has to be an answer
-or a named refusal. The run fails where one of this doesn't hold, and where a kind of operation was never
-accepted or a kind of refusal never came.
+or a named refusal. With `--rust`, the program of diff/run.py round the Rust crate, each case whose numbers are
+all 64-bit integers is also given to that, as values: it has to leave the value that the new text says, or
+refuse the same operation for the same path and kind, unless it panics. The run fails where one of this
+doesn't hold, and where a kind of operation was never accepted or a kind of refusal never came.
 
 With `--wide` each text has an object of some fifty members, and each patch some twenty-five operations, a
 fifth of which take a member out: so its names are looked up in an index, which is kept over them. There a
 kind of refusal needn't come. With `--spoil` a byte of each new text is changed before it is compared: then it
-fails where one isn't found out."""
+fails where one isn't found out, and where none is by the Rust crate's answer."""
 import argparse
 import json
 import random
+import re
 import subprocess
 import sys
 from collections import Counter
 
+import run
+from classes import alike
 from texts_model import at_tokens, patched, read, tokens_of
 
 NAMES = ("a", "b", "", "a/b", "m~n", "\u00e9", "\n", "\U0001f600", "-", "0", "1")
@@ -30,7 +35,14 @@ MANY_OPERATIONS = ("add", "replace", "test", "copy") * 3 + ("remove", "remove", 
 NUMBERS = ("0", "-0", "1", "1.0", "1.50", "15e-1", "1.5", "-1", "-0.0e5", "1e400", "10E+399", "1e-400", "100", "1e2",
            "18446744073709551616", "9007199254740993", "0.1", "0.10000000000000001")
 BATCH = 2000
-KINDS = ("value did not match", "path is invalid", '"from" path is invalid', "cannot move the value inside itself")
+KINDS = {
+    "value did not match": "TestFailed",
+    "path is invalid": "InvalidPointer",
+    '"from" path is invalid': "InvalidFromPointer",
+    "cannot move the value inside itself": "CannotMoveInsideItself",
+}
+OTHERWISE = "otherwise by the Rust crate"
+REFUSAL = re.compile(r"operation '/(\d+)' failed at path '(.*)': (.*)", re.DOTALL)
 
 
 class Texts:
@@ -170,45 +182,111 @@ def told(line):
     return (json.loads(said), None) if kind == "ok" else (None, json.loads(said) if kind == "no" else kind)
 
 
-def main():
+def integer(digits):
+    number = int(digits)
+    if digits == "-0" or not -(2**63) <= number < 2**64:
+        raise ValueError(digits)
+    return number
+
+
+def refused(word):
+    raise ValueError(word)
+
+
+def values(pair):
+    """What the texts of a document and a patch say, if all their numbers are 64-bit integers."""
+    try:
+        return [json.loads(text, parse_int=integer, parse_float=refused, parse_constant=refused) for text in pair]
+    except ValueError:
+        return None
+
+
+def agrees(got, said):
+    """Whether an answer here says what the Rust crate answered to the values."""
+    if said[0] == "panicked":
+        return got[0] is None
+    if got[0] is None:
+        parts = REFUSAL.fullmatch(got[1])
+        return bool(parts) and said == ("refused", int(parts[1]), parts[2], KINDS.get(parts[3]))
+    try:
+        return said[0] == "ok" and alike(json.loads(got[0]), said[1])
+    except ValueError:
+        return False
+
+
+def by_rust(program, batch):
+    """What the Rust crate answers, for each case that it can be given, and else None."""
+    said = [values(pair) if wanted else None for pair, _, wanted in batch]
+    asked = [json.dumps(pair) for pair in said if pair]
+    answered = iter(map(run.meaning, run.answers([program, "patch"], asked)))
+    return [next(answered) if pair else None for pair in said]
+
+
+def case_of(texts, wide):
+    """A text and a patch, its operations, and what is wanted: None where a byte is changed or cut off."""
+    text = texts.wide() if wide else texts.text(4)
+    operations = texts.many_operations(text) if wide else texts.operations(text)
+    patch = texts.written(operations)
+    wanted = patched(text, operations)
+    if texts.random.random() < 0.125:
+        text, patch = (texts.broken(text), patch) if texts.random.random() < 0.5 else (text, texts.broken(patch))
+        wanted = None
+    return (text, patch), operations, wanted
+
+
+def spoilt(texts, got):
+    """An answer with a byte of the new text changed, if there is one."""
+    if not got[0]:
+        return got
+    at = texts.random.randrange(len(got[0]))
+    return got[0][:at] + ("x" if got[0][at] != "x" else "y") + got[0][at + 1:], None
+
+
+def is_wrong(got, operations, wanted, said, came):
+    """Whether the answer is another than it has to be; it is counted by what came."""
+    if wanted is None:
+        came["changed or cut off"] += 1
+        return got[1] in ("memory", "unreadable", "")
+    came.update([operation["op"] for operation, _ in operations] if wanted[0] is not None else [wanted[1].rpartition("': ")[2]])
+    if not said:
+        return got != wanted
+    came[f"by the Rust crate {said[0]}"] += 1
+    differs = not agrees(got, said)
+    came[OTHERWISE] += differs
+    return got != wanted or differs
+
+
+def asked_for():
     words = argparse.ArgumentParser(description=__doc__, formatter_class=argparse.RawDescriptionHelpFormatter)
     words.add_argument("--seed", type=int, default=1)
     words.add_argument("--cases", type=int, default=10000)
     words.add_argument("--ours", required=True)
+    words.add_argument("--rust")
     words.add_argument("--wide", action="store_true")
     words.add_argument("--spoil", action="store_true")
-    asked = words.parse_args()
+    return words.parse_args()
+
+
+def main():
+    asked = asked_for()
     texts, came, wrong, done = Texts(asked.seed), Counter(), 0, 0
     while done < asked.cases:
-        batch = []
-        for _ in range(min(BATCH, asked.cases - done)):
-            text = texts.wide() if asked.wide else texts.text(4)
-            operations = texts.many_operations(text) if asked.wide else texts.operations(text)
-            patch = texts.written(operations)
-            wanted = patched(text, operations)
-            if texts.random.random() < 0.125:
-                text, patch = (texts.broken(text), patch) if texts.random.random() < 0.5 else (text, texts.broken(patch))
-                wanted = None
-            batch.append(((text, patch), operations, wanted))
-        for (pair, operations, wanted), line in zip(batch, answers(asked.ours, [pair for pair, *_ in batch])):
+        batch = [case_of(texts, asked.wide) for _ in range(min(BATCH, asked.cases - done))]
+        theirs = by_rust(asked.rust, batch) if asked.rust else [None] * len(batch)
+        ours = answers(asked.ours, [pair for pair, *_ in batch])
+        for (pair, operations, wanted), line, said in zip(batch, ours, theirs):
             got = told(line)
-            if wanted is None:
-                came["changed or cut off"] += 1
-                is_wrong = got[1] in ("memory", "unreadable", "")
-            else:
-                if asked.spoil and got[0]:
-                    at = texts.random.randrange(len(got[0]))
-                    got = got[0][:at] + ("x" if got[0][at] != "x" else "y") + got[0][at + 1:], None
-                is_wrong = got != wanted
-                came.update([operation["op"] for operation, _ in operations] if wanted[0] is not None else [wanted[1].rpartition("': ")[2]])
+            if asked.spoil and wanted:
+                got = spoilt(texts, got)
+            other = is_wrong(got, operations, wanted, said, came)
             if asked.spoil:
-                wrong += wanted is not None and wanted[0] is not None and not is_wrong
-            elif is_wrong:
+                wrong += wanted is not None and wanted[0] is not None and not other
+            elif other:
                 wrong += 1
                 if wrong <= 5:
                     print(f"WRONG: {pair}\n  wanted {wanted}\n  got    {got}")
         done += len(batch)
-    kinds = (*OPERATIONS, *(() if asked.wide else KINDS))
+    kinds = (*OPERATIONS, *(() if asked.wide else KINDS), *((OTHERWISE,) if asked.rust and asked.spoil else ()))
     missing = [kind for kind in kinds if not came[kind]]
     print(f"{done} texts, seed {asked.seed}: {wrong} " + ("spoilt ones not found out" if asked.spoil else "wrong"))
     print(", ".join(f"{count} {kind}" for kind, count in sorted(came.items())))
