@@ -69,6 +69,7 @@ impl WholeText<'_> {
 /// The text that operations work on.
 #[derive(Drop)]
 pub(crate) enum Draft<'a> {
+    /// `remove` and `add` work on it as well, though more slowly than on pieces.
     Whole(WholeText<'a>),
     /// An object or a list is passed over once, however many calls go through it.
     Pieces(Pieces<'a>),
