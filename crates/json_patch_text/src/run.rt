@@ -1,6 +1,6 @@
 //! A list of operations on a text (RFC 6902, sections 3 and 5).
 
-ghost use Rattle.std.specs.Prelude.{◌≡◌, List, IfOk, IfErr};
+ghost use Rattle.std.specs.Prelude.{List, IfOk, IfErr};
 ghost use Rattle.std.specs.String.{string_bytes};
 ghost use Rattle.json_patch_text.specs.Bounded.{AreMadeUnder, IsRunFaultUnder, IsUnder};
 ghost use Rattle.json_patch_text.specs.Operations.{TreeOperation};
