@@ -21,7 +21,7 @@ CAPTIONS = {
     "json_text": ("one place of a text, read or replaced", "library"),
     "json_pieces": ("a text in pieces, for many changes", "library"),
     "json_reading": ("texts' numbers as documents have them", "library"),
-    "json_patch_text": ("what patching a text means", "library"),
+    "json_patch_text": ("a text patched in place", "library"),
     "json_merge_text": ("a text merged in place", "library"),
     "json_patch_document": ("what a document is, equality", "library"),
     "json_patch_operation": ("operations: read, written, printed", "library"),
