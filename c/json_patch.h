@@ -12,7 +12,7 @@
  *
  * No call ends the process, writes to a stream, or keeps a pointer that it was given. What it takes
  * from malloc it gives back before it returns, but for a document that is kept. Threads may make calls
- * at the same time, each on its own texts and handles.
+ * at the same time, each with its own out, report and handles; all else is only read.
  */
 #ifndef JSON_PATCH_H
 #define JSON_PATCH_H
@@ -32,13 +32,13 @@ const char *json_patch_version(void);
 /* What came of a call. */
 typedef uint8_t json_patch_status;
 enum {
-    JSON_PATCH_OK = 0,          /* the text is in out: report->size bytes */
+    JSON_PATCH_OK = 0,          /* done: what the call writes is in out, report->size bytes */
     JSON_PATCH_REFUSED = 1,     /* report->operation is refused, for report->kind; its path, of
                                    report->size bytes, is in out if that is long enough */
     JSON_PATCH_NO_DOCUMENT = 2, /* the document's text says none: report->kind tells why */
-    JSON_PATCH_NO_PATCH = 3,    /* the patch's text says none: report->kind tells why, and
-                                   report->operation where; or the text to which a patch is to lead
-                                   says no document */
+    JSON_PATCH_NO_PATCH = 3,    /* the patch's text says none: report->kind tells why, and from
+                                   JSON_PATCH_NOT_AN_OBJECT on report->operation where; or the text
+                                   to which a patch is to lead says no document */
     JSON_PATCH_NO_MEMORY = 4,   /* malloc or realloc failed */
     JSON_PATCH_NO_ROOM = 5,     /* out is too short: the text has report->size bytes */
     JSON_PATCH_CLOSED = 6,      /* of a document that is kept: none is open */
@@ -64,7 +64,8 @@ enum {
                                 nests more than 127 arrays and objects in one another; an operation
                                 would put a value deeper than the limit */
     /* of JSON_PATCH_OVER */
-    JSON_PATCH_TOO_MUCH = 8, /* the patch would copy more than the limit, with what it copied before */
+    JSON_PATCH_TOO_MUCH = 8, /* the patch would copy more than the limit, with what it copied before; of
+                                a text as it is written, an operation would leave too many bytes */
     /* of JSON_PATCH_REFUSED */
     JSON_PATCH_TEST_FAILED = 3,
     JSON_PATCH_INVALID_FROM_POINTER = 4,
@@ -106,9 +107,9 @@ typedef struct {
  * - The stack has room for 192 kB, whatever is handed in.
  *
  * Where the status is no JSON_PATCH_OK, out is as it was, but for the path of JSON_PATCH_REFUSED.
- * Behind the text that a call writes, out is as it was too. Of a name that stands twice the last
- * value is read, and where a document is written anew the members of an object are in byte order
- * of their names.
+ * Behind the text that a call writes, out is as it was too. Where both texts are at fault,
+ * JSON_PATCH_NO_DOCUMENT is told. Of a name that stands twice the last value is read, and where a
+ * document is written anew the members of an object are in byte order of their names.
  */
 
 /*
@@ -118,10 +119,12 @@ typedef struct {
  * an operation is over them changes nothing: JSON_PATCH_OVER, before that operation is made, and also
  * where it would be refused.
  *
- * The calls that take no limits have JSON_PATCH_MOST_LEVELS and JSON_PATCH_MOST_COPIED; those of
- * json_patch_..._within have the caller's, where a depth past JSON_PATCH_MOST_LEVELS counts as that.
- * So each text that a call writes, of a document, a patch or the array of both, nests at most 127
- * levels, and is read again.
+ * The calls that take no limits have JSON_PATCH_MOST_LEVELS and JSON_PATCH_MOST_COPIED, but for those on
+ * a document that is kept, which have its own, and json_patch_check, which has none. Those of
+ * json_patch_..._within have the caller's, where a depth past JSON_PATCH_MOST_LEVELS counts as that. In a
+ * merge and a difference `depth` alone counts. So each text that a call writes, of a document, a patch or
+ * the array of both, nests at most 127 levels. A document or a patch can be handed in again; the array of
+ * both may have more levels than a document may.
  */
 typedef struct {
     size_t depth;
@@ -173,19 +176,19 @@ json_patch_status json_patch_diff_within(const char *from, size_t from_length, c
                                          size_t to_length, const json_patch_limits *limits, char *out,
                                          size_t out_length, json_patch_report *report);
 
-/* Reads the patch, and does nothing else: JSON_PATCH_OK, JSON_PATCH_NO_PATCH or
-   JSON_PATCH_NO_MEMORY. */
+/* Reads the patch as json_patch_apply does, and does nothing else. So it refuses a value 1.5, which
+   json_patch_apply_text takes. JSON_PATCH_OK, JSON_PATCH_NO_PATCH or JSON_PATCH_NO_MEMORY. */
 json_patch_status json_patch_check(const char *patch, size_t patch_length,
                                    json_patch_report *report);
 
 /*
  * A text as it is written. Its numbers, and those of the patch, may have any form, such as 1.50 or
  * 1e400, and are compared by their values: never JSON_PATCH_NOT_WHOLE or JSON_PATCH_VALUE_NOT_WHOLE.
- * Of a name that stands twice the last member is meant.
+ * Of a name that stands twice the last member is meant, and a removal takes all of them.
  *
- * JSON_PATCH_TOO_DEEP is told of a document's text, JSON or not, in which more arrays and objects than
- * the limit are open at once, and of a patch's with more than 127, or as of a document's if that is a
- * merge patch.
+ * JSON_PATCH_TOO_DEEP is told of a document's text in UTF-8, JSON or not, in which more arrays and
+ * objects than the limit are open at once, and of a patch's with more than 127, or as of a document's if
+ * that is a merge patch.
  */
 
 /* Writes the document's text with the patch applied: every byte is kept that no operation changes. What
@@ -276,8 +279,8 @@ json_patch_status json_patch_update_merged(json_patch_document *document, const 
                                            size_t patch_length, json_patch_report *report);
 
 /* Takes back the last change, if that was recorded, in place and with no text, once: then there is
-   nothing more to take back. JSON_PATCH_OK, JSON_PATCH_NOTHING, also where what was recorded changed
-   nothing, or JSON_PATCH_NO_MEMORY. */
+   nothing more to take back. JSON_PATCH_OK, JSON_PATCH_NOTHING, also where what was recorded
+   has no operation but tests, or JSON_PATCH_NO_MEMORY. */
 json_patch_status json_patch_undo(json_patch_document *document, json_patch_report *report);
 
 /* Writes the patch that takes back the last change, if that was recorded, and else []. JSON_PATCH_OK,

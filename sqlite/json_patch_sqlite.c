@@ -9,8 +9,8 @@
  *     json_patch_check(patch)                NULL, or what is wrong with the patch
  *
  * The first four also take two limits, depth and copied, as json_patch.h has them. A NULL among the
- * arguments gives NULL. What isn't a text, or says no document or patch, and a patch that is refused
- * or over the limits are errors of the statement. json_patch_apply and json_patch_merge keep the text
+ * arguments gives NULL. What isn't a text, or says no document or, but for json_patch_check, no patch,
+ * and a patch that is refused or over the limits are errors of the statement. json_patch_apply and json_patch_merge keep the text
  * where they don't change it, and take any numbers; elsewhere these are 64-bit integers. A result depends
  * on the arguments alone, and no call reads or writes anything else; so the functions may stand in
  * indexes, generated columns, CHECKs and triggers.

@@ -79,14 +79,14 @@ def _parser() -> argparse.ArgumentParser:
             changing.add_argument("patch", metavar="PATCH", help="the patch's file, or -")
             changing.add_argument("inverse", metavar="INVERSE", help="the file for the patch that leads back")
         else:
-            changing.add_argument("patch", metavar="PATCH", nargs="?", default="-", help="the patch's file, or -")
+            changing.add_argument("patch", metavar="PATCH", nargs="?", default="-", help="the patch's file, or - (the default)")
         changing.add_argument("-i", "--in-place", action="store_true", help="change DOCUMENT itself")
         changing.add_argument("-b", "--backup", action="store_true", help="with -i, keep the old one as DOCUMENT.orig")
         _add_output(changing)
         _add_limits(changing)
     differing = command("diff", "write the patch that leads from a document to another, [] where they are equal")
     differing.add_argument("document", metavar="FROM", help="the file of the document that the patch is for, or -")
-    differing.add_argument("goal", metavar="TO", nargs="?", default="-", help="the file of the one to which it leads, or -")
+    differing.add_argument("goal", metavar="TO", nargs="?", default="-", help="the file of the one to which it leads, or - (the default)")
     _add_output(differing)
     _add_levels(differing)
     getting = command("get", "write what stands where a pointer leads in a document")
@@ -94,13 +94,14 @@ def _parser() -> argparse.ArgumentParser:
     getting.add_argument("pointer", metavar="POINTER", help="a JSON pointer (RFC 6901), such as /rows/0")
     _add_output(getting)
     checking = command("check", "say whether a file is a patch, and write nothing")
-    checking.add_argument("patch", metavar="PATCH", nargs="?", default="-", help="the patch's file, or -")
+    checking.add_argument("patch", metavar="PATCH", nargs="?", default="-", help="the patch's file, or - (the default)")
     return parser
 
 
 def _add_output(parser: argparse.ArgumentParser) -> None:
-    parser.add_argument("--indent", type=_spaces, metavar="N", help="write anew, each item on a line, indented by N spaces")
-    parser.add_argument("-u", "--preserve-unicode", action="store_true", help="changes nothing: no character is ever escaped")
+    parser.add_argument("--indent", type=_spaces, metavar="N", help="write anew, each item on a line, indented by N spaces (at most 100)")
+    escapes = "changes nothing: what is written anew has no escape that need not be, and a kept text has its own"
+    parser.add_argument("-u", "--preserve-unicode", action="store_true", help=escapes)
 
 
 def _add_levels(parser: argparse.ArgumentParser) -> None:

@@ -149,7 +149,7 @@ class Document:
         return written(lambda *out: call(self._handle, *out), 256)
 
     def close(self) -> None:
-        """Gives the document's memory back. From then on each call raises ValueError."""
+        """Gives the document's memory back. From then on each call but close raises ValueError."""
         LIBRARY.json_patch_close(self._handle)
         self._is_open = False
 

@@ -89,8 +89,10 @@ class JsonPatch:
 
     def apply(self, obj: Any, in_place: bool = False, *, limits: Limits = DEFAULT) -> Any:
         """What the patch leaves of an object, which stays as it is. With `in_place` it is the object
-        itself that is changed, and returned; a document that is no list or dict can't be. OverLimit,
-        where an operation is over the limits, and TooDeep, where the object is.
+        itself that is changed, and returned; a document that is no list or dict can't be. It is changed
+        by Python, once the library has accepted the patch: an interrupt then, or want of memory, can
+        leave it part-way. OverLimit, where an operation is over the limits, and TooDeep, where the object
+        is.
 
         >>> document = {"a": [1]}
         >>> rows = document["a"]
