@@ -1,7 +1,7 @@
 #!/usr/bin/env python3
 """Times the library for C, from C and from Python, beside nlohmann/json and Python's jsonpatch.
 
-    bench/from_c.py [--rounds N]
+    bench/from_c.py [--rounds N] [--rows WORDS..]
 
 c/build has to have built the library. A call goes from the texts of a document and a patch to the
 text of the new one; or it changes a document that is kept, by the text of a patch. The other two

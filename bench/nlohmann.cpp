@@ -1,7 +1,7 @@
 // Times the calls of nlohmann/json as bench/driver.rt.txt times those here: its arguments are
 // `MODE COUNT`, its input is `[document,patch]`, and it prints the nanoseconds of one call, each made
 // on a fresh copy whose making isn't counted. The modes are `patch`, which answers a new document,
-// `inplace`, which leaves a refused patch part-way, and `merge`; and those of bench/c_calls.c. For `diff`
+// `inplace`, which leaves a refused patch part-way, and `merge`; and `texts` and `kept` of bench/c_calls.c. For `diff`
 // the input is two documents: it prints what bench/differences.rt.txt prints.
 #include <chrono>
 #include <iostream>

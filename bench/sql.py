@@ -1,4 +1,4 @@
-#!/usr/bin/env python3
+#!/usr/bin/python3
 """Updates a second of documents of 1 kB in a table of SQLite, by one replace each.
 
     bench/sql.py JSON_PATCH_SO [--rows N] [--rounds N]

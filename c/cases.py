@@ -74,7 +74,8 @@ def of_differences():
 def rows():
     kinds = numbers()
     for case in tables.vectors():
-        # A pair of patches is no case of a call here, and those within limits are in test_limits.c.
+        # A pair of patches is no case of a call here, and those within limits are left out:
+        # test_limits.c has its own.
         if "are_apart" not in case and "told" not in case:
             yield from of_case(case, kinds)
     yield from of_faults(kinds)

@@ -7,7 +7,6 @@
  */
 #include "json_patch.h"
 
-#include <limits.h>
 #include <pthread.h>
 #include <stdarg.h>
 #include <stdio.h>
@@ -185,7 +184,7 @@ static void expect_moves(size_t turns, const json_patch_limits *limits) {
 /* A value of so many levels in an add, a replace and a test, beside a document that has none. */
 static void expect_values(size_t levels, const json_patch_limits *limits) {
     static const char *const names[] = {"add", "replace", "test"};
-    text document = {NULL, 0, 0}, value = nested(&nests[1], levels);
+    text document = {NULL, 0, 0};
     put(&document, "{\"a\":0}");
     for (int i = 0; i < 3; i++) {
         for (int below = 0; below <= 1; below++) {
@@ -209,7 +208,6 @@ static void expect_values(size_t levels, const json_patch_limits *limits) {
         }
     }
     free(document.bytes);
-    free(value.bytes);
 }
 
 /* ---- texts that nest */

@@ -1,7 +1,7 @@
 /*
  * Tests of the calls on a text as it is written: rows worked out by hand, each with an `out` of every
  * length from 0 to past what it needs, the limits at each side of where they lie, and the rows of
- * cases.json that apply a patch, which have to leave the same document, or the same refusal.
+ * cases.json that apply or merge a patch, which have to leave the same document, or the same refusal.
  *
  *     test_text CASES
  */

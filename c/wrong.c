@@ -1,12 +1,11 @@
 /*
- * Calls in place of the library's, each of which asks for memory twice and breaks the rule of
- * one_call.c in one way, WAY: c/refuse asks that one_call passes the way that is right and finds each
+ * Calls in place of the library's, of which json_patch_update asks for memory twice and breaks the rule
+ * of one_call.c in one way, WAY: c/refuse asks that one_call passes the way that is right and finds each
  * of the others.
  */
 #include "json_patch.h"
 
 #include <stdlib.h>
-#include <string.h>
 
 enum { IS_RIGHT, SWALLOWS, IS_ALWAYS_SHORT, CHANGES, WRITES, TELLS, LEAKS, CLOSES };
 

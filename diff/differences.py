@@ -17,7 +17,6 @@ hold, and where a kind of pair, of operation or of answer never came. With `--sp
 before anyone looks at them, in one of the ways of FAULTS, or each in turn for `all`: then it fails where
 one isn't found out."""
 import argparse
-import json
 import sys
 from collections import Counter
 

@@ -1,10 +1,11 @@
 #!/usr/bin/env python3
 """Random cases, answered by the crates here and by others, and compared.
 
-    diff/run.py [--seed S] [--cases N] [--ours PROGRAM] [--modes MODE,..] [--rust PROGRAM]
+    diff/run.py [--seed S] [--cases N] [--others N] --ours PROGRAM [--modes MODE,..] [--rust PROGRAM]
 
 `--ours` is the program of diff/driver.rt.txt, built by diff/build, or diff/c_peer.py, which calls
-the library for C and has the modes patch, record and merge; `--rust` a program round the Rust crate
+the library for C and has the modes patch, record and merge, of which `--modes` needs the first two;
+`--others` how many cases the peers get that aren't the Rust crate; `--rust` a program round the Rust crate
 json-patch 5.0.0 that answers lines as that driver does (diff/rust/main.rs). nlohmann/json
 (Debian's nlohmann-json3-dev, with g++) and Python's jsonpatch (Debian's python3-jsonpatch) are
 taken where they are installed.

@@ -3,7 +3,7 @@
 in one way (diff/wrong_driver.py), by each comparison that has to see it; and that the tables find each
 fault of the model (diff/try_model.py). It takes a minute and a half, and half a minute with programs.
 
-    diff/try_wrong.py [--cases N] [--ours PROGRAM] [--rust PROGRAM]
+    diff/try_wrong.py [--seed S] [--cases N] [--ours PROGRAM] [--rust PROGRAM]
 
 The answers that are spoilt are those of the program that `--ours` names, else of diff/model.py. The
 other implementation is the program that `--rust` names; else the model, which is right, and then a
@@ -19,7 +19,7 @@ import classes
 import run
 import tables
 import try_model
-from model import Model, Refused
+from model import Model
 
 WRONG = os.path.join(run.HERE, "wrong_driver.py")
 MODEL, TWIN, OTHER = run.MODEL, run.PATCH_HERE, classes.RUST

@@ -11,6 +11,7 @@ program are run, on the program that `rt ci` or `rt run` left; where there is no
 beside it is made elsewhere, and what c/check does is left to that, with the examples in C and
 Python."""
 import re
+import shlex
 import subprocess
 import sys
 import tempfile
@@ -79,7 +80,7 @@ def held(page):
     if not BUILT.exists():
         print(f"{page.relative_to(TOP)}: {len(calls)} commands aren't run, since the program isn't built")
         return len(calls), []
-    run = [(CALL.sub(lambda _: f"{BUILT} ", without_folder(command)), printed) for command, printed in calls]
+    run = [(CALL.sub(lambda _: f"{shlex.quote(str(BUILT))} ", without_folder(command)), printed) for command, printed in calls]
     wrong = [differs(command, printed, TOOL) for command, printed in run]
     return len(calls), [said for said in wrong if said]
 
@@ -90,7 +91,7 @@ def held(page):
 def block_run(block, folder, beside):
     """What is wrong with the lines of a block, run in a folder; a change of folder holds for what
     follows in the block. `beside` stands for the folder in which the repository stands."""
-    lines = [line for line in block.replace("../mine", f"{beside}/mine").splitlines() if not ELSEWHERE.match(line)]
+    lines = [line for line in block.replace("../mine", shlex.quote(f"{beside}/mine")).splitlines() if not ELSEWHERE.match(line)]
     moved, wrong = [], []
     for command, printed in steps("\n".join(lines)):
         begun = time.monotonic()
@@ -113,7 +114,7 @@ def everything():
         wrong = [said for block in blocks(README, "sh") for said in block_run(block, TOP, beside)]
         wrong += [said for block in programs for said in program_run(block, Path(beside) / "mine/crates/hello")]
     count, of_page = held(PAGES[1])
-    wrong += of_page
+    wrong += of_page if BUILT.exists() else [f"{BUILT} isn't built, so the calls of {PAGES[1].name} aren't run"]
     for said in wrong:
         print(f"commands: WRONG: {said}")
     shown = len(blocks(README, "sh"))

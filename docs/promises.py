@@ -4,7 +4,6 @@ and each clause of a function that a user can call has a row.
 A section is headed by a crate, and has with it the crates below that have no section of their own: of
 these a user can call what the crate passes on by `pub use`."""
 import re
-from pathlib import Path
 
 SECTION = re.compile(r"^## `(\w+)`$", re.MULTILINE)
 ROW = re.compile(r"^\| (?P<calls>[^|]*) \| (?P<clause>[^|]*) \| (?P<says>[^|]*) \|$", re.MULTILINE)

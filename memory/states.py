@@ -1,5 +1,5 @@
 """What the operations of a list leave, one after another, and the patch that leads back: worked by
-diff/model.py, which diff/tables.py holds against answers that were worked by hand. memory/run holds
+diff/model.py. memory/run holds that against the answers of diff/tables.py, which were worked by hand, and
 what stands here against the inputs of cases.py whose states and inverse were worked by hand too."""
 import sys
 from pathlib import Path

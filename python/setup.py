@@ -1,5 +1,5 @@
 """What pyproject.toml can't say of the wheel: it has a library, for Linux on x86-64, which asks for no
-newer glibc than manylinux2014's (python/check looks), and it has no code for one Python alone."""
+newer glibc than manylinux2014's (python/try_wheel looks), and it has no code for one Python alone."""
 from setuptools import setup
 from setuptools.dist import Distribution
 from wheel.bdist_wheel import bdist_wheel

@@ -24,7 +24,6 @@
 SQLITE_EXTENSION_INIT1
 
 #include <json_patch.h>
-#include <string.h>
 
 #ifndef SQLITE_RESULT_SUBTYPE
 #define SQLITE_RESULT_SUBTYPE 0

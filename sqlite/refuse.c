@@ -118,8 +118,10 @@ static int refuse_each(const char *statement, enum source source)
     char *expected, *after;
     int answer = run(statement, source, 0, &expected), faults = 0;
     long all = requests;
-    if (source == LIBRARY && all == 0)
-        faults += wrong(statement, 0, "the library asks for no memory, so nothing is tried");
+    if (all == 0)
+        faults += wrong(statement, 0, "no memory is asked for, so nothing is tried");
+    if (answer == SQLITE_NOMEM)
+        faults += wrong(statement, 0, "it fails for want of memory where there is enough");
     for (long number = 1; number <= all; number++) {
         int status = run(statement, source, number, &after);
         if (!was_refused)

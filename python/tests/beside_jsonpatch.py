@@ -81,7 +81,7 @@ class Exceptions(unittest.TestCase):
                 self.assertEqual(getattr(json_patch, name)(*arguments).args, EXCEPTIONS[name](*arguments).args)
 
 
-# The names of theirs that are missing here, with what they are for.
+# The names of theirs that are missing here.
 LEFT_OUT = {
     "multidict", "AddOperation", "CopyOperation", "MoveOperation", "RemoveOperation", "ReplaceOperation",
     "TestOperation", "PatchOperation", "DiffBuilder", "basestring", "pairwise", "escape", "unescape", "encode_str",

@@ -8,7 +8,7 @@ import unittest
 from unittest import mock
 
 import json_patch
-from json_patch import JsonPatchConflict, JsonPointerException, _processor, apply_patch, errors
+from json_patch import JsonPatchConflict, JsonPointerException, _processor, apply_patch
 
 # of /proc/cpuinfo: a processor with x86-64-v2, and one of 2006
 NEW = "fpu sse sse2 ht lm pni ssse3 cx16 sse4_1 sse4_2 popcnt lahf_lm avx"
@@ -55,7 +55,7 @@ class Imports(unittest.TestCase):
         self.assertTrue(said.startswith("ImportError: json_patch 4.0.0 can't use "), said)
 
     def test_version(self):
-        self.assertEqual(json_patch.__version__, errors.__name__ and json_patch._library.LIBRARY.json_patch_version().decode())
+        self.assertEqual(json_patch.__version__, json_patch._library.LIBRARY.json_patch_version().decode())
 
 
 class Exceptions(unittest.TestCase):
