@@ -6,8 +6,8 @@
 PROGRAM is that of bench/differences.rt.txt, which `diff/build FOLDER json_patch_differences
 bench/differences.rt.txt json_patch_diff` proves and builds; the other two are as in bench.py. For each
 pair of documents each one's least time of a round is printed, and how many operations and bytes its patch
-has; each applies its own patch, and it has to lead to the second document. Beside it is the least time
-of one comparison by `same`, of the first document with itself."""
+has; each applies its own patch, and it has to lead to the second document. Below it is the least time
+of one comparison of the first document with a copy: by `same` here, by `==` there."""
 import argparse
 import os
 import subprocess
@@ -33,7 +33,23 @@ def numbers(side, mode, count, line):
     some = max(1, count // 10) if side.timer[0] == bench.PYTHON else count
     out = subprocess.run([*side.timer, side.modes[mode], str(some)], input=line, capture_output=True, check=True).stdout
     assert out.split(), f"{side.name}: the patch doesn't lead to the second document"
-    return list(map(int, out.split()))
+    spent, *others = map(int, out.split())
+    assert mode == "diff" or others == [some], f"{side.name}: a document isn't equal to itself"
+    return spent, *others
+
+
+def patch_told(spent, operations, size):
+    return f"{bench.shown(spent)}, {operations:,} operations, {size:,} bytes"
+
+
+def comparison_told(spent, _equal):
+    return bench.shown(spent)
+
+
+def least(asked, found, measure, told):
+    """What each side printed in the round in which it took the least time."""
+    times = bench.rounds_of(asked, found, measure)
+    return "; ".join(f"{side} {told(*min(each))}" for side, each in times.items())
 
 
 def main():
@@ -48,12 +64,9 @@ def main():
             if not bench.chosen(asked, name):
                 continue
             line, alone = bench.line_of(pair), bench.line_of((pair[0], pair[0]))
-            told = []
-            for side, each in bench.rounds_of(asked, found, lambda side: numbers(side, "diff", count, line)).items():
-                spent, operations, size = min(each)
-                told.append(f"{side} {bench.shown(spent)}, {operations:,} operations, {size:,} bytes")
-            same = min(numbers(found[0], "same", count, alone)[0] for _ in range(asked.rounds))
-            print(f"{name}: " + "; ".join(told) + f"; one comparison here {bench.shown(same)}", flush=True)
+            print(f"{name}: {least(asked, found, lambda side: numbers(side, 'diff', count, line), patch_told)}", flush=True)
+            once = least(asked, found, lambda side: numbers(side, "same", count, alone), comparison_told)
+            print(f"  one comparison: {once}", flush=True)
 
 
 if __name__ == "__main__":

@@ -2,7 +2,7 @@
 // `MODE COUNT`, its input is `[document,patch]`, and it prints the nanoseconds of one call, each made
 // on a fresh copy whose making isn't counted. The modes are `patch`, which answers a new document,
 // `inplace`, which leaves a refused patch part-way, and `merge`; and `texts` and `kept` of bench/c_calls.c. For `diff`
-// the input is two documents: it prints what bench/differences.rt.txt prints.
+// and `same` the input is two documents: it prints what bench/differences.rt.txt prints.
 #include <chrono>
 #include <iostream>
 #include <nlohmann/json.hpp>
@@ -39,6 +39,15 @@ void differences(const json& from, const json& to, long count) {
     std::cout << spent << ' ' << changes.size() << ' ' << changes.dump().size() << '\n';
 }
 
+// One comparison of two documents: the nanoseconds, and how often they were equal.
+void comparisons(const json& from, const json& to, long count) {
+    long equal = 0;
+    const auto start = Clock::now();
+    for (long i = 0; i < count; ++i) equal += from == to;
+    const auto spent = std::chrono::nanoseconds(Clock::now() - start).count() / count;
+    std::cout << spent << ' ' << equal << '\n';
+}
+
 int main(int, char** argv) {
     std::ios::sync_with_stdio(false);
     const std::string mode = argv[1];
@@ -46,6 +55,10 @@ int main(int, char** argv) {
     const json pair = json::parse(std::cin);
     if (mode == "diff") {
         differences(pair[0], pair[1], count);
+        return 0;
+    }
+    if (mode == "same") {
+        comparisons(pair[0], pair[1], count);
         return 0;
     }
     if (mode == "texts" || mode == "kept") {

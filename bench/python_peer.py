@@ -2,7 +2,7 @@
 `MODE COUNT`, its input is `[document,patch]`, and it prints the nanoseconds of one call. The modes are
 `patch`, which answers a new document, and `inplace`, which leaves a refused patch part-way and works
 on a fresh copy, whose making isn't counted; and `texts` and `kept` of bench/c_calls.c, in place too. For `diff`
-the input is two documents: it prints what bench/differences.rt.txt prints."""
+and `same` the input is two documents: it prints what bench/differences.rt.txt prints."""
 import copy
 import json
 import sys
@@ -37,8 +37,15 @@ def differences(before, after):
     return f"{spent} {len(made.patch)} {len(written.encode())}"
 
 
-if mode == "diff":
-    print(differences(document, operations))
+def comparisons(before, after):
+    """The nanoseconds of one comparison, and how often the two were equal."""
+    start = time.perf_counter_ns()
+    equal = sum(before == after for _ in range(count))
+    return f"{(time.perf_counter_ns() - start) // count} {equal}"
+
+
+if mode in ("diff", "same"):
+    print({"diff": differences, "same": comparisons}[mode](document, operations))
     sys.exit()
 
 if mode in ("texts", "kept"):
