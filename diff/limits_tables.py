@@ -13,7 +13,8 @@ from pathlib import Path
 
 import limits_model
 from limits_model import TOO_DEEP, TOO_MUCH
-from tables import KINDS, REFUSAL, is_same, vectors
+from reasons import KINDS, REFUSAL
+from tables import is_same, vectors
 
 MODEL = Path(limits_model.__file__)
 OVER = re.compile(r"operation '/(\d+)' is over the limits: (.*)")

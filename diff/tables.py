@@ -13,15 +13,9 @@ TOP = os.path.dirname(os.path.dirname(os.path.abspath(__file__)))
 sys.path += [TOP, os.path.join(TOP, "memory")]
 from memory import cases as memory  # noqa: E402
 from patches import compact, test  # noqa: E402
+from reasons import KINDS, REFUSAL  # noqa: E402
 
 VECTORS = os.path.join(TOP, "crates/json_patch_vectors/src/*.rt")
-KINDS = {
-    "value did not match": "TestFailed",
-    '"from" path is invalid': "InvalidFromPointer",
-    "path is invalid": "InvalidPointer",
-    "cannot move the value inside itself": "CannotMoveInsideItself",
-}
-REFUSAL = re.compile(r"operation '/(\d+)' failed at path '(.*)': (.*)")
 ITEM = re.compile(r"^const (\w+): &(?:str|\[(?:Case|Pair)\]) = ", re.MULTILINE)
 LEXEME = re.compile(
     r'r(?P<hashes>#*)"(?P<raw>.*?)"(?P=hashes)|"(?P<text>(?:\\.|[^"\\])*)"|(?P<word>\w+(?:::\w+)*!?)'

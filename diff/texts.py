@@ -20,13 +20,13 @@ fails where one isn't found out, and where none is by the Rust crate's answer.""
 import argparse
 import json
 import random
-import re
 import subprocess
 import sys
 from collections import Counter
 
 import run
 from classes import alike
+from reasons import KINDS, REFUSAL
 from texts_model import at_tokens, patched, read, tokens_of
 
 NAMES = ("a", "b", "", "a/b", "m~n", "\u00e9", "\n", "\U0001f600", "-", "0", "1")
@@ -35,14 +35,7 @@ MANY_OPERATIONS = ("add", "replace", "test", "copy") * 3 + ("remove", "remove", 
 NUMBERS = ("0", "-0", "1", "1.0", "1.50", "15e-1", "1.5", "-1", "-0.0e5", "1e400", "10E+399", "1e-400", "100", "1e2",
            "18446744073709551616", "9007199254740993", "0.1", "0.10000000000000001")
 BATCH = 2000
-KINDS = {
-    "value did not match": "TestFailed",
-    "path is invalid": "InvalidPointer",
-    '"from" path is invalid': "InvalidFromPointer",
-    "cannot move the value inside itself": "CannotMoveInsideItself",
-}
 OTHERWISE = "otherwise by the Rust crate"
-REFUSAL = re.compile(r"operation '/(\d+)' failed at path '(.*)': (.*)", re.DOTALL)
 
 
 class Texts:

@@ -29,7 +29,11 @@ ELSEWHERE = re.compile(r"^(c/package|python3 -m pip install c/out/\S+)$")
 
 
 def blocks(page, language):
-    return re.findall(rf"^```{language}\n(.*?)^```", page.read_text(encoding="utf-8"), re.MULTILINE | re.DOTALL)
+    return blocks_in(page.read_text(encoding="utf-8"), language)
+
+
+def blocks_in(text, language):
+    return re.findall(rf"^```{language}\n(.*?)^```", text, re.MULTILINE | re.DOTALL)
 
 
 def steps(block):
