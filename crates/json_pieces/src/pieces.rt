@@ -12,11 +12,11 @@ use std::alloc::{AllocError, Global};
 ///
 /// At first the text is one piece. A call goes down by the pointer's tokens and opens each object and
 /// list that it comes to: one pass over its text, after which it stays open. In an open list an item is
-/// found at once, in an open object a member by comparing names. Once an object of at least 32 members
-/// has been asked for 16, it gets an index of its names, and a member is found in as many steps as the
-/// logarithm of their number. The index is kept while members are added and removed. An open one takes
-/// some 170 bytes of memory for each member or item, and an index, by reckoning, some 110 for each name,
-/// with the name once more.
+/// found at once, in an open object a member by comparing names. When an object of at least 32 members
+/// has been asked for a name 16 times, the next call makes an index of its names, and a member is found
+/// in as many steps as the logarithm of their number. The index is kept while members are added and
+/// removed. An open one takes some 170 bytes of memory for each member or item, and an index, by
+/// reckoning, some 110 for each name, with the name once more.
 ///
 /// A call that runs out of memory leaves pieces of which nothing is known: let them go. `replace` and
 /// `add` may leave a text that nests deeper than 128 levels, and the next call asks for one that
@@ -42,7 +42,7 @@ impl<'a> Pieces<'a> {
     ghost use Rattle.json_text.specs.Pointed.{tree_at, IsWrittenAt};
     ghost use Rattle.json_lexemes.specs.Spelled.{IsShallowText};
 
-    /// The text, in one piece: it is passed over once, and nothing is copied.
+    /// The text, in one piece: only the blanks around its value are looked for, and nothing is copied.
     ///
     /// ```rust
     /// let text = CheckedText::new(alloc, r#"{"list": [1.50, 2] }"#)?;

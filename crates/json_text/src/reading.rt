@@ -17,7 +17,7 @@ use jsonptr::Pointer;
 use std::alloc::{AllocError, Global};
 
 /// Whether more than so many objects and arrays of the text are open at once. The text need not be
-/// JSON. Each byte is looked at once, nothing is recursive, and no memory is taken.
+/// JSON. No byte is passed over more than twice, nothing is recursive, and no memory is taken.
 ///
 /// ```rust
 /// is_deeper(r#"{"a": [1]}"#, 1)

@@ -51,8 +51,8 @@ class TooDeep(JsonPatchException, ValueError):
 
 class OverLimit(JsonPatchException):
     """An operation of a patch is over the limits, and nothing is changed: it would put a value too deep
-    (`kind` is TooDeep), or copy too much, with what was copied before (TooMuch). In apply_text it would
-    leave too long a text (TooMuch)."""
+    (`kind` is TooDeep), or copy too much, with what was copied before, or in apply_text leave too long a
+    text (TooMuch)."""
 
 
 class NothingToUndo(JsonPatchException, IndexError):
