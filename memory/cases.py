@@ -552,28 +552,86 @@ def merge_calls():
 
 ROW = "a row that is long enough to stay"
 
-# two documents, and the patch between them
+# two documents, the patch between them, that with tests, and that with moves where it is another
 DIFFERENCES = {
-    "nothing": ({"a": [1, {"b": None}]}, {"a": [1, {"b": None}]}, []),
-    "the whole": ({"a": 1, "b": 2}, {"a": 3, "b": 4}, [replace("", {"a": 3, "b": 4})]),
+    "nothing": ({"a": [1, {"b": None}]}, {"a": [1, {"b": None}]}, [], [], None),
+    "the whole": (
+        {"a": 1, "b": 2},
+        {"a": 3, "b": 4},
+        [replace("", {"a": 3, "b": 4})],
+        [test("", {"a": 1, "b": 2}), replace("", {"a": 3, "b": 4})],
+        None,
+    ),
     "members": (
         {"a": 1, "b/": {"c": 2, "stays": ROW}, "z": ROW},
         {"b/": {"c": 3, "stays": ROW}, "new": [ROW], "z": ROW},
         [remove("/a"), replace("/b~1/c", 3), add("/new", [ROW])],
+        [test("/a", 1), remove("/a"), test("/b~1/c", 2), replace("/b~1/c", 3), add("/new", [ROW])],
+        None,
     ),
     "items": (
         [[ROW, 1], [ROW, 2], [ROW, 3], [ROW, 4]],
         [[ROW, 0], [ROW, 1], [ROW, 3], [ROW, 5]],
         [add("/0", [ROW, 0]), remove("/2"), replace("/3/1", 5)],
+        [add("/0", [ROW, 0]), test("/2", [ROW, 2]), remove("/2"), test("/3/1", 4), replace("/3/1", 5)],
+        None,
+    ),
+    "a member with another name": (
+        {"a/b": [ROW], "stays": ROW * 3},
+        {"m~n": [ROW], "stays": ROW * 3},
+        [remove("/a~1b"), add("/m~0n", [ROW])],
+        [test("/a~1b", [ROW]), remove("/a~1b"), add("/m~0n", [ROW])],
+        [move("/a~1b", "/m~0n")],
+    ),
+    "an item that goes to the end": (
+        [[ROW, 1], [ROW, 2], [ROW, 3]],
+        [[ROW, 2], [ROW, 3], [ROW, 1]],
+        [remove("/0"), add("/2", [ROW, 1])],
+        [test("/0", [ROW, 1]), remove("/0"), add("/2", [ROW, 1])],
+        [move("/0", "/2")],
     ),
 }
 
 
 def diff_calls():
-    for name, (document, goal, changes) in DIFFERENCES.items():
+    for name, (document, goal, plain, guarded, moving) in DIFFERENCES.items():
         texts = [compact(document), compact(goal)]
         short = [left(MEMORY, texts[0])]
-        yield Call(f"diff: {name}", ["diff", *texts], left(printed_patch(changes), texts[0]), short)
+        patches = {"diff": plain, "guarded_diff": guarded, "moving_diff": plain if moving is None else moving}
+        for call, changes in patches.items():
+            yield Call(f"{call}: {name}", [call, *texts], left(printed_patch(changes), texts[0]), short)
+
+
+TEXT = '{"name": "x", "list": [1.50, 2] }'
+NO_PLACE = "no such place"
+
+# a text, the place and the value of a change, and the answer
+TEXT_CHANGES = {
+    "add_to_text": {
+        "an item": (TEXT, "/list/1", "7", '{"name": "x", "list": [1.50, 7, 2] }'),
+        "a member": (TEXT, "/new", ' {"a":null} ', '{"name": "x", "list": [1.50, 2], "new": {"a":null} }'),
+        "an item where there is none": ('{"a/b":[ ]}', "/a~1b/-", "true", '{"a/b":[true ]}'),
+        "the whole": (" [1]  ", "", "2", " 2  "),
+        "below a string": (TEXT, "/name/0", "7", NO_PLACE),
+        "no JSON": ('{"list": [1,', "/list/0", "7", "the text is not JSON"),
+    },
+    "replace_in_text": {
+        "an item": (TEXT, "/list/0", "1e1", '{"name": "x", "list": [1e1, 2] }'),
+        "a member that isn't there": (TEXT, "/new", "7", NO_PLACE),
+    },
+    "remove_from_text": {
+        "an item": (TEXT, "/list/0", None, '{"name": "x", "list": [2] }'),
+        "members of one name": ('{ "a": 1, "b": 2, "\\u0061": 3 }', "/a", None, '{ "b": 2 }'),
+        "the whole": (TEXT, "", None, NO_PLACE),
+    },
+}
+
+
+def text_calls():
+    for call, changes in TEXT_CHANGES.items():
+        for name, (text, path, value, answer) in changes.items():
+            words = [call, text, path, *([] if value is None else [value])]
+            yield Call(f"{call}: {name}", words, left(answer, text), [left(MEMORY, text)])
 
 
 def editor_state(document, undos, redos):

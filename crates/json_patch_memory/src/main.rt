@@ -56,6 +56,9 @@ fn on_two(rt: &HostRuntime, call: &str, first: &str, second: &str) -> io::Result
         "apply_patches" => runs::apply_patches(rt, first, second),
         "merge" => runs::merge(rt, first, second),
         "diff" => runs::diff(rt, first, second),
+        "guarded_diff" => runs::guarded_diff(rt, first, second),
+        "moving_diff" => runs::moving_diff(rt, first, second),
+        "remove_from_text" => texts::remove(rt, first, second),
         "from_value" => kinds::from_value(rt, first, second),
         "to_value" => kinds::to_value(rt, first, second),
         "clone" => kinds::clone(rt, first, second),
@@ -72,6 +75,8 @@ fn on_three(
 ) -> io::Result<String> {
     match call {
         "edit" => editing::edit(rt, first, second, third),
+        "add_to_text" => texts::add(rt, first, second, third),
+        "replace_in_text" => texts::replace(rt, first, second, third),
         _ => Err(io::Error::from(ErrorKind::InvalidInput)),
     }
 }

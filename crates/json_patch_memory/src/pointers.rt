@@ -53,7 +53,7 @@ pub(crate) fn with_last(rt: &HostRuntime, text: &str, raw: &str) -> io::Result<S
     line(rt, &answer.map_err(PointerFault::Memory), &pointer)
 }
 
-fn pointer_of(text: &str) -> io::Result<Pointer<'_>> {
+pub(crate) fn pointer_of(text: &str) -> io::Result<Pointer<'_>> {
     match Pointer::parse(text) {
         Ok(pointer) => Ok(pointer),
         Err(_) => Err(io::Error::from(ErrorKind::InvalidInput)),

@@ -57,6 +57,20 @@ pub(crate) fn diff(rt: &HostRuntime, from: &str, to: &str) -> io::Result<String>
     line(rt, &answer.map_err(PatchFault::Memory), &from)
 }
 
+pub(crate) fn guarded_diff(rt: &HostRuntime, from: &str, to: &str) -> io::Result<String> {
+    let from = document_of(rt, from)?;
+    let to = document_of(rt, to)?;
+    let answer = counted!(rt; json_patch_diff::guarded_diff(rt.alloc(), &from, &to));
+    line(rt, &answer.map_err(PatchFault::Memory), &from)
+}
+
+pub(crate) fn moving_diff(rt: &HostRuntime, from: &str, to: &str) -> io::Result<String> {
+    let from = document_of(rt, from)?;
+    let to = document_of(rt, to)?;
+    let answer = counted!(rt; json_patch_moves::moving_diff(rt.alloc(), &from, &to));
+    line(rt, &answer.map_err(PatchFault::Memory), &from)
+}
+
 pub(crate) fn pretty(rt: &HostRuntime, document: &str) -> io::Result<String> {
     let document = document_of(rt, document)?;
     let answer = counted!(rt; json_patch::pretty(rt.alloc(), &document));

@@ -1,6 +1,7 @@
 //! Calls on a text.
 
 use crate::counted::{counted, line};
+use crate::pointers::pointer_of;
 use json_patch::{Patch, document_from_slice, document_from_str};
 use std::io;
 
@@ -16,5 +17,23 @@ pub(crate) fn document_of_bytes(rt: &HostRuntime, text: &str) -> io::Result<Stri
 
 pub(crate) fn patch(rt: &HostRuntime, text: &str) -> io::Result<String> {
     let answer = counted!(rt; Patch::from_str(rt.alloc(), text));
+    line(rt, &answer, &text)
+}
+
+pub(crate) fn add(rt: &HostRuntime, text: &str, path: &str, value: &str) -> io::Result<String> {
+    let place = pointer_of(path)?;
+    let answer = counted!(rt; json_text::add(rt.alloc(), text, place, value));
+    line(rt, &answer, &text)
+}
+
+pub(crate) fn replace(rt: &HostRuntime, text: &str, path: &str, value: &str) -> io::Result<String> {
+    let place = pointer_of(path)?;
+    let answer = counted!(rt; json_text::replace(rt.alloc(), text, place, value));
+    line(rt, &answer, &text)
+}
+
+pub(crate) fn remove(rt: &HostRuntime, text: &str, path: &str) -> io::Result<String> {
+    let place = pointer_of(path)?;
+    let answer = counted!(rt; json_text::remove(rt.alloc(), text, place));
     line(rt, &answer, &text)
 }
