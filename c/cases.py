@@ -1,5 +1,6 @@
 #!/usr/bin/env python3
-"""The tables of cases of crates/json_patch_vectors as rows that C and Python read.
+"""The tables of cases of crates/json_patch_vectors, and the rows of crates/json_patch_memory that make the
+patch between two documents, as rows that C and Python read.
 
     c/cases.py           writes c/cases.json anew
     c/cases.py --check   ends with 1 where the file isn't what the tables say
@@ -17,7 +18,6 @@ import tables  # noqa: E402
 
 ROWS = HERE / "cases.json"
 READING = HERE.parent / "crates/json_patch_vectors/src/reading.rt"
-DIFFERENCES = HERE.parent / "crates/json_patch_vectors/src/differences.rt"
 HEADER = HERE / "json_patch.h"
 OK, REFUSED, NO_DOCUMENT, NO_PATCH = 0, 1, 2, 3
 
@@ -65,19 +65,15 @@ def of_faults(kinds):
 
 def of_differences():
     """Two documents, and the patch that leads from the one to the other."""
-    text = DIFFERENCES.read_text(encoding="utf-8")
-    for start in re.finditer(r"^const \w+: &\[Difference\] = ", text, re.MULTILINE):
-        for case in tables.Source(text[start.end() :], {}).value():
-            yield ["diff", case["from"], case["to"], OK, 0, 0, case["patch"]]
+    for (_, first, second), answer in tables.calls("diff"):
+        texts = (it if isinstance(it, str) else tables.compact(it) for it in (first, second))
+        yield ["diff", *texts, OK, 0, 0, answer.split(" leaves ")[0]]
 
 
 def rows():
     kinds = numbers()
     for case in tables.vectors():
-        # A pair of patches is no case of a call here, and those within limits are left out:
-        # test_limits.c has its own.
-        if "are_apart" not in case and "told" not in case:
-            yield from of_case(case, kinds)
+        yield from of_case(case, kinds)
     yield from of_faults(kinds)
     yield from of_differences()
 
@@ -91,5 +87,5 @@ if __name__ == "__main__":
     if sys.argv[1:] != ["--check"]:
         ROWS.write_text(text(), encoding="utf-8")
     elif ROWS.read_text(encoding="utf-8") != text():
-        sys.exit(f"{ROWS.name} isn't what the tables of json_patch_vectors say: c/cases.py writes it anew")
+        sys.exit(f"{ROWS.name} isn't what the tables say: c/cases.py writes it anew")
     print(f"c: {text().count(chr(10)) - 2} cases of the tables")

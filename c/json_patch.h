@@ -1,6 +1,6 @@
 /*
- * JSON Patch (RFC 6902) and JSON Merge Patch (RFC 7396), for documents whose numbers are whole ones
- * of 64 bits, and for texts with numbers of any form, of which json_patch_apply_text and
+ * JSON Patch (RFC 6902) and JSON Merge Patch (RFC 7396), for documents whose numbers are 64-bit
+ * integers, and for texts with numbers of any form, of which json_patch_apply_text and
  * json_patch_merge_text keep every byte that isn't changed. Link with -ljson_patch.
  *
  *     char out[64];
@@ -34,7 +34,8 @@ typedef uint8_t json_patch_status;
 enum {
     JSON_PATCH_OK = 0,          /* done: what the call writes is in out, report->size bytes */
     JSON_PATCH_REFUSED = 1,     /* report->operation is refused, for report->kind; its path, of
-                                   report->size bytes, is in out if that is long enough */
+                                   report->size bytes, is in out if that is long enough: as it
+                                   stands, with control characters if it has some, U+0000 too */
     JSON_PATCH_NO_DOCUMENT = 2, /* the document's text says none: report->kind tells why */
     JSON_PATCH_NO_PATCH = 3,    /* the patch's text says none: report->kind tells why, and from
                                    JSON_PATCH_NOT_AN_OBJECT on report->operation where; or the text
@@ -45,7 +46,8 @@ enum {
     JSON_PATCH_NO_POINTER = 7,  /* the text is no JSON pointer (RFC 6901) */
     JSON_PATCH_NOTHING = 8,     /* the pointer leads nowhere in the document, or there is nothing to
                                    take back */
-    JSON_PATCH_OVER = 9         /* report->operation is over the limits, for report->kind */
+    JSON_PATCH_OVER = 9         /* report->operation is over the limits, for report->kind; in a merge
+                                   into a text as it is written that is 0 */
 };
 
 /* What is at fault. */
@@ -65,7 +67,8 @@ enum {
                                 would put a value deeper than the limit */
     /* of JSON_PATCH_OVER */
     JSON_PATCH_TOO_MUCH = 8, /* the patch would copy more than the limit, with what it copied before; of
-                                a text as it is written, an operation would leave too many bytes */
+                                a text as it is written, an operation or a merge would leave too many
+                                bytes */
     /* of JSON_PATCH_REFUSED */
     JSON_PATCH_TEST_FAILED = 3,
     JSON_PATCH_INVALID_FROM_POINTER = 4,
@@ -115,23 +118,30 @@ typedef struct {
 /*
  * Limits. Every call is within limits: a document has at most `depth` levels, of which 1 has none and
  * [[1]] has two, and the copies of a patch add at most `copied`, where a value counts one for each
- * value in it, itself included, and one for each byte of a string or a member's name. A patch of which
- * an operation is over them changes nothing: JSON_PATCH_OVER, before that operation is made, and also
- * where it would be refused.
+ * value in it, itself included, and one for each byte of a string or a member's name. In a recorded
+ * patch the value of each `move` counts as copied, too, since the inverse holds it; so the new document
+ * and the inverse's values together are larger than the old one by no more than what the operations hold
+ * and `copied`. A patch of which an operation is over them changes nothing: JSON_PATCH_OVER, before that
+ * operation is made, and also where it would be refused.
+ *
+ * Each one of `copied` can take 900 bytes of memory, and 1,800 where the patch is recorded: an object
+ * whose one member has no name takes that. So what JSON_PATCH_MOST_COPIED lets a patch copy takes at most
+ * 900,000,000 bytes.
  *
  * The calls that take no limits have JSON_PATCH_MOST_LEVELS and JSON_PATCH_MOST_COPIED, but for those on
  * a document that is kept, which have its own, and json_patch_check, which has none. Those of
  * json_patch_..._within have the caller's, where a depth past JSON_PATCH_MOST_LEVELS counts as that. In a
- * merge and a difference `depth` alone counts. So each text that a call writes, of a document, a patch or
- * the array of both, nests at most 127 levels. A document or a patch can be handed in again; the array of
- * both may have more levels than a document may.
+ * merge and a difference of documents `depth` alone counts; of a text as it is written `copied` counts
+ * bytes, in a merge too. So each text that a call writes, of a document, a patch or the array of both,
+ * nests at most 127 levels. A document or a patch can be handed in again; the array of both may have more
+ * levels than a document may.
  */
 typedef struct {
     size_t depth;
     size_t copied;
 } json_patch_limits;
 #define JSON_PATCH_MOST_LEVELS 124
-#define JSON_PATCH_MOST_COPIED 67108864
+#define JSON_PATCH_MOST_COPIED 500000
 
 /* Writes the document that the patch leaves. */
 json_patch_status json_patch_apply(const char *document, size_t document_length,
@@ -163,11 +173,12 @@ json_patch_status json_patch_merge_within(const char *document, size_t document_
                                           const json_patch_limits *limits, char *out,
                                           size_t out_length, json_patch_report *report);
 
-/* Writes the patch that leads from one document to another: applied to `from`, within the same limits,
-   it leaves `to`. It adds, removes and replaces alone, is [] exactly where the documents are equal, and
-   is no longer than the patch that replaces the whole. JSON_PATCH_NO_DOCUMENT, where the text `from`
-   says no document, and JSON_PATCH_NO_PATCH, where `to` says none. Never JSON_PATCH_REFUSED or
-   JSON_PATCH_OVER. */
+/* Writes the patch that leads from one document to another: applied to `from` by json_patch_apply,
+   within the same limits, it leaves `to`. By json_patch_apply_text it does so with a `copied` of 256 for
+   each of its operations, for the whitespace that new members and elements take over. It adds, removes
+   and replaces alone, is [] exactly where the documents are equal, and is no longer than the patch that
+   replaces the whole. JSON_PATCH_NO_DOCUMENT, where the text `from` says no document, and
+   JSON_PATCH_NO_PATCH, where `to` says none. Never JSON_PATCH_REFUSED or JSON_PATCH_OVER. */
 json_patch_status json_patch_diff(const char *from, size_t from_length, const char *to,
                                   size_t to_length, char *out, size_t out_length,
                                   json_patch_report *report);
@@ -192,7 +203,8 @@ json_patch_status json_patch_check(const char *patch, size_t patch_length,
  */
 
 /* Writes the document's text with the patch applied: every byte is kept that no operation changes. What
-   goes with a new member or item, blanks and a comma, is as beside its neighbours.
+   goes with a new member or element, whitespace, a comma and a colon, is as beside its neighbours. Of
+   more than 128 bytes of whitespace, or of a colon with whitespace, none is taken over.
 
    Each text that the operations leave, one after another, is within the limits: at most `depth` arrays
    and objects are open in it at once, and it has at most as many bytes as the document's text, the
@@ -208,8 +220,9 @@ json_patch_status json_patch_apply_text_within(const char *document, size_t docu
                                                size_t out_length, json_patch_report *report);
 
 /* Writes the document's text with the merge patch merged into it: every byte is kept that the merge
-   doesn't change, and all of them where it changes nothing. Of the limits `depth` alone counts. Never
-   JSON_PATCH_REFUSED or JSON_PATCH_OVER. */
+   doesn't change, and all of them where it changes nothing. What goes with a new member is as for
+   json_patch_apply_text. JSON_PATCH_OVER, for JSON_PATCH_TOO_MUCH, where the text would have more bytes
+   than the document's text, the patch's and `copied` together. Never JSON_PATCH_REFUSED. */
 json_patch_status json_patch_merge_text(const char *document, size_t document_length,
                                         const char *patch, size_t patch_length, char *out,
                                         size_t out_length, json_patch_report *report);
@@ -219,8 +232,8 @@ json_patch_status json_patch_merge_text_within(const char *document, size_t docu
                                                const json_patch_limits *limits, char *out,
                                                size_t out_length, json_patch_report *report);
 
-/* Writes the text of the value where the pointer leads, as it stands in the document's text, with none of
-   the blanks around it. JSON_PATCH_OK, JSON_PATCH_NO_DOCUMENT, JSON_PATCH_NO_MEMORY,
+/* Writes the text of the value where the pointer leads, as it stands in the document's text, without the
+   whitespace around it. JSON_PATCH_OK, JSON_PATCH_NO_DOCUMENT, JSON_PATCH_NO_MEMORY,
    JSON_PATCH_NO_ROOM, JSON_PATCH_NO_POINTER, and then the document isn't looked at, or
    JSON_PATCH_NOTHING. */
 json_patch_status json_patch_value_text(const char *document, size_t document_length,

@@ -1,7 +1,8 @@
 /*
  * Tests of the limits, each call on a thread with the stack that the header names: patches that nest
  * a document in itself, values and texts nested up to the limit and past it, and patches that copy
- * too much. What has to come of each is counted here, from the levels and sizes alone.
+ * too much. What has to come of each is counted here, from the levels and sizes alone. And what the
+ * default limits let a patch copy takes no more memory than the header says.
  *
  *     test_limits [STACK]     the stack's bytes (196608)
  */
@@ -12,6 +13,8 @@
 #include <stdio.h>
 #include <stdlib.h>
 #include <string.h>
+#include <sys/wait.h>
+#include <unistd.h>
 
 enum { ROOM = 1 << 16, MOST = JSON_PATCH_MOST_LEVELS, LONGEST = 1 << 20 };
 
@@ -117,6 +120,26 @@ static void expect_each(const text *document, const text *patch, const json_patc
     expect(json_patch_text(&kept, out, ROOM, &report), &report, JSON_PATCH_OK, 0, 0, of);
     if (report.size != n || memcmp(out, d, n) != 0)
         fail("%.*s is left: %s", (int)report.size, out, of);
+    json_patch_close(&kept);
+}
+
+/* A patch that copies too much at that operation where it is recorded, and nothing where it isn't. */
+static void expect_over_where_recorded(const text *document, const text *patch,
+                                       const json_patch_limits *limits, size_t operation, const char *of) {
+    json_patch_report report;
+    json_patch_document kept = JSON_PATCH_DOCUMENT;
+    const char *d = document->bytes, *p = patch->bytes;
+    size_t n = document->length, m = patch->length;
+    expect(json_patch_apply_within(d, n, p, m, limits, out, ROOM, &report), &report, JSON_PATCH_OK, 0, 0, of);
+    expect(json_patch_record_within(d, n, p, m, limits, out, ROOM, &report), &report, JSON_PATCH_OVER,
+           operation, JSON_PATCH_TOO_MUCH, of);
+    expect(json_patch_open_within(&kept, d, n, limits, &report), &report, JSON_PATCH_OK, 0, 0, of);
+    expect(json_patch_update_recorded(&kept, p, m, out, ROOM, &report), &report, JSON_PATCH_OVER,
+           operation, JSON_PATCH_TOO_MUCH, of);
+    expect(json_patch_text(&kept, out, ROOM, &report), &report, JSON_PATCH_OK, 0, 0, of);
+    if (report.size != n || memcmp(out, d, n) != 0)
+        fail("%.*s is left: %s", (int)report.size, out, of);
+    expect(json_patch_update(&kept, p, m, out, ROOM, &report), &report, JSON_PATCH_OK, 0, 0, of);
     json_patch_close(&kept);
 }
 
@@ -454,6 +477,27 @@ static void expect_growth(size_t bytes, size_t copies, const json_patch_limits *
     free(patch.bytes);
 }
 
+/* Moves of a string of so many bytes, there and back. In a recorded run each counts one and its bytes,
+   which the inverse holds; otherwise none counts. */
+static void expect_moves_back(size_t bytes, size_t moves, const json_patch_limits *limits) {
+    text document = {NULL, 0, 0}, patch = {NULL, 0, 0};
+    put(&document, "{\"a\":\"");
+    put_times(&document, "x", bytes);
+    put(&document, "\"}");
+    put(&patch, "[");
+    for (size_t i = 0; i < moves; i++)
+        put(&patch, "%s{\"op\":\"move\",\"from\":\"/%s\",\"path\":\"/%s\"}", i ? "," : "", i % 2 ? "b" : "a",
+            i % 2 ? "a" : "b");
+    put(&patch, "]");
+    size_t most = limits->copied / (bytes + 1);
+    if (moves <= most)
+        expect_each(&document, &patch, limits, JSON_PATCH_OK, 0, 0, "moves back");
+    else
+        expect_over_where_recorded(&document, &patch, limits, most, "moves back");
+    free(document.bytes);
+    free(patch.bytes);
+}
+
 /* A name counts its bytes too, and so does each value: {"ab":[1,2]} counts 6. */
 static void expect_sizes(void) {
     const char *document = "{\"x\":{\"ab\":[1,2]}}", *patch = "[{\"op\":\"copy\",\"from\":\"/x\",\"path\":\"/y\"}]";
@@ -501,6 +545,88 @@ static void expect_undo(void) {
     free(patch.bytes);
 }
 
+/* ---- memory */
+
+/* The header's bytes for each that is copied, and so many more for the process and the texts. */
+enum { PLAIN = 900, RECORDED = 1800, MORE = 32 << 20, CHAIN = 100 };
+
+/* How many bytes this process held at most so far. */
+static size_t held_at_most(void) {
+    FILE *status = fopen("/proc/self/status", "r");
+    char line[128];
+    size_t kilobytes = 0;
+    while (status && !kilobytes && fgets(line, sizeof line, status))
+        sscanf(line, "VmHWM: %zu kB", &kilobytes);
+    if (!kilobytes)
+        fail("/proc/self/status has no VmHWM");
+    fclose(status);
+    return kilobytes * 1024;
+}
+
+/* Copies or moves of a chain of objects of one member with no name, which take the most for each that
+   is copied: as many as the default limits let through. */
+static text chains(int moved) {
+    size_t count = JSON_PATCH_MOST_COPIED / (CHAIN + 1);
+    text patch = {NULL, 0, 0};
+    put(&patch, "[");
+    for (size_t i = 0; i < count; i++) {
+        put(&patch, "%s{\"op\":\"%s\",", i ? "," : "", moved ? "move" : "copy");
+        if (moved)
+            put(&patch, "\"from\":\"/%s\",\"path\":\"/%s\"}", i % 2 ? "b" : "a", i % 2 ? "a" : "b");
+        else
+            put(&patch, "\"from\":\"/a\",\"path\":\"/l/-\"}");
+    }
+    put(&patch, "]");
+    return patch;
+}
+
+/* A text that a call made is too large for `out`. */
+static int is_made(int recorded, int kept, const text *document, const text *patch) {
+    json_patch_document held = JSON_PATCH_DOCUMENT;
+    json_patch_report report;
+    const char *d = document->bytes, *p = patch->bytes;
+    size_t n = document->length, m = patch->length;
+    if (!kept)
+        return (recorded ? json_patch_record : json_patch_apply)(d, n, p, m, out, ROOM, &report) ==
+               JSON_PATCH_NO_ROOM;
+    return json_patch_open(&held, d, n, &report) == JSON_PATCH_OK &&
+           json_patch_update_recorded(&held, p, m, out, ROOM, &report) == JSON_PATCH_OK &&
+           json_patch_inverse(&held, out, ROOM, &report) == JSON_PATCH_NO_ROOM;
+}
+
+/* The call in a process of its own, which holds no more than the header says. */
+static void expect_held(int moved, int recorded, int kept, const char *of) {
+    text document = {NULL, 0, 0}, patch = chains(moved);
+    size_t most = (size_t)JSON_PATCH_MOST_COPIED * (recorded ? RECORDED : PLAIN) + MORE;
+    put(&document, "{\"a\":");
+    put_times(&document, "{\"\":", CHAIN);
+    put(&document, "0");
+    put_times(&document, "}", CHAIN);
+    put(&document, ",\"l\":[]}");
+    pid_t child = fork();
+    int status = 1;
+    if (child == 0) {
+        if (!is_made(recorded, kept, &document, &patch))
+            fail("%s: not made", of);
+        size_t held = held_at_most();
+        if (held > most)
+            fail("%s: %zu bytes are held, and not %zu at most", of, held, most);
+        exit(0);
+    }
+    if (child < 0 || waitpid(child, &status, 0) != child || status != 0)
+        fail("%s: status %d", of, status);
+    calls++;
+    free(document.bytes);
+    free(patch.bytes);
+}
+
+static void expect_memory(void) {
+    expect_held(0, 0, 0, "memory of copies");
+    expect_held(0, 1, 0, "memory of recorded copies");
+    expect_held(1, 1, 0, "memory of recorded moves");
+    expect_held(1, 1, 1, "memory of moves of a kept document");
+}
+
 /* ---- all of it, on a thread */
 
 static void *made(void *unused) {
@@ -538,6 +664,9 @@ static void *made(void *unused) {
     expect_copies_in_text(1036, 1, &small);
     expect_copies_in_text(1037, 1, &small);
     expect_copies_in_text(1000, 250, &larger);
+    expect_moves_back(9, 100, &small);
+    expect_moves_back(9, 101, &small);
+    expect_moves_back(1000, 500, &usual);
     expect_growth(10, 100, &small);
     expect_growth(1000, 100, &usual);
     expect_sizes();
@@ -556,6 +685,12 @@ int main(int count, char **words) {
     if (!out || pthread_attr_init(&attributes) || pthread_attr_setstacksize(&attributes, stack) ||
         pthread_create(&thread, &attributes, made, NULL) || pthread_join(thread, NULL))
         fail("no thread with a stack of %zu bytes", stack);
+    /* the sanitizers take more */
+#ifndef __SANITIZE_ADDRESS__
+    expect_memory();
+#else
+    (void)expect_memory;
+#endif
     printf("c: %lu calls within limits, on a stack of %zu bytes\n", calls, stack);
     free(out);
     return 0;

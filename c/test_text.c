@@ -248,6 +248,37 @@ static void expect_bytes(void) {
     expect_within(document, twice, 1, more - strlen(twice) - 1, JSON_PATCH_OVER, 0, JSON_PATCH_TOO_MUCH);
 }
 
+/* A merge that leaves so many bytes, or is over the limit. */
+static void expect_merged_within(const char *document, const char *patch, size_t copied, size_t size) {
+    static char out[1 << 18];
+    const json_patch_limits limits = {1, copied};
+    json_patch_report report = {77, 77, 77};
+    json_patch_status status = json_patch_merge_text_within(document, strlen(document), patch, strlen(patch),
+                                                            &limits, out, sizeof out, &report);
+    calls++;
+    if (status != (size ? JSON_PATCH_OK : JSON_PATCH_OVER) || report.size != size || report.operation != 0 ||
+        report.kind != (size ? 0 : JSON_PATCH_TOO_MUCH))
+        fail("status %d, %zu bytes, kind %d for a merge", status, report.size, report.kind);
+}
+
+/* The bytes of a merge: many new members beside a member with 60,000 blanks take none of them over, and
+   make the bytes of both texts, but for two braces, and a comma. Of 14 blanks each takes them over. */
+static void expect_merged_bytes(void) {
+    enum { BLANKS = 60000, MEMBERS = 6000 };
+    static char document[BLANKS + 9], patch[MEMBERS * 12];
+    size_t length = 0;
+    document[0] = '{';
+    memset(document + 1, ' ', BLANKS);
+    memcpy(document + 1 + BLANKS, "\"a\":1}", 7);
+    for (int i = 0; i < MEMBERS; i++)
+        length += (size_t)snprintf(patch + length, sizeof patch - length, "%c\"m%d\":1", i ? ',' : '{', i);
+    patch[length++] = '}';
+    expect_merged_within(document, patch, 0, BLANKS + 7 + length - 1);
+    const char *near = "{              \"a\":1}", *two = "{\"b\":2,\"c\": 3  }";
+    expect_merged_within(near, two, 24, 61);
+    expect_merged_within(near, two, 23, 0);
+}
+
 /* Those of a merge: one of the two texts may have as many. */
 static void expect_merged_levels(void) {
     static const struct {
@@ -327,6 +358,7 @@ int main(int count, char **words) {
     expect_found();
     expect_levels();
     expect_merged_levels();
+    expect_merged_bytes();
     expect_bytes();
     expect_most();
     for_each_row(words[1], expect_same);

@@ -4,7 +4,7 @@
     diff/differences.py [--seed S] [--pairs N] --ours PROGRAM --rust PROGRAM [--spoil FAULT]
 
 PROGRAM is that of diff/differences.rt.txt, which `diff/build FOLDER json_patch_differences
-diff/differences.rt.txt json_patch_diff json_patch_moves` proves and builds; the second one that of
+diff/differences.rt.txt json_patch_diff json_patch_moves json_merge_diff` proves and builds; the second one that of
 diff/run.py round the Rust crate. Each patch is made on the first document by `patch` here, by the Rust
 crate and by Python's jsonpatch, and all have to leave the second document, but that jsonpatch refuses to
 replace a member whose name is `-`. It has no operation exactly where the documents are equal, adds, removes

@@ -7,7 +7,8 @@ c/build has to have built the library, which is called in this process. The limi
 where one of its operations would be over, mostly. Each is made from texts and on a document that is
 kept, recorded and not: all have to answer as the model does. A list that isn't accepted has to leave
 the document that is kept, and one that is recorded to be led back from, by its inverse and by
-json_patch_undo. Beside each list a merge patch is made within the same levels. The run fails where an
+json_patch_undo; the values of its inverse and the new document together are no larger than the old
+one, with what the operations hold and may copy. Beside each list a merge patch is made within the same levels. The run fails where an
 answer is another, and where a kind of answer never came."""
 import argparse
 import json
@@ -19,7 +20,7 @@ from pathlib import Path
 from cases import Cases
 from limits_model import LimitsModel, levels, size
 from limits_tables import faults
-from model import Refused, copied
+from model import Refused, copied, tokens_of
 from tables import is_same
 
 TOP = Path(__file__).resolve().parent.parent
@@ -29,7 +30,7 @@ import json_patch  # noqa: E402
 from json_patch._calls import called  # noqa: E402
 from json_patch._library import LIBRARY  # noqa: E402
 
-KINDS = ("ok", "refused", "over TooDeep", "over TooMuch", "deep document", "deep merge patch", "merged")
+KINDS = ("ok", "refused", "over TooDeep", "over TooMuch", "over where recorded", "deep document", "deep merge patch", "merged")
 LARGE = 10_000
 
 
@@ -47,10 +48,10 @@ class LimitedCases:
     def next(self):
         make = self.random.choice([self.cases.patch_case, self.cases.dense_case, self.nesting_case])
         document, operations = make()
-        reached, much = self.profile(document, operations)
+        reached, much = self.profile(document, operations, self.random.random() < 0.5)
         least = levels(document)
         depth = self.about([max(least, reach) for reach in (0, *reached)], 124)
-        return document, operations, json_patch.Limits(depth, self.about(much, 67_108_864))
+        return document, operations, json_patch.Limits(depth, self.about(much, json_patch.Limits().copied))
 
     def nesting_case(self):
         """A list of copies and moves from places near the root to any, until the document is large."""
@@ -61,12 +62,12 @@ class LimitedCases:
 
         return self.cases.list_on(self.cases.value(), self.random.randrange(20), 0.05, operation)
 
-    def profile(self, document, operations):
+    def profile(self, document, operations, recorded):
         """How deep each operation reaches, and how much is copied by its end, up to one that is refused."""
         state, reached, much = copied(document), [], [0]
         for operation in operations:
             reached.append(self.model.reach(state, operation))
-            much.append(much[-1] + self.model.copies(state, operation))
+            much.append(much[-1] + self.model.copies(state, operation, recorded))
             try:
                 state = self.model.model.step(state, operation)
             except Refused:
@@ -80,10 +81,21 @@ class LimitedCases:
         return min(most, max(0, self.random.choice(counts) + self.random.choice([-1, 0, 0, 1])))
 
 
-def expected(model, document, operations, limits):
+def expected(model, document, operations, limits, recorded):
     if levels(document) > limits.depth:
         return ("deep document",)
-    return model.answer(document, operations, limits.depth, limits.copied)
+    return model.answer(document, operations, limits.depth, limits.copied, recorded)
+
+
+def held(operations):
+    """How large the operations' values are, all together."""
+    return sum(size(operation["value"]) for operation in operations if "value" in operation)
+
+
+def most(document, operations, limits):
+    """How large the document and the inverse's values may become, together."""
+    names = sum(len(token.encode()) for operation in operations for token in tokens_of(operation["path"]))
+    return size(document) + held(operations) + names + limits.copied
 
 
 def merged(model, document, changes, limits):
@@ -111,24 +123,36 @@ def from_texts(document, patch, limits):
 
 def recorded(document, patch, limits):
     made, inverse = json.loads(called(LIBRARY.json_patch_record_within, document, patch, limits))
+    if size(made) + held(inverse) > most(json.loads(document), json.loads(patch), limits):
+        raise ValueError(f"the inverse is too large: {inverse}")
     expect_same(from_texts(text(made), text(inverse), json_patch.Limits()), json.loads(document), "the inverse")
     return made
 
 
 def kept(document, patch, limits):
-    with json_patch.Document.from_string(document, limits=limits) as held:
-        before = held.get()
-        first = answer(lambda: held.record(patch) and held.get())
-        if first[0] == "ok":
-            first = ("ok", held.get())
-            held.undo()
-        expect_same(held.get(), before, "what is kept")
-        second = answer(lambda: held.apply(patch) or held.get())
-        expect_same(second, first, "kept and recorded")
-        if first[0] != "ok":
-            expect_same(held.get(), before, "what is kept")
-            held.apply(patch)
-        return held.get()
+    with json_patch.Document.from_string(document, limits=limits) as it:
+        before = it.get()
+        try:
+            it.apply(patch)
+        except json_patch.JsonPatchException:
+            expect_same(it.get(), before, "what is kept")
+            raise
+        return it.get()
+
+
+def kept_recorded(document, patch, limits):
+    with json_patch.Document.from_string(document, limits=limits) as it:
+        before = it.get()
+        try:
+            it.record(patch)
+            made = it.get()
+            it.undo()
+            return made
+        finally:
+            expect_same(it.get(), before, "what is kept")
+
+
+CALLS = (from_texts, recorded, kept, kept_recorded)
 
 
 def expect_same(found, wanted, told):
@@ -144,12 +168,13 @@ def main():
     cases, model, counts, wrong = LimitedCases(asked.seed), LimitsModel(), Counter(), list(faults(LimitsModel()))
     for _ in range(asked.cases):
         document, operations, limits = cases.next()
-        right = expected(model, document, operations, limits)
+        right, right_recorded = (expected(model, document, operations, limits, is_recorded) for is_recorded in (False, True))
         counts["over " + right[2] if right[0] == "over" else right[0]] += 1
-        for call in (from_texts, recorded, kept):
+        counts["over where recorded"] += right != right_recorded
+        for call, wanted in zip(CALLS, (right, right_recorded) * 2):
             told = answer(lambda: call(text(document), text(operations), limits))
-            if not is_same(told, right):
-                wrong.append(f"{call.__name__}: {text([document, operations])} {limits}: {told}, not {right}")
+            if not is_same(told, wanted):
+                wrong.append(f"{call.__name__}: {text([document, operations])} {limits}: {told}, not {wanted}")
         changes = cases.cases.value()
         right = merged(model, document, changes, limits)
         counts["merged" if right[0] == "ok" else right[0]] += 1

@@ -51,20 +51,20 @@ class LimitsModel:
             return 0
         return max((path + levels(value) for value in self.found(document, operation["from"])), default=0)
 
-    def copies(self, document, operation):
-        """How much of the document it copies."""
-        if operation["op"] != "copy":
+    def copies(self, document, operation, recorded):
+        """How much of the document it copies: in a recorded run also what it moves, which the inverse holds."""
+        if operation["op"] != "copy" and not (recorded and operation["op"] == "move"):
             return 0
         return sum(map(size, self.found(document, operation["from"])))
 
-    def answer(self, document, operations, depth, allowed):
-        """What comes of the list: the document that it leaves, the first operation that is over and its
-        kind, or the one that is refused, with its path and kind."""
+    def answer(self, document, operations, depth, allowed, recorded):
+        """What comes of the list, in a run that is recorded or isn't: the document that it leaves, the
+        first operation that is over and its kind, or the one that is refused, with its path and kind."""
         state = copied(document)
         for number, operation in enumerate(operations):
             if self.reach(state, operation) > depth:
                 return ("over", number, TOO_DEEP)
-            much = self.copies(state, operation)
+            much = self.copies(state, operation, recorded)
             if much > allowed:
                 return ("over", number, TOO_MUCH)
             allowed -= much

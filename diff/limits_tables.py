@@ -1,6 +1,6 @@
 #!/usr/bin/env python3
 """Rows that were worked by hand, of lists within limits, and how diff/limits_model.py answers them: those
-below, and those of crates/json_patch_vectors that tell of limits. It asks too that each of the faults
+below, and those of crates/json_patch_memory that tell of limits. It asks too that each of the faults
 below, one at a time, in the model is found by a row. It takes a second.
 
     diff/limits_tables.py
@@ -14,7 +14,7 @@ from pathlib import Path
 import limits_model
 from limits_model import TOO_DEEP, TOO_MUCH
 from reasons import KINDS, REFUSAL
-from tables import is_same, vectors
+from tables import calls, is_same
 
 MODEL = Path(limits_model.__file__)
 OVER = re.compile(r"operation '/(\d+)' is over the limits: (.*)")
@@ -61,6 +61,20 @@ OWN = [
     ("the same, as deep as it may", {"a/b": {}}, [["add", "/a~1b/c", 1]], 2, 0, ("ok", {"a/b": {"c": 1}})),
 ]
 
+# The same of recorded runs.
+RECORDED = [
+    ("a move copies its value", {"a": "long"}, [["move", "/a", "/b"]], 1, 4, ("over", 0, TOO_MUCH)),
+    ("the same, as much as may be", {"a": "long"}, [["move", "/a", "/b"]], 1, 5, ("ok", {"b": "long"})),
+    ("to where it stands, too", [[1]], [["move", "/0", "/0"]], 2, 1, ("over", 0, TOO_MUCH)),
+    ("moves count together", {"a": 1}, [["move", "/a", "/b"], ["move", "/b", "/a"]], 1, 1, ("over", 1, TOO_MUCH)),
+    ("and with copies", [7], [["copy", "/0", "/0"], ["move", "/0", "/1"]], 1, 1, ("over", 1, TOO_MUCH)),
+    ("a value that is taken away isn't copied", ["long"], [["remove", "/0"], ["add", "/0", 1], ["replace", "/0", 2]], 1, 0, ("ok", [2])),
+    ("a test copies nothing", ["long"], [["test", "/0", "long"]], 1, 0, ("ok", ["long"])),
+    ("a move of nothing", {}, [["move", "/a", "/b"]], 1, 0, ("refused", 0, "/b", "InvalidFromPointer")),
+    ("a move that would be refused is over", {"a": 1}, [["move", "/a", "/b/c"]], 2, 0, ("over", 0, TOO_MUCH)),
+    ("a move that is both over is too deep", {"a": [], "b": []}, [["move", "/a", "/b/0"]], 2, 0, ("over", 0, TOO_DEEP)),
+]
+
 # The fault, the text of the model that it changes, which stands there once, and what it becomes.
 FAULTS = [
     ("the path isn't counted", "return path + levels(operation[\"value\"])", "return levels(operation[\"value\"])"),
@@ -81,9 +95,10 @@ FAULTS = [
     ("as much as may be copied is over", "much > allowed:", "much >= allowed > 0:"),
     ("copies alone are limited", "if self.reach(state, operation) > depth:", "if operation[\"op\"] == \"copy\" and self.reach(state, operation) > depth:"),
     ("copies count one by one", "            allowed -= much\n", ""),
-    ("too much before too deep", "if self.reach(state, operation) > depth:", "if self.reach(state, operation) > depth and self.copies(state, operation) <= allowed:"),
-    ("a move copies", 'if operation["op"] != "copy":', 'if operation["op"] not in ("copy", "move"):'),
-    ("an add copies", 'if operation["op"] != "copy":\n            return 0', 'if operation["op"] != "copy":\n            return size(operation.get("value")) - 1'),
+    ("too much before too deep", "if self.reach(state, operation) > depth:", "if self.reach(state, operation) > depth and self.copies(state, operation, recorded) <= allowed:"),
+    ("a move copies", "(recorded and operation", "(operation"),
+    ("no move copies", "not (recorded and operation[\"op\"] == \"move\")", "True"),
+    ("an add copies", '"move"):\n            return 0', '"move"):\n            return size(operation.get("value")) - 1'),
     ("names aren't counted", "1 + own + names +", "1 + own +"),
     ("strings aren't counted", "1 + own + names", "1 + names"),
     ("a string counts its characters", "len(value.encode())", "len(value)"),
@@ -94,7 +109,7 @@ FAULTS = [
     ("the first item alone is looked at", "return value if isinstance(value, LISTS) else []", "return value[:1] if isinstance(value, LISTS) else []"),
     ("an empty array has no level", "if not isinstance(value, (MAPS, LISTS)):", "if not value or not isinstance(value, (MAPS, LISTS)):"),
     ("levels are added up", "max(map(levels, below(value)), default=0)", "sum(map(levels, below(value)))"),
-    ("the copies are those of the first document", "self.copies(state, operation)", "self.copies(document, operation)"),
+    ("the copies are those of the first document", "self.copies(state, operation,", "self.copies(document, operation,"),
     ("the first operation is blamed", '("over", number, TOO_DEEP)', '("over", 0, TOO_DEEP)'),
     ("the first copy is blamed", '("over", number, TOO_MUCH)', '("over", 0, TOO_MUCH)'),
     ("a refused one is looked at first", "            if self.reach(state", "            try:\n                self.model.step(copied(state), operation)\n            except Refused as kind:\n                return (\"refused\", number, operation[\"path\"], str(kind))\n            if self.reach(state"),
@@ -108,34 +123,36 @@ def operation(name, *parts):
     return {"op": name, **dict(zip(names, parts))}
 
 
-def told(row):
+def told(line):
     """What a row of the crate tells, as the model answers."""
-    if row["told"] == "made":
-        return ("ok", json.loads(row["document"] if row["left"] == "-" else row["left"]))
-    over = OVER.fullmatch(row["told"])
+    words, left = line.split(" leaves ")
+    over, refused = OVER.fullmatch(words), REFUSAL.fullmatch(words)
     if over:
         return ("over", int(over[1]), OVER_KINDS[over[2]])
-    number, path, reason = REFUSAL.fullmatch(row["told"]).groups()
-    return ("refused", int(number), path, KINDS[reason])
+    if refused:
+        number, path, reason = refused.groups()
+        return ("refused", int(number), path, KINDS[reason])
+    return ("ok", json.loads(left))
 
 
 def rows():
-    for name, document, operations, depth, allowed, right in OWN:
-        yield name, document, [operation(*parts) for parts in operations], depth, allowed, right
-    for row in vectors():
-        if "told" in row:
-            yield row["told"], json.loads(row["document"]), json.loads(row["patch"]), row["depth"], row["copied"], told(row)
+    """Each row: its name, what the model is asked, and the answer."""
+    for is_recorded, table in enumerate((OWN, RECORDED)):
+        for name, document, operations, depth, allowed, right in table:
+            yield name, (document, [operation(*parts) for parts in operations], depth, allowed, bool(is_recorded)), right
+    for (call, document, operations, depth, copied), line in calls("patch_within", "apply_patches_within"):
+        yield line, (document, operations, depth, copied, call == "apply_patches_within"), told(line)
 
 
 def faults(model):
     """The rows that the model answers otherwise."""
-    for name, document, operations, depth, allowed, right in rows():
+    for name, asked, right in rows():
         try:
-            answer = model.answer(document, operations, depth, allowed)
+            answer = model.answer(*asked)
         except Exception as error:  # the model is to answer each row
             answer = ("ended by", repr(error))
         if not is_same(answer, right):
-            yield f"{name}: {document} with {operations}, at most {depth} and {allowed}: {answer}, not {right}"
+            yield f"{name}: {asked}: {answer}, not {right}"
 
 
 def wrong_model(old, new):

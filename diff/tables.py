@@ -1,6 +1,6 @@
 """The tables of cases whose answers were worked by hand, and how diff/model.py answers them: those of
-crates/json_patch_vectors, read from their source, those of memory/cases.py, and some of the model's
-own (OWN). diff/try_model.py shows that each fault of the model is seen by a row."""
+crates/json_patch_vectors, read from their source, those of memory/cases.py, rows of
+crates/json_patch_memory, and some of the model's own (OWN). diff/try_model.py shows that each fault of the model is seen by a row."""
 import glob
 import json
 import os
@@ -16,7 +16,8 @@ from patches import compact, test  # noqa: E402
 from reasons import KINDS, REFUSAL  # noqa: E402
 
 VECTORS = os.path.join(TOP, "crates/json_patch_vectors/src/*.rt")
-ITEM = re.compile(r"^const (\w+): &(?:str|\[(?:Case|Pair)\]) = ", re.MULTILINE)
+CALLS = os.path.join(TOP, "crates/json_patch_memory")
+ITEM = re.compile(r"^const (\w+): &(?:str|\[Case\]) = ", re.MULTILINE)
 LEXEME = re.compile(
     r'r(?P<hashes>#*)"(?P<raw>.*?)"(?P=hashes)|"(?P<text>(?:\\.|[^"\\])*)"|(?P<word>\w+(?:::\w+)*!?)'
     r"|\s+|//[^\n]*|(?P<mark>[^\s\w])",
@@ -89,7 +90,14 @@ def vectors():
         for item in ITEM.finditer(text):
             constants[item[1]] = Source(text[item.end() :], constants).value()
         yield from constants.get("CASES", [])
-        yield from constants.get("PAIRS", [])
+
+
+def calls(*names):
+    """The rows of these calls that json_patch_memory is run on, each with the line that answers it."""
+    with open(f"{CALLS}/stdin", encoding="utf-8") as asked, open(f"{CALLS}/stdout", encoding="utf-8") as told:
+        for line, answer in zip(asked, told, strict=True):
+            if not line.startswith("#") and json.loads(line)[0] in names:
+                yield json.loads(line), answer.rstrip("\n")
 
 
 # Rows of the model's own, worked by hand: pairs of which no test of one lets the other past, either
@@ -114,13 +122,11 @@ def rows():
         for here, asked in ((one, other), (other, one)):
             document = {"a": here}
             yield from refused([document, [test("/a", asked)]], 0, "/a", "TestFailed", compact(document))
+    for (_, first, second), answer in calls("are_apart"):
+        there, back = map(json.loads, answer.split(", "))
+        yield "apart", first, second, ("ok", there)
+        yield "apart", second, first, ("ok", back)
     for case in vectors():
-        # those within limits are of diff/limits_tables.py
-        if "told" in case:
-            continue
-        if "are_apart" in case:
-            yield "apart", json.loads(case["first"]), json.loads(case["second"]), ("ok", case["are_apart"])
-            continue
         given = [json.loads(case["document"]), json.loads(case["patch"])]
         if "merged" in case:
             yield "merge", *given, ("ok", json.loads(case["merged"]))

@@ -24,7 +24,7 @@ os.environ.setdefault("JSON_PATCH_LIBRARY", str(TOP / "c/out/lib/libjson_patch.s
 import json_patch  # noqa: E402
 
 KINDS = ("ok", "refused", "over TooDeep", "over TooMuch", "deep document")
-MOST_LEVELS, MOST_COPIED = 124, 67_108_864
+MOST_LEVELS, MOST_COPIED = 124, 500_000
 LARGE = 5_000
 
 

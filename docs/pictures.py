@@ -7,8 +7,6 @@ import sys
 from pathlib import Path
 from xml.sax.saxutils import escape
 
-import promises
-
 TOP = Path(__file__).resolve().parent.parent
 GROUND, INK, FAINT, EDGE = "#fbfbf8", "#1f2933", "#5b6770", "#8a97a3"
 KINDS = {"library": "#dbe9f6", "program": "#e3f1dc", "test": "#f6ead4", "fault": "#f8e0dd", "mark": "#e9dff2"}
@@ -28,6 +26,7 @@ CAPTIONS = {
     "json_patch_edit": ("one edit, and what undoes it", "library"),
     "json_patch_limits": ("how deep, and how much", "library"),
     "json_patch_merge": ("merge patches", "library"),
+    "json_merge_diff": ("merge patches that are made", "library"),
     "json_patch_laws": ("laws of the definitions", "library"),
     "json_patch_apart": ("lists that may change order", "library"),
     "json_patch": ("patch, inverse; what users name", "library"),
@@ -40,10 +39,10 @@ CAPTIONS = {
     "json_patch_answers": ("what the program answers to bytes", "library"),
     "json_patch_tool": ("the program, bytes to bytes", "program"),
     "json_patch_uses": ("proved examples of use", "library"),
-    "json_patch_examples": ("the README's examples, tests", "test"),
+    "json_patch_examples": ("the examples, by rows", "test"),
     "json_patch_vectors": ("tables of cases", "test"),
-    "json_text_vectors": ("tables of texts", "test"),
-    "json_patch_memory": ("one call, for memory/run", "test"),
+    "json_text_vectors": ("calls on texts, by rows", "test"),
+    "json_patch_memory": ("one call, or rows of calls", "test"),
 }
 
 
@@ -85,6 +84,14 @@ def picture(width, height, title, drawn):
 # ---- the crates
 
 
+def dependencies(top):
+    """The crates of crates.txt, each with those that it uses."""
+    lines = (top / "crates.txt").read_text(encoding="utf-8").splitlines()
+    named = [line.split("#")[0].partition(":") for line in lines if ":" in line.split("#")[0]]
+    used = {name.split()[0]: names.split() for name, _, names in named}
+    return {name: [crate for crate in names if crate in used] for name, names in used.items()}
+
+
 def levels(used):
     """Each crate's level: one above the highest that it uses, and where others use it, raised to one
     below the lowest of these."""
@@ -117,7 +124,7 @@ def way_down(x, to_x, past, wide):
 
 
 def crates(top):
-    used = promises.dependencies(top)
+    used = dependencies(top)
     level, wide, tall, gap_x, gap_y = levels(used), 212, 50, 22, 44
     rows = [sorted(crate for crate in used if level[crate] == at) for at in range(max(level.values()) + 1)]
     width = max(len(row) for row in rows) * (wide + gap_x) + gap_x
@@ -225,12 +232,12 @@ PICTURES = {"crates.svg": crates, "marks.svg": marks, "bytes.svg": way}
 
 def held(top):
     """How many pictures there are, and what is wrong with them."""
-    wrong = [f"{crate} has no caption" for crate in promises.dependencies(top) if crate not in CAPTIONS]
+    wrong = [f"{crate} has no caption" for crate in dependencies(top) if crate not in CAPTIONS]
     for name, draw in PICTURES.items():
         path = top / "docs/pictures" / name
         there = path.read_text(encoding="utf-8") if path.exists() else ""
         if name == "crates.svg":
-            wrong += [f"{name} lacks {crate}" for crate in promises.dependencies(top) if f">{crate}</text>" not in there]
+            wrong += [f"{name} lacks {crate}" for crate in dependencies(top) if f">{crate}</text>" not in there]
         if there != draw(top):
             wrong.append(f"{name} isn't as docs/pictures.py draws it")
     return len(PICTURES), wrong

@@ -435,7 +435,6 @@ EDITS = {
 }
 
 
-
 def edited(run):
     """A change, taken back and made again."""
     first, last = json.loads(run.states[0]), json.loads(run.states[-1])
@@ -773,6 +772,13 @@ def tool_runs():
 
 def written(mode, name, pair, line):
     return ToolRun(f"json_patch_tool {mode}: {name}", mode, compact(pair), 0, line + "\n", "")
+
+
+def respond_calls():
+    """The call that makes the program's line, on the inputs of the program."""
+    for run in tool_runs():
+        line = run.line.replace("json_patch_tool", "respond", 1)
+        yield Call(line, ["respond", run.mode, run.input], left(run.output or run.fault, run.input), [left(MEMORY, run.input)])
 
 
 def tool_patches():

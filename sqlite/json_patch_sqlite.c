@@ -146,19 +146,49 @@ static char *fault_of_text(const char *which, const json_patch_report *report)
     return sqlite3_mprintf("%s %s", which, kind_text(report->kind));
 }
 
+/* Appends a path in visible characters, and none that ends a text: a control character, also of those
+   from U+007F to U+009F, is written \uXXXX, and a backslash twice. */
+static void append_path(sqlite3_str *message, const char *path, size_t size)
+{
+    for (size_t i = 0; i < size; i++) {
+        unsigned byte = (unsigned char)path[i];
+        unsigned next = i + 1 < size ? (unsigned char)path[i + 1] : 0;
+        if (byte < 0x20 || byte == 0x7f) {
+            sqlite3_str_appendf(message, "\\u%04x", byte);
+        } else if (byte == 0xc2 && next < 0xa0) { /* U+0080 to U+009F, in UTF-8 */
+            sqlite3_str_appendf(message, "\\u%04x", next);
+            i++;
+        } else {
+            if (byte == '\\')
+                sqlite3_str_appendchar(message, 1, '\\');
+            sqlite3_str_appendchar(message, 1, path[i]);
+        }
+    }
+}
+
+static char *refusal(const char *path, const json_patch_report *report)
+{
+    sqlite3_str *message = sqlite3_str_new(NULL);
+    sqlite3_str_appendf(message, "operation %llu failed at path '",
+                        (sqlite3_uint64)report->operation);
+    append_path(message, path, report->size);
+    sqlite3_str_appendf(message, "': %s", kind_text(report->kind));
+    return sqlite3_str_finish(message);
+}
+
 /* Why nothing was written, in memory of SQLite; NULL where there is none, or where it is for want of
    memory. A refused operation's path is in out. */
 static char *fault(const function *of, json_patch_status status, const char *out,
                    const json_patch_report *report)
 {
-    sqlite3_uint64 operation = report->operation;
     switch (status) {
     case JSON_PATCH_REFUSED:
-        return sqlite3_mprintf("operation %llu failed at path '%.*s': %s", operation,
-                               (int)report->size, out, kind_text(report->kind));
+        return refusal(out, report);
     case JSON_PATCH_OVER:
-        return sqlite3_mprintf("operation %llu is over the limits: it %s", operation,
-                               kind_text(report->kind));
+        if (of->write == write_merged)
+            return sqlite3_mprintf("%s is over the limits: it %s", of->second, kind_text(report->kind));
+        return sqlite3_mprintf("operation %llu is over the limits: it %s",
+                               (sqlite3_uint64)report->operation, kind_text(report->kind));
     case JSON_PATCH_NO_DOCUMENT:
         return fault_of_text(of->first, report);
     case JSON_PATCH_NO_PATCH:

@@ -75,7 +75,7 @@ class Calls(Sql):
                 self.of(name, document, patch)
             told = str(caught.exception)
             if status == 1:
-                self.assertIn(f"operation {operation} failed at path '{written}': ", told.replace("\0", ""))
+                self.assertIn(f"operation {operation} failed at path '{written}': ", told)
         self.assertGreater(min(counts["apply", 0], counts["apply", 1], counts["apply", 3], counts["merge", 0]), 10, counts)
 
     def test_kinds_of_refusal(self):
@@ -87,6 +87,16 @@ class Calls(Sql):
         ]:
             self.assertFails(told, APPLY, json.dumps(document), json.dumps([operation]))
         self.assertFails("operation 1 failed at path '/\u00e9': path is invalid", INVERSE, "{}", '[{"op":"add","path":"/a","value":1},{"op":"remove","path":"/\\u00e9"}]')
+
+    def test_paths_in_visible_characters(self):
+        """Each character from U+0000 to U+00FF, and some that take more bytes."""
+        path = "/" + "".join(map(chr, range(0x100))).replace("~", "~0") + "\u0100\u0e80\u20ac\U0001f600"
+        told = ""
+        for character in path:
+            control = character < " " or "\x7f" <= character < "\xa0"
+            told += f"\\u{ord(character):04x}" if control else "\\\\" if character == "\\" else character
+        self.assertFails(f"operation 0 failed at path '{told}': path is invalid", APPLY, "{}", json.dumps([{"op": "remove", "path": path}]))
+        self.assertFails("operation 0 failed at path '/a\\u0000b': value did not match", INVERSE, '{"a\\u0000b":1}', '[{"op":"test","path":"/a\\u0000b","value":2}]')
 
     def test_what_is_no_document_or_patch(self):
         self.assertFails("document is not JSON", APPLY, "{", "[]")
@@ -168,23 +178,34 @@ class Calls(Sql):
         self.assertFails("copied is not a whole number from 0 on", APPLY, "[]", "[]", 1, "1")
         self.assertFails("merge patch nests too deep", MERGE, "[]", "[[]]", 1, 1)
         self.assertFails("goal nests too deep", DIFF, "[]", "[[]]", 1, 1)
+        # 9 bytes and 7 are merged to 17
+        self.assertEqual(self.of(MERGE, '{ "a": 1}', '{"b":2}', 1, 1), '{ "a": 1, "b": 2}')
+        self.assertFails("merge patch is over the limits: it copies too much", MERGE, '{ "a": 1}', '{"b":2}', 1, 0)
+
+    def test_blanks_do_not_multiply(self):
+        """New members beside one with many blanks; an undo that would take them over again and again."""
+        wide, many = "{" + " " * 60_000 + '"a":1}', json.dumps({f"m{number}": 1 for number in range(6_000)}, separators=(",", ":"))
+        self.assertEqual(len(self.of(MERGE, wide, many, 2, 0)), len(wide) + len(many) - 1)
+        old = "{" + " " * 1_000_000 + '"m0":0' + "".join(f',"m{number}":0' for number in range(1, 80)) + "}"
+        new = self.of(APPLY, old, json.dumps([{"op": "remove", "path": f"/m{number}"} for number in range(79, 0, -1)]))
+        self.assertSays(json.loads(old), self.of(APPLY, new, self.of(DIFF, new, old), 124, 79 * 256))
 
     def test_a_stranger_ends_no_process(self):
         """Copies into themselves, doubled again and again, and texts that are only brackets."""
         nest = json.dumps([{"op": "copy", "from": "", "path": "/a" * 2**number} for number in range(12)])
         self.assertFails("operation 6 is over the limits: it nests too deep", APPLY, '{"a":0}', nest)
         double = json.dumps([{"op": "copy", "from": "", "path": f"/{number}"} for number in range(60)])
-        # before the 24th, counted from 0, 33,570,775 are copied, its names among them; it copies 33,570,814
-        self.assertFails("operation 24 is over the limits: it copies too much", INVERSE, "{}", double)
-        # a text of n bytes comes to 2n + 4, and one more for a comma; before the 23rd it has 54,534,138,
-        # with the longer names; twice that is more than 67,108,864, the 2,570 of the patch and 2
-        self.assertFails("operation 23 is over the limits: it copies too much", APPLY, "{}", double)
+        # before the 17th, counted from 0, 262,245 are copied, its names among them; it copies 262,270
+        self.assertFails("operation 17 is over the limits: it copies too much", INVERSE, "{}", double)
+        # a text of n bytes comes to 2n + 4, and one more for a comma; before the 16th it has 426,042,
+        # with the longer names; twice that is more than 500,000, the 2,570 of the patch and 2
+        self.assertFails("operation 16 is over the limits: it copies too much", APPLY, "{}", double)
         self.assertFails("document nests too deep", APPLY, "[" * 1_000_000, "[]")
 
     def test_a_text_larger_than_first_room(self):
         """The patch makes more than the room that is asked for at first."""
         patch = json.dumps([{"op": "copy", "from": "/a", "path": f"/{number}"} for number in range(100)])
-        found = self.of(APPLY, json.dumps({"a": "x" * 10_000}), patch)
+        found = self.of(APPLY, json.dumps({"a": "x" * 10_000}), patch, 124, 2_000_000)
         self.assertSays({"a": "x" * 10_000, **{str(number): "x" * 10_000 for number in range(100)}}, found)
 
 
@@ -330,7 +351,7 @@ class Memory(Sql):
         for limit in range(300_000, 30_000_000, 300_000):
             limit_heap(limit)
             try:
-                run("UPDATE t SET d = json_patch_apply(d, ?)", (patch,))
+                run("UPDATE t SET d = json_patch_apply(d, ?, 124, 10000000)", (patch,))
                 break
             except MemoryError:
                 failed += 1

@@ -146,6 +146,19 @@ class Command(unittest.TestCase):
         self.write("p.json", '[{"op": "test", "path": "/a", "value": 1}]')
         self.assertEnds(1, 'standard input: operation 0: path "/a": TestFailed', "json-patch apply d.json < p.json")
 
+    def test_paths_in_visible_characters(self):
+        """Of those that a JSON text may have, no terminal is sent one that it doesn't show."""
+        path = "/" + "".join(map(chr, range(0xA0))).replace("~", "~0")
+        told = "/" + "".join(f"\\u{n:04x}" for n in range(32)) + json.dumps(path[33:])[1:-1]
+        for short, n in zip("btnfr", (8, 9, 10, 12, 13)):
+            told = told.replace(f"\\u{n:04x}", "\\" + short)
+        self.assertTrue(told.isprintable() and told.isascii())
+        self.write("p.json", json.dumps([{"op": "remove", "path": path}]))
+        self.assertEnds(1, f'p.json: operation 0: path "{told}": InvalidPointer', "json-patch apply d.json p.json")
+        self.assertEnds(1, 'd.json: path "/a\\u007f\\u009b": Nothing', "json-patch get d.json $'/a\\x7f\\u009b'")
+        written, fault, status = self.run_lines("json-patch check $'p.json' $'a\\n\\x7f\\e[m'")
+        self.assertEqual((written, fault, status), ("", "json-patch: unrecognized arguments: a\\n\\x7f\\x1b[m (see json-patch --help)\n", 64))
+
     def test_unreadable(self):
         self.write("bad", "[1.5")
         self.write("half", "[1.5]")
@@ -178,6 +191,11 @@ class Command(unittest.TestCase):
         self.write("m.json", '{"b": {"c": [1]}}')
         self.assertDoes("json-patch merge --limit-depth 3 d.json m.json", '{ "b": {"c": [1]}, "a": "\\u00e9" }')
         self.assertEnds(2, "m.json: TooDeep", "json-patch merge --limit-depth 2 d.json m.json")
+        # 9 bytes and 7 are merged to 17
+        self.write("two.json", '{ "a": 1}')
+        self.write("add.json", '{"b":2}')
+        self.assertDoes("json-patch merge --limit-copies 1 two.json add.json", '{ "a": 1, "b": 2}')
+        self.assertEnds(1, "add.json: TooMuch", "json-patch merge --limit-copies 0 two.json add.json")
         for command in ("apply", "merge"):
             self.assertEnds(2, "d.json: TooDeep", f"json-patch {command} --limit-depth 1 d.json m.json")
 
@@ -214,12 +232,89 @@ class Command(unittest.TestCase):
             self.assertTrue(told.startswith("json-patch"), told)
         self.assertEqual(self.text("d.json"), DOCUMENT)
 
+    def test_results_that_would_stand_over_another(self):
+        """No two results go to one place, and none over what is read: it is refused before all else."""
+        self.write("i.json", "[]")
+        self.write("other", "kept")
+        for link, to in (("linked", "d.json"), ("to-i", "i.json"), ("to-orig", "d.json.orig"), ("to-new", "new")):
+            (self.folder / link).symlink_to(to)
+        os.link(self.folder / "p.json", self.folder / "hard")
+        before = {path.name: path.read_bytes() for path in self.folder.iterdir() if path.exists()}
+        for told, arguments in (
+            ("INVERSE can't be DOCUMENT", "record d.json p.json ./linked"),
+            ("INVERSE can't be DOCUMENT", "record - p.json d.json < d.json"),
+            ("INVERSE can't be DOCUMENT", "record new p.json to-new"),
+            ("INVERSE can't be PATCH", "record -i d.json p.json hard"),
+            ("INVERSE can't be PATCH", "record d.json - p.json < p.json"),
+            ("INVERSE can't be DOCUMENT.orig", "record -ib d.json p.json d.json.orig"),
+            ("INVERSE can't be DOCUMENT.orig", "record -ib linked p.json to-orig"),
+            ("INVERSE can't be standard output", "record d.json p.json /dev/stdout"),
+            ("INVERSE can't be standard output", "record d.json p.json /dev/fd/1 | cat; exit ${PIPESTATUS[0]}"),
+            ("INVERSE can't be standard output", "record d.json p.json to-i >> i.json"),
+            ("INVERSE can't be standard output", "record d.json p.json /dev/fd/3 3>> other 1>&3"),
+            ("DOCUMENT.orig can't be PATCH", "apply -ib d.json to-orig"),
+            ("DOCUMENT.orig can't be PATCH", "merge -ib linked d.json.orig"),
+            ("standard output can't be DOCUMENT", "apply d.json p.json >> d.json"),
+            ("standard output can't be DOCUMENT", "get - /b 1<> d.json < d.json"),
+            ("standard output can't be PATCH", "merge d.json p.json >> hard"),
+            ("standard output can't be FROM", "diff d.json i.json >> linked"),
+            ("standard output can't be TO", "diff d.json - < i.json >> i.json"),
+            ("--in-place needs a file for DOCUMENT", "apply -i /dev/stdin p.json < d.json"),
+            ("--in-place needs a file for DOCUMENT", "apply -i /dev/null p.json"),
+            ("--in-place needs a file for DOCUMENT", "merge -i . p.json"),
+        ):
+            written, fault, status = self.run_lines(f"json-patch {arguments}")
+            self.assertEqual((written, status), ("", 64), (arguments, fault))
+            self.assertTrue(fault.startswith(f"json-patch: {told} (see "), (arguments, fault))
+            self.assertEqual({path.name: path.read_bytes() for path in self.folder.iterdir() if path.exists()}, before, arguments)
+
+    def test_backups_that_can_not_be(self):
+        told = "json-patch: DOCUMENT.orig is there, and isn't a file (see json-patch --help)\n"
+        orig = self.folder / "d.json.orig"
+        for make, gone in ((orig.mkdir, orig.rmdir), (lambda: os.mkfifo(orig), orig.unlink), (lambda: orig.symlink_to("/dev/null"), orig.unlink)):
+            make()
+            self.assertEqual(self.run_lines("json-patch record -ib d.json p.json i"), ("", told, 64))
+            gone()
+        orig.symlink_to("d.json")
+        written, told, status = self.run_lines("json-patch record -ib d.json p.json i")
+        self.assertEqual((written, status, told), ("", 64, "json-patch: DOCUMENT.orig can't be DOCUMENT (see json-patch --help)\n"))
+        self.assertEqual((self.text("d.json"), (self.folder / "i").exists()), (DOCUMENT, False))
+
+    def test_inverses_on_devices_and_pipes(self):
+        """They are written to, as the shell's redirections would: nothing takes their place."""
+        inverse = json.dumps(INVERSE, separators=(",", ":")) + "\n"
+        for place in ("/dev/stdout", "/dev/fd/1", "/proc/self/fd/1"):
+            self.assertDoes(f"json-patch record -i d.json p.json {place} | cat", inverse)
+            self.assertEqual(self.text("d.json"), PATCHED)
+            self.write("d.json", DOCUMENT)
+        self.write("log", "kept\n")
+        self.assertDoes("{ json-patch record -i d.json p.json /dev/stdout; echo end; } >> log; cat log", f"kept\n{inverse}end\n")
+        self.write("d.json", DOCUMENT)
+        self.assertDoes("exec 3> log; json-patch record d.json p.json /dev/fd/3; echo; exec 3>&-; cat log", f"{PATCHED}\n{inverse}")
+        self.assertDoes("mkfifo fifo; cat fifo & json-patch record d.json p.json fifo > made; wait; cat made", inverse + PATCHED)
+        self.assertDoes("json-patch record d.json p.json >(cat > made) | cat; sleep 0.1; cat made", PATCHED + inverse)
+        self.assertDoes("json-patch record d.json p.json /dev/null", PATCHED)
+        self.assertDoes("json-patch record d.json p.json /dev/null > /dev/null")
+        self.assertEnds(4, "/dev/fd/9: Bad file descriptor", "json-patch record d.json p.json /dev/fd/9")
+        self.assertEnds(4, "/dev/stdin: Bad file descriptor", "json-patch record -i d.json p.json /dev/stdin < /dev/null")
+
+    def test_standard_error(self):
+        """Where it is closed or full the status alone tells: no line goes elsewhere."""
+        self.write("p.json", '[{"op": "remove", "path": "/c"}]')
+        for status, arguments in ((1, "apply d.json p.json"), (2, "apply none p.json"), (64, "apply"), (64, "record d.json p.json -")):
+            for where in ("2>&-", "2> /dev/full", "> made 2>&-", "2> /dev/null"):
+                self.assertEqual(self.run_lines(f"json-patch {arguments} {where}"), ("", "", status), (arguments, where))
+                self.assertFalse((self.folder / "made").exists() and self.text("made"))
+
     def test_help(self):
         self.assertDoes("json-patch --version", f"json-patch {json_patch.__version__}\n")
         written, told, status = self.run_lines("json-patch --help && json-patch apply --help && COLUMNS=40 json-patch -h")
         self.assertEqual((told, status), ("", 0))
         for word in ("apply", "merge", "record", "get", "check", "--in-place", "--backup", "--indent", "--limit-depth", "--limit-copies", "exit status"):
             self.assertIn(word, written)
+        for arguments in ("--help", "--version", "apply --help"):
+            self.assertEnds(4, "standard output: No space left on device", f"json-patch {arguments} > /dev/full")
+            self.assertEnds(4, "standard output: Bad file descriptor", f"json-patch {arguments} >&-")
 
     def test_memory(self):
         self.write("d.json", "[1]")

@@ -55,6 +55,29 @@ class Differences(unittest.TestCase):
         self.assertEqual(list(self.assertLeads({}, {"b": 1, "a": {"c": None}})), [{"op": "replace", "path": "", "value": {"b": 1, "a": {"c": None}}}])
         self.assertEqual(list(self.assertLeads({"é": [0]}, {"é": [0]})), [])
 
+    def test_pairs_of_a_whole_call(self):
+        """Of all arrays together 16,777,216 pairs of items are looked at, and then an item stays if it is one
+        of the next eight. The second array has 21 * 12 pairs: by these 9 items are removed and 2 replaced. Its
+        rows stand 9 items further, so that else they would be replaced, too, and the whole is shorter."""
+        rows = [f"{number} {STAYS * 2}" for number in range(10)]
+        old, new = ["x", *range(9), *rows, "y"], ["z", *rows, "w"]
+
+        def made(olds, news, beside, parent):
+            src, dst = beside(list(range(olds)), old), beside(list(range(-news, 0)), new)
+            patch = make_patch(src, dst)
+            self.assertEqual(text_of(patch.apply(src)), text_of(dst))
+            return sorted(change["op"] for change in patch if change["path"].startswith(parent + "/"))
+
+        for beside, parent, most in (
+            (lambda *pair: {"a": pair[0], "b": pair[1], "c": STAYS * 9}, "/b", (4096, 4096)),
+            (lambda *pair: {"a": pair[0], "b": pair[1], "c": STAYS * 9}, "/b", (2048, 8192)),
+            # the outer arrays differ in two items, and have four pairs
+            (lambda *pair: [*pair, STAYS * 9], "/1", (4094, 4098)),
+            (lambda *pair: {"a": [[pair[0]], pair[1], STAYS * 9]}, "/a/1", (4094, 4098)),
+        ):
+            self.assertEqual(made(*most, beside, parent), [], parent)
+            self.assertEqual(made(most[0], most[1] - 1, beside, parent), ["remove"] * 9 + ["replace"] * 2, parent)
+
     def test_parameters(self):
         """The library compares, and writes the paths, whatever the functions of the caller."""
         def unasked(*_):

@@ -6,7 +6,7 @@ from pathlib import Path
 
 from json_patch import (
     InvalidJsonPatch, JsonPatch, JsonPatchConflict, JsonPatchException, JsonPatchTestFailed, JsonPointerException, Limits, OverLimit,
-    TooDeep, apply_text, merge_text, resolve_text,
+    TooDeep, apply_text, make_patch, merge_text, resolve_text,
 )
 from support import nested, on_each_stack
 
@@ -140,6 +140,27 @@ class Texts(unittest.TestCase):
             with self.assertRaises(JsonPatchException) as caught:
                 merge_text(text, patch, limits=Limits(depth=1))
             self.assertEqual((caught.exception.kind, isinstance(caught.exception, InvalidJsonPatch)), (kind, patch != {}))
+
+    def test_merges_within(self):
+        """A merge leaves at most the bytes of both texts and so many more; many blanks aren't taken over."""
+        wide, many = "{" + " " * 60_000 + '"a":1}', {f"m{number}": 1 for number in range(6_000)}
+        made = merge_text(wide, many, limits=Limits(copied=0))
+        self.assertEqual(made, wide[:-1] + "," + json.dumps(many, separators=(",", ":"))[1:])
+        self.assertEqual(merge_text('{ "a": 1}', {"b": 2}, limits=Limits(copied=1)), '{ "a": 1, "b": 2}')
+        with self.assertRaises(OverLimit) as caught:
+            merge_text('{ "a": 1}', {"b": 2}, limits=Limits(copied=0))
+        error = caught.exception
+        self.assertEqual((error.operation, error.kind, error.path), (None, "TooMuch", None))
+        self.assertEqual(str(error), "the merge is over the limits: TooMuch")
+
+    def test_differences_of_texts(self):
+        """A patch that leads from one document to another is over no limits whose `copied` is 256 for each operation."""
+        for blanks in (0, 60, 128, 129, 5_000):
+            new = "{" + " " * blanks + '"m0"' + " " * blanks + ": [" + " " * blanks + "1]}"
+            wanted = {"m0": [0, 1, 2], **{f"m{number}": 0 for number in range(1, 80)}}
+            patch = make_patch(json.loads(new), wanted)
+            made = apply_text(new, patch, limits=Limits(copied=256 * len(patch.patch)))
+            self.assertEqual(json.loads(made), wanted)
 
     def test_values(self):
         text = '{ "a" : [ 1.50, "\\u00e9" ], "" : {"m/n" : 1e400, "~": [ ]}, "a\\u002fb":{"x":1,"x":2} }'

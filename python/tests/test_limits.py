@@ -15,6 +15,9 @@ from json_patch.limits import MOST_COPIED, MOST_LEVELS
 from support import C, nested
 
 COPY = {"op": "copy", "from": "/a", "path": "/b"}
+MOVE, BACK = {"op": "move", "from": "/a", "path": "/b"}, {"op": "move", "from": "/b", "path": "/a"}
+# those of each_call
+NAMES = ("apply", "record", "apply in place", "apply", "record", "apply", "record")
 
 
 def each_call(document, patch, limits):
@@ -65,9 +68,27 @@ class Within(unittest.TestCase):
         self.assertOver(document, [COPY], Limits(copied=3), 0, "TooMuch")
         self.assertOver(document, [COPY] * 3, Limits(copied=8), 2, "TooMuch")
         self.assertMakes(document, [COPY] * 3, Limits(copied=2**100), {"a": "cde", "b": "cde"})
-        many = {"a": "x" * 65_535}
-        self.assertMakes(many, [COPY] * 1024, Limits(), {**many, "b": many["a"]})
-        self.assertOver(many, [COPY] * 1025, Limits(), 1024, "TooMuch")
+        many = {"a": "x" * 499}
+        self.assertMakes(many, [COPY] * 1000, Limits(), {**many, "b": many["a"]})
+        self.assertOver(many, [COPY] * 1001, Limits(), 1000, "TooMuch")
+
+    def test_moves_count_where_they_are_recorded(self):
+        """The inverse of each holds the value that it moves."""
+        document, moves = {"a": "cde"}, [MOVE, BACK]
+        self.assertMakes(document, moves, Limits(copied=8), document)
+        for name, call in zip(NAMES, each_call(document, moves, Limits(copied=7))):
+            if "record" not in name:
+                self.assertEqual(call(), document)
+                continue
+            with self.assertRaises(OverLimit) as caught:
+                call()
+            self.assertEqual((caught.exception.operation, caught.exception.kind), (1, "TooMuch"))
+        many = {"a": "x" * 4_999}
+        self.assertEqual(len(record_patch(many, moves * 50)[1]), 200)
+        self.assertEqual(apply_patch(many, moves * 51), many)
+        with self.assertRaises(OverLimit) as caught:
+            record_patch(many, moves * 51)
+        self.assertEqual(caught.exception.operation, 100)
 
     def test_copies_of_a_kept_document_count_for_each_patch(self):
         with Document({"a": "cde"}, limits=Limits(copied=4)) as kept:

@@ -4,8 +4,9 @@ import resource
 import unittest
 
 from json_patch import (
-    Document, InvalidJsonPatch, JsonPatch, JsonPatchConflict, JsonPatchException, JsonPatchTestFailed,
-    JsonPointerException, NumberNotWhole, apply_patch, merge_patch, record_patch,
+    Document, InvalidJsonPatch, JsonPatch, JsonPatchConflict, JsonPatchException, JsonPatchTestFailed, JsonPointer,
+    JsonPointerException, Limits, NumberNotWhole, apply_patch, apply_text, merge_patch, record_patch, resolve_pointer,
+    resolve_text,
 )
 from support import NOT_WHOLE, PAST_FLOATS, nested
 
@@ -85,7 +86,7 @@ class Patches(unittest.TestCase):
         try:
             self.assertEqual(len(JsonPatch(doubled)), 65)
             with self.assertRaises(MemoryError):
-                apply_patch(None, doubled)
+                apply_patch(None, doubled, limits=Limits(copied=2**26))
         finally:
             resource.setrlimit(resource.RLIMIT_AS, limits)
 
@@ -123,6 +124,21 @@ class Patches(unittest.TestCase):
         with self.assertRaises(JsonPatchConflict) as caught:
             apply_patch({}, [{"op": "remove", "path": path}])
         self.assertEqual(caught.exception.path, path)
+
+    def test_paths_in_visible_characters(self):
+        """What a message shows is printable; the exception's path is as it stands."""
+        path = "/" + "".join(map(chr, range(0x100))).replace("~", "~0").replace("/", "~1") + "\u2028\ufeff"
+        operation, nested_once = {"op": "remove", "path": path}, [{"op": "add", "path": path, "value": [[]]}]
+        for call in (
+            lambda: apply_patch({}, [operation]), lambda: apply_text("{}", [operation]), lambda: Document({}).record([operation]),
+            lambda: apply_patch({}, nested_once, limits=Limits(depth=1)), lambda: resolve_text("{}", path), lambda: Document({}).get(path),
+            lambda: resolve_pointer({}, path), lambda: JsonPointer(path + "~"),
+        ):
+            with self.assertRaises((JsonPatchException, JsonPointerException)) as caught:
+                call()
+            self.assertTrue(str(caught.exception).isprintable(), caught.exception)
+            self.assertIn("/\\x00\\x01", str(caught.exception))
+            self.assertEqual(caught.exception.path.rstrip("~"), path)
 
     def test_as_a_list(self):
         patch = JsonPatch([{"op": "remove", "path": "/a"}])

@@ -1,15 +1,14 @@
 -- A check of a text against the grammar, a lexeme at a time.
-use Rattle.std.proofs.Common.{◌≡◌, ℕ, zero, suc, ◌+◌, ◌-◌, ◌<◌, ◌≤◌, Bool, true, false, cond, List, [], ◌∷◌, ◌++◌, length, drop, get_or, set, inl, inr, ◌⊎◌, ◌==◌, refl, sym, ap, ap₂, ◌∙◌, subst, arith, append_assoc, append-nil}
+use Rattle.std.proofs.Common.{◌≡◌, ℕ, zero, suc, ◌+◌, ◌-◌, ◌<◌, ◌≤◌, Bool, true, false, cond, List, ◌∷◌, ◌++◌, length, drop, get_or, set, inl, inr, ◌⊎◌, ◌==◌, refl, sym, ap, ap₂, ◌∙◌, subst, arith, append_assoc}
 use Rattle.std.specs.Prelude.{Option, Some, None, IfSome, nat_lt}
 use Rattle.std.proofs.lemmas.Bool.{false≢true, cases_lt, lt-ltb, le-ltb}
 use Rattle.std.proofs.lemmas.List.{get_or-set_other, get_or-set_same}
-use Rattle.json.specs.Json.{Json, array, object, no_items, item, no_members, member}
+use Rattle.json.specs.Json.{array, object, no_items, item, no_members, member}
 use Rattle.json.specs.Token as tokens
 use Rattle.json.specs.Lex.{Lexeme, token, comma, colon, in_string, lex, operator_lexeme}
 use Rattle.json.specs.Word.{is_operator}
-use Rattle.json.specs.Tree.{depth}
 use Rattle.json_lexemes.specs.Places.{left_at}
-use Rattle.json_lexemes.specs.Spelled.{spelled, more_items, more_members, Says}
+use Rattle.json_lexemes.specs.Spelled.{spelled, more_items, more_members}
 use Rattle.json_lexemes.specs.Grammar.{HasContent, Spells, Named, Opens, Continues, opening, closing, Completes, Begins, innermost}
 use Rattle.json_lexemes.proofs.Steps.{operator_left}
 use Rattle.json_lexemes.proofs.Ended.{here, string_spells}
@@ -50,9 +49,6 @@ continues_completes t n false os i k (ls, e, f) (j, rest, g, d, (after, (js, h, 
 pub closing_completes : (t : List ℕ) (n : ℕ) (o : Bool) (os : List Bool) (i k : ℕ) → left_at t i ≡ closing o ∷ left_at t k → Completes (suc n) os (left_at t k) → Completes n (o ∷ os) (left_at t i)
 closing_completes t n true os i k e c = (left_at t k, (no_members, e, omega arith), c)
 closing_completes t n false os i k e c = (left_at t k, (no_items, e, omega arith), c)
-
-pub begins_says : (t : List ℕ) (n levels i : ℕ) → n ≤ levels → left_at t i ≡ left_at t 0 → Begins n [] (left_at t i) → (j : Json) × Says t j × (depth j ≤ levels)
-begins_says t n levels i h e (j, rest, g, d, c) = (j, sym e ∙ g ∙ ap (λ l. spelled j ++ l) c ∙ append-nil (spelled j), omega (arith, d, h))
 
 -- ---- a value without values
 

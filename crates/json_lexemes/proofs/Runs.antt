@@ -106,12 +106,6 @@ goes_on_next t from k h =
     let same : k + 1 - 1 ≡ k = omega arith in
     ap₂ (λ b i. b && is_of_word (get_or t i 0)) (lt-ltb from (k + 1) (omega arith)) same
 
-pub run_begins : (t : List ℕ) (from : ℕ) → InRun t from from
-run_begins t from = record {
-  passes = passes_same _ _ (ap (λ b. lex (mode_of b) (drop from t)) (sym (goes_on_here t from)));
-  mode = λ e. inl refl;
-}
-
 -- a mode in which a flat byte is met
 mode_here : (t : List ℕ) (from k : ℕ) → k < length t → IsEnd t from → (k ≡ from) ⊎ (mode_at t k ≡ run_mode t from k) → (b : Bool) × (mode_at t k ≡ mode_of b)
 mode_here t from k h e (inr m) = (goes_on t from k, m)

@@ -1,5 +1,5 @@
 -- The lexer, a byte at a time.
-use Rattle.std.proofs.Common.{◌≡◌, ℕ, zero, suc, ◌+◌, ◌-◌, ◌<◌, ◌≤◌, Bool, true, false, cond, ◌&&◌, ◌||◌, ◌==◌, List, [], ◌∷◌, ◌++◌, length, take, drop, get_or, inl, inr, ◌⊎◌, refl, sym, ap, ap₂, ◌∙◌, subst, arith}
+use Rattle.std.proofs.Common.{◌≡◌, ℕ, suc, ◌+◌, ◌-◌, ◌<◌, ◌≤◌, Bool, true, false, cond, ◌&&◌, ◌||◌, ◌==◌, List, [], ◌∷◌, ◌++◌, length, take, drop, get_or, inl, inr, ◌⊎◌, refl, sym, ap, ap₂, ◌∙◌, subst, arith}
 use Rattle.std.proofs.lemmas.List.{drop_all}
 use Rattle.json.proofs.Printed.Numbers.{in_word-ended}
 use Rattle.std.proofs.Math.Seq.{drop-cons, take-suc}
@@ -332,15 +332,6 @@ operator_has_end t i h o e =
 pub no_space_before : (t : List ℕ) (i k : ℕ) → (k ≡ i + 1) ⊎ (is_space (get_or t (k - 1) 0) ≡ false) → is_space (get_or t i 0) ≡ false → is_space (get_or t (k - 1) 0) ≡ false
 no_space_before t i k (inl e) s = let same : k - 1 ≡ i = omega (arith, e) in ap (λ n. is_space (get_or t n 0)) same ∙ s
 no_space_before t i k (inr n) s = n
-
--- where no bracket is open any more
-pub closed_now : (n : ℕ) (ls : List Lexeme) → n ≡ 0 → if_open n ls (skip n ls) ≡ ls
-closed_now zero ls e = refl
-closed_now (suc n) ls e = let never : ⊥ = omega arith in absurd never
-
-pub open_still : (n : ℕ) (ls : List Lexeme) → (n ≡ 0 → ⊥) → if_open n ls (skip n ls) ≡ skip n ls
-open_still zero ls e = absurd (e refl)
-open_still (suc n) ls e = refl
 
 pub skip_nothing : (n m : ℕ) (t : List ℕ) (i : ℕ) → length t ≤ i → left_at t i ≡ skip n (left_at t i)
 unfolding lex skip

@@ -127,8 +127,8 @@ fn past_closing(text: &[u8], from: usize, objects: &[bool], depth: usize) -> Opt
     Some((i, nested))
 }
 
-/// Whether the text is JSON (RFC 8259) and opens at most `levels` objects and arrays at once, 128 at the
-/// most: `[[1], 2]` is within 2 levels, and not within 1.
+/// Whether the text is JSON (RFC 8259), with no unpaired surrogate such as `"\ud800"`, and opens at most
+/// `levels` objects and arrays at once, 128 at the most: `[[1], 2]` is within 2 levels, and not within 1.
 ///
 /// `true` is proved to mean this; `false` isn't proved to mean the opposite. It is meant to come for a text
 /// that isn't JSON and for one that opens more, so a caller may ask a slower check before it refuses one.

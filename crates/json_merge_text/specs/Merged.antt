@@ -1,5 +1,5 @@
 -- A JSON text into which the text of a merge patch is merged in place (RFC 7396).
-use Rattle.std.specs.Prelude.{ℕ, List, [], ⊤}
+use Rattle.std.specs.Prelude.{◌<◌, ◌+◌, ℕ, List, [], length, ⊤}
 use Rattle.json.specs.Json.{Json}
 use Rattle.json_merge_text.specs.Merging.{IsChanged, MergesInto}
 use Rattle.json_merge_text.specs.declared.fault.MergeTextFault.{MergeTextFault}
@@ -25,6 +25,16 @@ IsMergedText text patch new = (i : Json) × (p : Json) × Says text i × Says pa
 -- what the text says is as it is with what the patch says merged into it
 abbrev pub IsMergedAlready : List ℕ → List ℕ → Type 0
 IsMergedAlready text patch = SaysMerged text patch text
+
+-- ---- how long the new text may be
+
+-- as long as both texts together, and so many bytes more
+abbrev pub most_bytes : ℕ → List ℕ → List ℕ → ℕ
+most_bytes copied text patch = length text + (length patch + copied)
+
+-- the merge would leave a text that is longer
+abbrev pub IsMergeOver : ℕ → List ℕ → List ℕ → Type 0
+IsMergeOver copied text patch = (new : List ℕ) × IsMergedText text patch new × (most_bytes copied text patch < length new)
 
 -- why nothing is merged into the text
 abbrev pub IsMergeTextFault : List ℕ → List ℕ → MergeTextFault → Type 0

@@ -1,4 +1,5 @@
-//! A JSON text into which a merge patch is merged in place (RFC 7396): [`merge_text`].
+//! A JSON text into which a merge patch is merged in place (RFC 7396): [`merge_text`], and
+//! [`merge_text_within`], which keeps to a limit on the new text's bytes.
 //!
 //! Every byte that the merge doesn't change is kept: blanks, the order of members, `1.50` and `"\u0061"`
 //! as they are written. What the text says is a document under each reading of the numbers that
@@ -11,4 +12,4 @@ mod texts;
 mod whole;
 
 pub use fault::MergeTextFault;
-pub use whole::merge_text;
+pub use whole::{merge_text, merge_text_within};

@@ -1,14 +1,15 @@
 //! A JSON text into which the text of a merge patch is merged (RFC 7396).
 
-ghost use Rattle.std.specs.Prelude.{◌≡◌, ◌≤◌, [], IfErr, IfOk, max};
+ghost use Rattle.std.specs.Prelude.{◌≡◌, ◌≤◌, [], IfErr, IfNone, IfOk, IfSome, length, max};
 ghost use Rattle.std.specs.String.{string_bytes};
 ghost use Rattle.json.specs.Json.{Json};
 ghost use Rattle.json.specs.declared.error.Error.TheVariants as Error;
-ghost use Rattle.json_merge_text.specs.Merged.{IsMergeTextFault, IsMergedAlready, IsMergedText, SaysMerged};
+ghost use Rattle.json_merge_text.specs.Merged.{IsMergeOver, IsMergeTextFault, IsMergedAlready, IsMergedText, SaysMerged, most_bytes};
 ghost use Rattle.json_merge_text.specs.Merging.{IsChanged, MergesInto};
-ghost use Rattle.json_merge_text.specs.Steps.{as_document, as_patch};
+ghost use Rattle.json_merge_text.specs.Steps.{AreTexts, as_document, as_patch};
 ghost use Rattle.json_lexemes.specs.Skipped.{nesting};
 ghost use Rattle.json_lexemes.specs.Spelled.{IsShallowText};
+ghost use Rattle.json_pieces.specs.Whole.{text_of};
 ghost use Rattle.json_text.specs.Checked.{text_in};
 
 use crate::fault::MergeTextFault;
@@ -53,11 +54,16 @@ fn parse_failure(error: Error) -> AllocError
     }
 }
 
-/// The text with the patch merged in.
-fn merged(alloc: Global, text: CheckedText, patch: CheckedText) -> Result<String, AllocError>
-    ensures { IfOk result (λ new. (i p : Json) → IsShallowText (text_in text.entry) i
+/// Both texts in pieces, with the patch merged into the document's.
+fn merged<'a>(
+    alloc: Global,
+    text: CheckedText<'a>,
+    patch: CheckedText<'a>,
+) -> Result<Texts<'a>, AllocError>
+    ensures texts { IfOk result AreTexts }
+    ensures changed { IfOk result (λ new. (i p : Json) → IsShallowText (text_in text.entry) i
         → IsShallowText (text_in patch.entry) p
-        → IsChanged (text_in text.entry) (string_bytes new) (MergesInto (text_in patch.entry) [] i p)) }
+        → IsChanged (text_in text.entry) (text_of new.document) (MergesInto (text_in patch.entry) [] i p)) }
 {
     let mut scratch = Scratch::new(alloc);
     let change = match Value::parse(alloc, patch.as_str(), &mut scratch) {
@@ -67,7 +73,28 @@ fn merged(alloc: Global, text: CheckedText, patch: CheckedText) -> Result<String
     let here = Shape::of(text.as_str());
     let mut texts = Texts::new(text, patch);
     merge_into(alloc, &mut texts, &PointerBuf::new(), here, &change)?;
-    texts.document.to_text(alloc)
+    Ok(texts)
+}
+
+/// The same, of texts that are checked first.
+fn checked_and_merged<'a>(
+    alloc: Global,
+    text: &'a str,
+    patch: &'a str,
+) -> Result<Texts<'a>, MergeTextFault>
+    ensures texts { IfOk result AreTexts }
+    ensures merged { IfOk result (λ new. IsMergedText text.now patch.now (text_of new.document)) }
+    ensures fault { IfErr result (IsMergeTextFault text.now patch.now) }
+{
+    let text = match CheckedText::new(alloc, text) {
+        Ok(text) => text,
+        Err(fault) => return Err(document_fault(fault)),
+    };
+    let patch = match CheckedText::new(alloc, patch) {
+        Ok(patch) => patch,
+        Err(fault) => return Err(patch_fault(fault)),
+    };
+    Ok(merged(alloc, text, patch)?)
 }
 
 /// The text with the merge patch merged in, and every byte kept that the merge doesn't change.
@@ -75,10 +102,11 @@ fn merged(alloc: Global, text: CheckedText, patch: CheckedText) -> Result<String
 /// A member of the patch that is null removes the text's member of that name, an object is merged into
 /// an object member by member, and any other value is put in as it is written in the patch, unless the
 /// same stands there. An object that is put in loses its null members. What goes with a new member
-/// follows the style of the one before it. Numbers are compared by their value, exactly.
+/// follows the style of the one before it, as `json_text::add` says. Numbers are compared by their
+/// value, exactly.
 ///
-/// A text that isn't JSON, or that nests deeper than 128 levels, is refused, the document's before the
-/// patch's. No change is refused.
+/// A text that isn't JSON, or has an unpaired surrogate, or nests deeper than 128 levels, is refused, the
+/// document's before the patch's. No change is refused.
 ///
 /// ```rust
 /// let text = "{\n  \"title\": \"Hello!\",\n  \"price\": 1.50\n}\n";
@@ -100,13 +128,41 @@ pub fn merge_text(alloc: Global, text: &str, patch: &str) -> Result<String, Merg
     // Why there is none.
     ensures fault { IfErr result (IsMergeTextFault text.now patch.now) }
 {
-    let text = match CheckedText::new(alloc, text) {
-        Ok(text) => text,
-        Err(fault) => return Err(document_fault(fault)),
-    };
-    let patch = match CheckedText::new(alloc, patch) {
-        Ok(patch) => patch,
-        Err(fault) => return Err(patch_fault(fault)),
-    };
-    Ok(merged(alloc, text, patch)?)
+    let texts = checked_and_merged(alloc, text, patch)?;
+    Ok(texts.document.to_text(alloc)?)
+}
+
+/// The same, if the new text has at most as many bytes as the document's, the patch's and `copied`
+/// together; else `None`, and no text is made.
+///
+/// ```rust
+/// let new = merge_text_within(alloc, r#"{ "a": 1}"#, r#"{"b":2}"#, 1)?;
+/// // { "a": 1, "b": 2}
+/// ```
+pub fn merge_text_within(
+    alloc: Global,
+    text: &str,
+    patch: &str,
+    copied: usize,
+) -> Result<Option<String>, MergeTextFault>
+    // The text, as `merge_text` leaves it.
+    ensures merged { IfOk result (λ found. IfSome found (λ new. SaysMerged text.now patch.now (string_bytes new))) }
+    ensures unchanged { IfOk result (λ found. IfSome found (λ new. IsMergedAlready text.now patch.now
+        → string_bytes new ≡ text.now)) }
+    ensures depth { IfOk result (λ found. IfSome found (λ new.
+        nesting (string_bytes new) ≤ max (nesting text.now) (nesting patch.now))) }
+    ensures kept { IfOk result (λ found. IfSome found (λ new. IsMergedText text.now patch.now (string_bytes new))) }
+    // How long it is at the most, and that else it would be longer.
+    ensures small { IfOk result (λ found. IfSome found (λ new.
+        length (string_bytes new) ≤ most_bytes copied text.now patch.now)) }
+    ensures over { IfOk result (λ found. IfNone found (IsMergeOver copied text.now patch.now)) }
+    // Why there is none.
+    ensures fault { IfErr result (IsMergeTextFault text.now patch.now) }
+{
+    let texts = checked_and_merged(alloc, text, patch)?;
+    let more = texts.document.len().saturating_sub(text.len());
+    if more.saturating_sub(patch.len()) > copied {
+        return Ok(None);
+    }
+    Ok(Some(texts.document.to_text(alloc)?))
 }

@@ -1,5 +1,5 @@
 -- The digits of a number, from the last on.
-use Rattle.std.proofs.Common.{◌≡◌, ℕ, ◌+◌, ◌-◌, ◌*◌, ◌%◌, ◌/◌, ◌<◌, ◌≤◌, ◌==◌, true, false, List, ◌++◌, length, get_or, refl, sym, ap, ◌∙◌, inl, inr, arith, subst, length-append}
+use Rattle.std.proofs.Common.{◌≡◌, ℕ, ◌+◌, ◌-◌, ◌*◌, ◌%◌, ◌/◌, ◌<◌, ◌≤◌, ◌==◌, false, List, ◌++◌, length, get_or, sym, ap, ◌∙◌, inl, inr, arith, subst, length-append}
 use Rattle.std.proofs.lemmas.Bool.{cases_Bool}
 use Rattle.std.proofs.lemmas.Bool.Decides.{Decides-eqb, Decides-like, same_from_decides}
 use Rattle.std.proofs.lemmas.List.{take-append-le, get_or-append-add}
@@ -27,9 +27,6 @@ front_step ds i all l =
     let d = get_or ds (length ds - 1 - i) 0 in
     let e : digit_value d ≡ d - 48 = omega (arith, digit_value_digit d (in_digits ds i all l)) in
     front_digit ds i l ∙ ap (λ n. front ds (i + 1) * 10 + n) e
-
-pub front_past : (ds : List ℕ) (i : ℕ) → length ds ≤ i → front ds i ≡ 0
-front_past ds i h = let e : length ds - i ≡ 0 = omega arith in rw e refl
 
 pub front_all : (ds : List ℕ) → front ds 0 ≡ digits_value 10 ds
 front_all ds = let e : length ds - 0 ≡ length ds = omega arith in rw e (ap (digits_value 10) (take-length ds))
@@ -59,15 +56,6 @@ same_tests u v x y f g = same_from_decides (u == v) (x == y) (Decides-eqb u v) (
 pub false_test : (u v : ℕ) → (u ≡ v → ⊥) → (u == v) ≡ false
 false_test u v f = elim (cases_Bool (u == v)) [ inl e ↦ absurd (f ((Decides-eqb u v).0 e)) | inr e ↦ e ]
 
-pub true_test : (u v : ℕ) → u ≡ v → (u == v) ≡ true
-true_test u v e = (Decides-eqb u v).1 e
-
-pub same_digit : (u v x y d e : ℕ) → u ≡ x * 10 + d → v ≡ y * 10 + e → d ≡ e → (u == v) ≡ (x == y)
-same_digit u v x y d e p q s = same_tests u v x y (λ h. omega arith) (λ h. omega arith)
-
-pub other_digit : (u v x y d e : ℕ) → u ≡ x * 10 + d → v ≡ y * 10 + e → d < 10 → e < 10 → (d ≡ e → ⊥) → (u == v) ≡ false
-other_digit u v x y d e p q a b s = false_test u v (λ h. s (omega arith))
-
 -- ---- sums with what is carried
 
 pub carried : (a b c d p q r s : ℕ) (i j k l m n : ℕ)
@@ -76,9 +64,3 @@ pub carried : (a b c d p q r s : ℕ) (i j k l m n : ℕ)
     → (a + b + m == c + d + n) ≡ (p + q + (m + (i + j)) / 10 == r + s + (n + (k + l)) / 10)
 carried a b c d p q r s i j k l m n ea eb ec ed h =
     same_tests _ _ _ _ (λ e. omega arith) (λ e. omega arith)
-
-pub uncarried : (a b c d p q r s : ℕ) (i j k l m n : ℕ)
-    → a ≡ p * 10 + i → b ≡ q * 10 + j → c ≡ r * 10 + k → d ≡ s * 10 + l
-    → ((m + (i + j)) % 10 ≡ (n + (k + l)) % 10 → ⊥)
-    → (a + b + m == c + d + n) ≡ false
-uncarried a b c d p q r s i j k l m n ea eb ec ed h = false_test _ _ (λ e. h (omega arith))

@@ -100,7 +100,7 @@ pub blocks_pushed : (log : List Change) (c : Change) → kept_blocks (log ++ c �
 blocks_pushed [] c = search rules
 blocks_pushed (b ∷ log) c = ap (λ x. x ++ kept_block b.kept b.found (view b.value)) (blocks_pushed log c) ∙ append_assoc (kept_block c.kept c.found (view c.value)) (kept_blocks log) (kept_block b.kept b.found (view b.value))
 
--- a log that is the old one, where the document is
+-- the changes of the log and the document are the old ones
 pub logs_none : (olds news : Log) (d e : Data) → room olds.names ≤ room news.names → news.changes.items ≡ olds.changes.items → e ≡ d → Logs olds news d e
 logs_none olds news d e grows same is = record {
   tells = record {

@@ -35,7 +35,7 @@ kept_open Undo kept false empty is some undone none = let e : Undo ≡ Neither =
 pub kept_last : (keep kept : Keep) (last empty : Bool) → kept ≡ kept_at keep last empty → keep ≡ Undo → last ≡ true → empty ≡ true → kept ≡ Neither
 kept_last keep kept last empty is undo so none = is ∙ rw (undo, so, none) refl
 
--- what nothing is kept of comes first
+-- where nothing is kept of an operation, the log is empty
 pub kept_alone : (keep kept : Keep) (last empty : Bool) → kept ≡ kept_at keep last empty → (keep ≡ Neither → ⊥) → kept ≡ Neither → empty ≡ true
 kept_alone Neither kept last empty is some none = absurd (some refl)
 kept_alone Inverse kept last empty is some none = let e : Inverse ≡ Neither = sym is ∙ none in cc

@@ -71,7 +71,7 @@ reported_names U out fault d m new os k o hd hv less is h s r = search (rules, r
 
 -- ---- the inverse of a run
 
--- a list up to the item at k, and that item
+-- a list up to the operation at k, and that operation
 pub take_at : (os : List PatchOperation) (k : ℕ) (o : PatchOperation) → k < length os → IsAt os k o → take (suc k) (operations os) ≡ take k (operations os) ++ operation_of o ∷ []
 take_at (x ∷ os) (suc k) o less is = ap (λ ops. operation_of x ∷ ops) (take_at os k o (omega arith) is)
 take_at os k o less is = search rules

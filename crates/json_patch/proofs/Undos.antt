@@ -18,7 +18,7 @@ settled_next o n h = search rules
 place_in : (d : Data) (F : Pointer) (t : List ℕ) (P : Pointer) (o : Option Data) → P ≡ F ++ t ∷ [] → path_of (undo_in d F t P o) ≡ F ++ settled_token o t ∷ []
 place_in d F t P o is = search rules
 
--- the last token is settled by what stands before it
+-- the last token is settled by what stands where the tokens before it lead
 place_settled : (d : Data) (P F : Pointer) (t : List ℕ) → P ≡ F ++ t ∷ [] → path_of (undo_add d P) ≡ F ++ settled_token (pointee d F) t ∷ []
 place_settled d P F t is = search (rules, no_last, split_is, place_in, split_whole)
 

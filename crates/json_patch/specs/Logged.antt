@@ -27,7 +27,7 @@ use Rattle.json_patch.specs.declared.log.Log.{Log}
 
 -- ---- what undoes a change
 
--- the value that comes out of P of q goes back to F, which leaves p
+-- the value that is taken out of q at P goes back to F in r, which leaves p
 abbrev pub GoesBack : Option PointerOf → Found → Data → Pointer → Data → Data → Type 0
 GoesBack None found q P r p = r ≡ p
 GoesBack (Some F) found q P r p = IsMarked r × ((f : Found) (w : Data) → FindsWhere (Undo found) q P f w → made_where (Undo Taken) w r (tokens_of F) ≡ Some p)
@@ -78,11 +78,12 @@ abbrev pub held : List Change → ℕ
 held [] = 0
 held (c ∷ log) = found_marks c.found (view c.value) + held log
 
--- of the marks that the log's new end left and found, those that d had are left in e
+-- the marks in e, and in what the new changes found, are at most those in d and those that these changes left
 abbrev pub Counts : Log → Log → Data → Data → Type 0
 Counts olds news d e = marks e + held news.changes.items + takes olds.changes.items ≤ marks d + held olds.changes.items + takes news.changes.items
 
--- what clearing needs to know of a change of d to e, or of an attempt at it: how many marks there are, and that the names of their places take no memory
+-- what clearing needs to know of a change of d to e, or of an attempt at it: how many marks there are, and
+-- that the names of their places take no memory
 pub record Tells (olds news : Log) (d e : Data) : Type 0 where
   pub roomy : AreRoomy (room olds.names) olds.changes.items → AreRoomy (room news.names) news.changes.items
   pub counts : Counts olds news d e
@@ -134,13 +135,13 @@ IsKeptBack None v None = Unit {0}
 IsKeptBack (Some F) v (Some x) = (x.0 ≡ tokens_of F) × (view x.1 ≡ seen v)
 IsKeptBack F v x = ⊥
 
--- what is kept of an edit that is undone at P, with v, which was taken from F if it was
+-- what is kept of an edit that is undone at P, and of its value v, where that was taken from a pointer F
 abbrev pub IsKept : Keep → Pointer → Option PointerOf → Data → Option Kept → Type 0
 IsKept Inverse P F v None = ⊥
 IsKept Inverse P F v (Some k) = (k.place ≡ P) × IsKeptBack F v k.back
 IsKept keep P F v k = k ≡ None
 
--- the change is the log's new end: at P, with what was taken from F if it was
+-- the change is the log's new end: it is at P, with what was taken from F, if there is one
 pub record IsEnd (P : PointerOf) (F : Option PointerOf) (olds news : Log) (c : Change) : Type 0 where
   pub ends : news.changes.items ≡ olds.changes.items ++ c ∷ []
   pub at : c.path ≡ P
@@ -162,6 +163,12 @@ pub record IsTakenFrom (d m : Data) (F P : Pointer) (v : Data) : Type 0 where
   pub finds : FindsWhere Take d F Taken v
 
 -- ---- what isn't undone
+
+-- whether the run is recorded
+abbrev pub is_recorded : Keep → Bool
+is_recorded Inverse = true
+is_recorded undo_alone = false
+is_recorded Neither = false
 
 -- what is kept of an operation, unless the inverse is: nothing of the last one, where the log is empty
 abbrev pub kept_at : Keep → Bool → Bool → Keep

@@ -26,7 +26,7 @@ use serde_json::Value;
 const MOST_FOLLOWED: usize = 1_000;
 
 /// Takes out the marks that the changes of the operations left: at the places of the changes; where
-/// some are left, as items shift, at the places that they have by now; and what is left after that by
+/// some are left, as elements shift, at the places that they have by now; and what is left after that by
 /// a walk through what the operations share.
 pub(crate) fn clear_marks(
     names: &mut Names,

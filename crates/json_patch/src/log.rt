@@ -11,7 +11,7 @@ ghost use Rattle.json_patch_document.specs.Document.{IsDocument};
 ghost use Rattle.json_patch_edit.specs.Exchange.{AreFitting, IsUnmarkedFor, made_where, room};
 ghost use Rattle.json_patch_edit.specs.NoMemory.{AreUnescaped, NeverShort};
 ghost use Rattle.json_patch_edit.specs.InverseComputed.{block, undo_add};
-ghost use Rattle.json_patch.specs.Logged.{IsEnd, IsFor, IsFree, IsKept, IsMade, IsTakenFrom, IsTest, Keeps, LogsAs, kept_at};
+ghost use Rattle.json_patch.specs.Logged.{IsEnd, IsFor, IsFree, IsKept, IsMade, IsTakenFrom, IsTest, Keeps, LogsAs, is_recorded, kept_at};
 ghost use Rattle.json_patch.specs.Logged.{lasting, place_undone};
 ghost use Rattle.json_patch_edit.specs.Marked.{IsMarked, IsValue, seen};
 ghost use Rattle.json_patch_operation.specs.Operation.{IsWholeOp, move as move_at, operation_of, path_of};
@@ -47,7 +47,7 @@ pub(crate) enum Keep {
 
 impl Keep {
     /// What is kept of an operation: of the last one of a list, where the log is empty, nothing but
-    /// what the inverse says. Where it isn't, marks may be left, and how items shift has to be known.
+    /// what the inverse says. Else marks may be left, and shifts of elements must be known.
     pub(crate) fn at(self, last: bool, empty: bool) -> Keep
         ensures { result ≡ kept_at self last empty }
     {
@@ -55,6 +55,13 @@ impl Keep {
             Keep::Undo if last && empty => Keep::Neither,
             keep => keep,
         }
+    }
+
+    /// Whether the run is recorded.
+    pub(crate) fn is_recorded(self) -> bool
+        ensures { result ≡ is_recorded self }
+    {
+        matches!(self, Keep::Inverse)
     }
 }
 
@@ -222,8 +229,8 @@ impl<'a> Log<'a> {
         Ok(())
     }
 
-    /// Makes the edit, with a value that was taken from `from` if it was, and logs it, or does
-    /// neither. Then the caller has its value again.
+    /// Makes the edit, with a value that was taken from `from`, if that is given, and logs it, or
+    /// does neither. Then the caller has its value again.
     fn log_edit(
         &mut self,
         doc: &mut Value,

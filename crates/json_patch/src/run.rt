@@ -1,6 +1,6 @@
 //! A list of operations on a document (RFC 6902, sections 3 and 5).
 
-ghost use Rattle.std.specs.Prelude.{◌≡◌, ◌≤◌, ◌*◌, ◌+◌, [], ℕ, IfOk, IsOk, None, OnOk, OnErr, Some, length, take};
+ghost use Rattle.std.specs.Prelude.{◌≡◌, ◌≤◌, ◌*◌, ◌+◌, [], ℕ, IfOk, IsOk, None, OnOk, OnErr, Some, length, take, true};
 ghost use Rattle.serde_json.specs.Data.{Data, depth};
 ghost use Rattle.serde_json.specs.View.{view};
 ghost use Rattle.json_patch_edit.specs.Attempt.{ComesTo};
@@ -8,9 +8,9 @@ ghost use Rattle.json_patch_document.specs.Document.{IsDocument};
 ghost use Rattle.json_patch.specs.Faulting.{Reports};
 ghost use Rattle.json_patch_laws.specs.Inverse.{ArePlain, IsInverse};
 ghost use Rattle.json_patch_edit.specs.InverseComputed.{inverse};
-ghost use Rattle.json_patch_limits.specs.OverLimits.{AreShallow, IfOver, IfRefusedUnder, IfUnder, IsNeverOver, IsOverAt, own_sizes, size};
+ghost use Rattle.json_patch_limits.specs.OverLimits.{AreShallow, IfOver, IfRefusedUnder, IfUnder, IsNeverOver, IsNeverOverRecorded, IsOverAt, IsOverRecordedAt, own_sizes, size, values_size};
 ghost use Rattle.json_patch_limits.specs.OverLimitsComputed.{over_at, over_under};
-ghost use Rattle.json_patch.specs.Logged.{IsFree, takes};
+ghost use Rattle.json_patch.specs.Logged.{IsFree, is_recorded, takes};
 ghost use Rattle.json_patch_edit.specs.NoMemory.{AreTestsThenRemove, NeverShort, TakeNoMemory};
 ghost use Rattle.json_patch_operation.specs.Operation.{AreWhole, IsWholeOp, operation_of, operations, operations_of, path_of};
 ghost use Rattle.json_patch.specs.Recorded.{Records};
@@ -192,7 +192,9 @@ pub fn apply_patches(
 }
 
 /// Applies the operations within the limits, as [`patch_within`] does, and returns the patch that
-/// undoes them, as [`apply_patches`] does.
+/// undoes them, as [`apply_patches`] does. The value of a `move` counts as copied here, too, since
+/// the inverse holds a copy of it; so the document and the inverse's values together grow by no more
+/// than what the operations hold and `limits.copied`.
 ///
 /// ```rust
 /// let limits = Limits {
@@ -202,7 +204,7 @@ pub fn apply_patches(
 /// let undo = apply_patches_within(alloc, document, changes.as_slice(), limits)?;
 /// patch(alloc, document, undo.as_slice())?;
 /// ```
-#[tactic(auto, using(json_patch_laws::proofs::LimitedRuns::answered_over, json_patch_laws::proofs::LimitedRuns::answered_never, json_patch_laws::proofs::LimitedRuns::answered_depth, json_patch_laws::proofs::LimitedRuns::answered_size, json_patch_laws::proofs::InverseDepths::inverse_shallow, json_patch_laws::proofs::LimitedRuns::never_none))]
+#[tactic(auto, using(json_patch_laws::proofs::LimitedRuns::answered_over, json_patch_laws::proofs::LimitedRuns::answered_never, json_patch_laws::proofs::LimitedRuns::answered_depth))]
 pub fn apply_patches_within(
     alloc: Global,
     doc: &mut Value,
@@ -224,11 +226,11 @@ pub fn apply_patches_within(
         → IfOk result (λ undo. AreShallow limits.depth (operations_of undo)) }
     ensures refused { IfRefusedUnder result (NamesFirst (view doc.old) (operations patches.now)) }
     ensures over { IfOver result
-        (λ e. IsOverAt limits (view doc.old) (operations patches.now) e.operation e.kind) }
-    ensures never { IfUnder result (IsNeverOver limits (view doc.old) (operations patches.now)) }
+        (λ e. IsOverRecordedAt limits (view doc.old) (operations patches.now) e.operation e.kind) }
+    ensures never { IfUnder result (IsNeverOverRecorded limits (view doc.old) (operations patches.now)) }
     ensures shallow { depth (view doc.old) ≤ limits.depth → depth (view doc.new) ≤ limits.depth }
-    ensures small { OnOk result (size (view doc.new) ≤ size (view doc.old)
-        + (own_sizes (operations patches.now) + limits.copied)) }
+    ensures small { IfOk result (λ undo. size (view doc.new) + values_size (operations_of undo)
+        ≤ size (view doc.old) + (own_sizes (operations patches.now) + limits.copied)) }
     ensures unchanged { OnErr result (view doc.new ≡ view doc.old) }
     ensures document { IsDocument (view doc.new) }
 {
@@ -252,9 +254,9 @@ fn recorded(
     ensures records { IfOk result
         (λ undo. Records (view doc.old) (view doc.new) (operations patches.now) (operations_of undo)) }
     ensures refused { IfRefusedUnder result (NamesFirst (view doc.old) (operations patches.now)) }
-    ensures over { IfOver result (λ e. over_under limits (view doc.old) (operations patches.now)
+    ensures over { IfOver result (λ e. over_under true limits (view doc.old) (operations patches.now)
         ≡ Some (over_at e.operation e.kind)) }
-    ensures never { IfUnder result (over_under limits (view doc.old) (operations patches.now) ≡ None) }
+    ensures never { IfUnder result (over_under true limits (view doc.old) (operations patches.now) ≡ None) }
     ensures unchanged { OnErr result (view doc.new ≡ view doc.old) }
     ensures document { IsDocument (view doc.new) }
 {
@@ -281,9 +283,10 @@ fn run(
         → operations undo.items ≡ inverse (view doc.old) (operations patch.now)) }
     ensures refused { IfRefusedUnder result (NamesFirst (view doc.old) (operations patch.now)) }
     ensures unchanged { OnErr result (view doc.new ≡ view doc.old) }
-    ensures over { IfOver result (λ e. over_under limits (view doc.old) (operations patch.now)
-        ≡ Some (over_at e.operation e.kind)) }
-    ensures never { IfUnder result (over_under limits (view doc.old) (operations patch.now) ≡ None) }
+    ensures over { IfOver result (λ e. over_under (is_recorded keep) limits (view doc.old)
+        (operations patch.now) ≡ Some (over_at e.operation e.kind)) }
+    ensures never { IfUnder result
+        (over_under (is_recorded keep) limits (view doc.old) (operations patch.now) ≡ None) }
     ensures no_memory { keep ≡ Undo → limits ≡ None → AreTestsThenRemove (operations patch.now)
         → (e : Data) → Accepts (view doc.old) (operations patch.now) e → IsOk result }
 {
@@ -291,7 +294,7 @@ fn run(
     let mut log = Log::new(alloc);
     for number in 0..patch.len() {
         let operation = &patch[number];
-        limits = match charge(limits, doc, operation) {
+        limits = match charge(limits, keep.is_recorded(), doc, operation) {
             Ok(left) => left,
             Err(kind) => {
                 undo_all(doc, log);

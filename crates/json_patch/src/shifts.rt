@@ -1,7 +1,7 @@
-//! Where marks stand after later changes, as items of arrays shift.
+//! Where marks stand after later changes, as elements of arrays shift.
 //!
 //! No clause says that a place is the right one: a mark is taken out where one is found, and what is
-//! left is looked for by a walk. A member whose name is a number may be taken for an item. A place is
+//! left is looked for by a walk. A member whose name is a number may be taken for an element. A place is
 //! followed in memory of a fixed size, so that following asks for none.
 
 ghost use Rattle.std.specs.Prelude.{◌≡◌, IfSome, ℕ};
@@ -83,7 +83,7 @@ impl Place {
         }
     }
 
-    /// Goes to the place after an item of an array came in at `at`, or went from there.
+    /// Goes to the place after an element of an array came in at `at`, or went from there.
     fn shift(&mut self, at: Pointer<'_>, came: bool) -> bool {
         let Some((list, last)) = at.split_back() else {
             return true;
@@ -113,7 +113,7 @@ impl Place {
         }
     }
 
-    /// The index of the item through which the place leads in the array, and where its digits are in
+    /// The index of the element through which the place leads in the array, and where its digits are in
     /// the string.
     fn item_of(&self, list: Pointer<'_>) -> Option<(usize, Range<usize>)> {
         let rest = self.pointer()?.strip_prefix(list)?;

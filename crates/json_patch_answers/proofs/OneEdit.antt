@@ -1,4 +1,4 @@
--- A value is one list of commands at most, or none for one cause, and an editor gives one value for it.
+-- A value reads as one list of commands at most, or as none for one cause, and an editor gives one value for it.
 use Rattle.std.proofs.Common.{◌≡◌, ◌⊎◌, ℕ, List, [], ◌∷◌, Option, None, Bool, true, false, inl, inr, refl, sym, ap}
 use Rattle.std.proofs.Common.{subst, ◌∙◌, arith}
 use Rattle.std.specs.Prelude.{All, codes}
@@ -22,7 +22,7 @@ use Rattle.json_patch_answers.specs.declared.fault.ToolFault.TheVariants.{NotWho
 use Rattle.json_patch_answers.proofs.Below.{Below}
 use Rattle.json_patch_answers.proofs.Commands.{commands_whole}
 
--- a text is no patch
+-- a string is no patch
 no_patch : (v : Data) (t : List ℕ) (ops : List Operation) → v ≡ string t → ReadsPatch v ops → ⊥
 no_patch v t ops is h = subst (λ x. ReadsPatch x ops) is h
 

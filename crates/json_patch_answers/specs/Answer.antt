@@ -45,13 +45,13 @@ abbrev pub IsNotMerged : Data → Data → ToolFault → Type 0
 IsNotMerged d p NotWhole = (IsDocument d → ⊥) ⊎ (IsDocument p → ⊥)
 IsNotMerged d p _ = ⊥
 
--- p is a list of commands, and `whole` is the array of the document that an editor of d leaves after them and its
+-- p is an array of commands, and `whole` is the array of the document that an editor of d leaves after them and its
 -- replies
 abbrev pub IsEdited : Data → Data → Data → Type 0
 IsEdited d p whole = IsDocument d × ((cs : List Command) × (rs : List Reply) × (ws : Versions) × ReadsCommands p cs
     × RepliesInTurn (initial 65536 d) cs rs ws × (whole ≡ written_edit ws rs))
 
--- why d isn't edited: d is no document, or else p is no list of commands; and for no other fault
+-- why d isn't edited: d is no document, or else p is no array of commands; and for no other fault
 abbrev pub IsNotEdited : Data → Data → ToolFault → Type 0
 IsNotEdited d p NotWhole = IsDocument d → ⊥
 IsNotEdited d p (Unreadable e) = IsDocument d × RefusesCommands p e.operation e.kind

@@ -1,4 +1,4 @@
--- A list of an editor's commands as a JSON value, and the replies to them as one.
+-- An array of an editor's commands, and the array of the replies to them.
 use Rattle.std.specs.Prelude.{◌≡◌, ◌⊎◌, ℕ, List, [], ◌∷◌, map, Option, None, codes, true}
 use Rattle.serde_json.specs.Data.{Data, string, array, object, boolean, number, unsigned, Items, no_items, item, member}
 use Rattle.serde_json.specs.Data.{no_members}
@@ -26,23 +26,23 @@ pub record RefusesCommand (v : Data) (k : Option ℕ) (kind : ReadKind) : Type 0
   pub no_redo : v ≡ string (codes "redo") → ⊥
   pub no_patch : RefusesPatch v k kind
 
--- the items are the commands, one by one
+-- the elements are the commands, one by one
 abbrev pub ReadsItems : Items → List Command → Type 0
 ReadsItems no_items [] = Unit {0}
 ReadsItems (item v vs) (c ∷ cs) = ReadsCommand v c × ReadsItems vs cs
 ReadsItems vs cs = ⊥
 
--- v is a list of the commands
+-- v is an array of the commands
 abbrev pub ReadsCommands : Data → List Command → Type 0
 ReadsCommands (array vs) cs = ReadsItems vs cs
 ReadsCommands v cs = ⊥
 
--- the items before some item are commands, and that one is none
+-- the elements before some element are commands, and that one is none
 abbrev pub RefusesItems : Items → Option ℕ → ReadKind → Type 0
 RefusesItems no_items k kind = ⊥
 RefusesItems (item v vs) k kind = RefusesCommand v k kind ⊎ ((c : Command) × ReadsCommand v c × RefusesItems vs k kind)
 
--- v is no list of commands: for its first item that is none, or since it is no list
+-- v is no array of commands: for its first element that is none, or since it is no array
 abbrev pub RefusesCommands : Data → Option ℕ → ReadKind → Type 0
 RefusesCommands (array vs) k kind = RefusesItems vs k kind
 RefusesCommands v k kind = (k ≡ None) × (kind ≡ NotAList)

@@ -22,7 +22,7 @@ use std::alloc::{AllocError, Global};
 /// How many changes can be taken back.
 const DEPTH: usize = 65536;
 
-/// What an item of the array asks for.
+/// What an element of the array asks for.
 #[derive(Drop)]
 enum Command {
     Apply(Patch),
@@ -30,7 +30,7 @@ enum Command {
     Redo,
 }
 
-/// The line of the document and the replies. All items are read before the first is done.
+/// The line of the document and the replies. All elements are read before the first is done.
 pub(crate) fn edited(alloc: Global, document: Value, value: &Value) -> Result<String, ToolFault>
     ensures line { IfOk result (λ line. (e : Data)
         × IsEdited (view document) (view value.now) e × (string_bytes line ≡ spec.line_of e)) }

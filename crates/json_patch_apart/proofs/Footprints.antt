@@ -31,9 +31,9 @@ reach_split (a ∷ c ∷ A) t = ap (λ R. a ∷ R) (reach_split (c ∷ A) t) ∙
     outside true = refl
     outside false = refl
 
--- ---- whether a token may be a place
+-- ---- whether a token may name an index
 
--- a token names a place exactly where its text in a pointer does
+-- a token names an index exactly where its text in a pointer does
 encoded_place : (t : List ℕ) (i : ℕ) → place_of t ≡ Some i → place_of (encoded t) ≡ Some i
 encoded_place t i h =
     let is : t ≡ decimal_token i = (place_is_token t i).0 h in

@@ -10,12 +10,12 @@ use Rattle.json_patch_operation.specs.Operation.{Operation, add, remove, replace
 abbrev pub Diverge : Pointer → Pointer → Type 0
 Diverge P Q = (IsPrefix P Q → ⊥) × (IsPrefix Q P → ⊥)
 
--- t may stand for a place in a list: it is a number, or `-`
+-- t may name an index of an array: it is a number, or `-`
 abbrev pub may_be_place : List ℕ → Bool
 may_be_place t = bytes_eq t next_token || is_some (place_of t)
 
--- the pointer of all that an add or a remove at P may change: P's parent, where P's last token may be a place, since the
--- items of a list shift and it grows or shrinks, and else P itself
+-- the pointer of all that an add or a remove at P may change: P's parent, where P's last token may name an
+-- index, since the elements of an array shift and it grows or shrinks, and else P itself
 abbrev pub reach : Pointer → Pointer
 reach [] = []
 reach (t ∷ []) = if may_be_place t then [] else t ∷ []

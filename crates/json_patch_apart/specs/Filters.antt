@@ -6,21 +6,21 @@ use Rattle.json_patch_apart.specs.Apart.{changed_by, read_by}
 use Rattle.json_patch_operation.specs.Operation.{Operation}
 use Rattle.json_patch_apart.specs.declared.filter.Filter.{Filter}
 
--- a slot, the bytes mixed in
+-- the slot h with the bytes mixed in
 abbrev pub mixed : ℕ → List ℕ → ℕ
 mixed h [] = h
 mixed h (b ∷ bs) = mixed ((h * 31 + b) % 16384) bs
 
--- the slot of tokens and one more, from theirs
+-- the slot of some tokens and then t, where h is the slot of those tokens
 abbrev pub slot_after : ℕ → List ℕ → ℕ
 slot_after h t = mixed h (47 ∷ encoded t)
 
--- the slot of tokens and those of the pointer, from theirs
+-- the slot of some tokens and then those of the pointer, where h is the slot of the first
 abbrev pub slot_from : ℕ → Pointer → ℕ
 slot_from h [] = h
 slot_from h (t ∷ P) = slot_from (slot_after h t) P
 
--- the slot from which the pointer goes on, and each on its way, is b
+-- b stands at the slot h, from which the pointer goes on, and at each slot on its way
 abbrev pub Along : Bool → List Bool → ℕ → Pointer → Type 0
 Along b slots h [] = get_or slots h false ≡ b
 Along b slots h (t ∷ P) = (get_or slots h false ≡ b) × Along b slots (slot_after h t) P

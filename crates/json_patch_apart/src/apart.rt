@@ -213,7 +213,7 @@ fn names_place(token: Token<'_>) -> bool
 {
     match token.to_index() {
         Ok(_) => true,
-        // A number that is too large for an index, or no text at all.
+        // A number that is too large for an index, or the empty string.
         Err(ParseIndexError::InvalidInteger) => !token.encoded().is_empty(),
         Err(ParseIndexError::LeadingZeros) => false,
         Err(ParseIndexError::InvalidCharacter { .. }) => false,

@@ -12,9 +12,9 @@ use jsonptr::{Pointer, Token};
 
 const SLOTS: usize = 16384;
 
-/// Two tables of slots, of which each list of tokens has one by a hash: what begins a pointer that
-/// was put in, and the pointers themselves. Others may have the same slots, so a filter may miss
-/// that a pointer diverges from all, and never says it wrongly.
+/// Two tables of slots. Each list of tokens has one slot in both, by a hash: `begun` has those of
+/// all that begins a pointer that was put in, `whole` those of the pointers themselves. Lists may
+/// share a slot, so a filter may miss that a pointer diverges from all, and never says it wrongly.
 #[derive(Drop)]
 pub struct Filter {
     begun: [bool; SLOTS],
@@ -67,8 +67,8 @@ impl Filter {
         self.whole[slot] = true;
     }
 
-    /// Whether no pointer that was put in has the slot of one that begins the pointer, and nothing
-    /// that begins one has that of the pointer.
+    /// Whether neither the pointer nor what begins it has the slot of a pointer that was put in,
+    /// and nothing that begins such a one has the slot of the pointer.
     #[tactic(auto, using(crate::proofs::Filters::diverges))]
     fn is_free(&self, pointer: Pointer<'_>) -> bool
         ensures { IsTrue result → (Q : text.Pointer) → Has self.now Q

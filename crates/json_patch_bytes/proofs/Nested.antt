@@ -1,4 +1,4 @@
--- Through a text, byte by byte: whether more are open.
+-- Whether more arrays and objects are open than may be, byte by byte through a text.
 use Rattle.std.proofs.Common.{◌≡◌, ◌≤◌, ◌<◌, ◌+◌, ◌↔◌, ◌⊎◌, inl, inr, ⊎_elim, ℕ, List, [], ◌∷◌, length, drop, get_or, subst, sym, arith}
 use Rattle.std.proofs.lemmas.List.{drop_more}
 use Rattle.json_patch_bytes.specs.Nesting.{OpensMore, after, opened}
@@ -9,7 +9,7 @@ pub opens_now : (most : ℕ) (m : Mode) (n : ℕ) (text : List ℕ) → most < n
 opens_now most m n [] h = h
 opens_now most m n (c ∷ text) h = inl h
 
--- where no more are, it is as behind the next byte
+-- where no more are open now, it is as after the next byte
 pub opens_next : (most : ℕ) (m : Mode) (n c : ℕ) (text : List ℕ) → n ≤ most → OpensMore most m n (c ∷ text) ↔ OpensMore most (after m c) (opened m c n) text
 opens_next most m n c text h = (⊎_elim (λ more. absurd (omega (arith, more, h))) (λ later. later), λ later. inr later)
 

@@ -3,9 +3,9 @@
 use Rattle.std.specs.Prelude.{min}
 use Rattle.json_patch.specs.Limits.{Limits}
 
--- of a call that is given none: 64 MiB of values may be copied
+-- of a call that is given none: what it may copy takes less than a GiB of memory
 abbrev pub the_limits : Limits
-the_limits = record { depth = 124; copied = 67108864 }
+the_limits = record { depth = 124; copied = 500000 }
 
 -- of a call that is given these: no more levels than 124
 abbrev pub within_most : Limits → Limits

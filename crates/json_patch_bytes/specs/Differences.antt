@@ -1,11 +1,11 @@
 -- What a call makes of two documents: the patch that leads from the one to the other.
-use Rattle.std.specs.Prelude.{◌≡◌, ◌≤◌, ◌+◌, ◌↔◌, ℕ, List, [], ◌∷◌, length}
+use Rattle.std.specs.Prelude.{◌≡◌, ◌≤◌, ◌+◌, ◌↔◌, ℕ, Bool, List, [], ◌∷◌, length}
 use Rattle.serde_json.specs.Data.{Data, depth}
 use Rattle.serde_json.specs.Written.{compact_text}
 use Rattle.json_patch.specs.Inverse.{ArePlain}
 use Rattle.json_patch.specs.Limits.{Limits}
 use Rattle.json_patch.specs.Operation.{Operation, replace}
-use Rattle.json_patch.specs.OverLimits.{IsNeverOver}
+use Rattle.json_patch.specs.OverLimits.{NeverOver}
 use Rattle.json_patch.specs.PatchValue.{written_patch}
 use Rattle.json_patch.specs.Run.{IsAccepted}
 use Rattle.json_patch_diff.specs.Size.{text_size, values}
@@ -15,9 +15,9 @@ use Rattle.json_patch_bytes.specs.Texts.{IsPatchText, IsShallowText}
 pub record IsDifference (d e : Data) (ops : List Operation) : Type 0 where
   -- d accepts them, and they lead to e and to no other document
   pub leads : IsAccepted d ops e
-  -- none comes to be over limits that e keeps to
-  pub never : (l : Limits) → depth e ≤ l.depth → IsNeverOver l d ops
-  -- they add, remove and replace alone, with no `-` that stands for a place in a list
+  -- none comes to be over limits that e keeps to, recorded or not
+  pub never : (recorded : Bool) (l : Limits) → depth e ≤ l.depth → NeverOver recorded l d ops
+  -- they add, remove and replace alone, with no `-` for an array's index
   pub plain : ArePlain d ops
   -- there are none exactly where d is e, no more than values in both, and no more bytes than in the replacement of the whole
   pub nothing : (ops ≡ []) ↔ (d ≡ e)

@@ -1,6 +1,6 @@
 -- Why a call makes nothing: what it means that its texts say no document or no patch, with what is told of that, that an
 -- operation is refused, and that one is over the limits. What can't come to be in a call is ⊥.
-use Rattle.std.specs.Prelude.{◌≡◌, ℕ, List}
+use Rattle.std.specs.Prelude.{◌≡◌, ℕ, Bool, true, false, List}
 use Rattle.serde_json.specs.Data.{Data}
 use Rattle.json_patch.specs.LimitError.{LimitError}
 use Rattle.json_patch.specs.Limits.{Limits}
@@ -25,14 +25,20 @@ of_open l document = record { no_document = IsNoDocumentText l.depth document; n
 abbrev pub of_second : Limits → List ℕ → Reasons
 of_second l text = record { no_document = λ kind. ⊥; no_patch = IsNoMergePatchText l.depth text; refused = λ e. ⊥; over = λ e. ⊥ }
 
--- of a document's text to which a patch's is applied: the patch is looked at where the document is one
-abbrev pub of_apply : Limits → List ℕ → List ℕ → Reasons
-of_apply l document patch = record {
+-- of a document's text to which a patch's is applied, recorded or not: the patch is looked at where the document is one
+abbrev pub of_applied : Bool → Limits → List ℕ → List ℕ → Reasons
+of_applied recorded l document patch = record {
   no_document = IsNoDocumentText l.depth document;
   no_patch = λ operation kind. ((d : Data) × IsShallowText l.depth document d) × IsNoPatchText patch operation kind;
-  refused = StopsAt l document patch;
-  over = GoesOver l document patch;
+  refused = StopsAt recorded l document patch;
+  over = GoesOver recorded l document patch;
 }
+
+abbrev pub of_apply : Limits → List ℕ → List ℕ → Reasons
+of_apply l document patch = of_applied false l document patch
+
+abbrev pub of_record : Limits → List ℕ → List ℕ → Reasons
+of_record l document patch = of_applied true l document patch
 
 -- of a document's text into which a merge patch's is merged
 abbrev pub of_merge : Limits → List ℕ → List ℕ → Reasons

@@ -1,7 +1,7 @@
 -- What texts that come from C say, and what a call makes of two of them. A text is JSON (RFC 8259) where the reader of
 -- JSON reads it: it nests at most 127 levels, and has no number and no escape that the reader refuses, which are a number
 -- past a float's range, such as 1e400, and an unpaired surrogate.
-use Rattle.std.specs.Prelude.{◌≡◌, ◌≤◌, ◌<◌, ◌⊎◌, ℕ, List, Option, Some, None, IsUtf8, unwrap_or}
+use Rattle.std.specs.Prelude.{◌≡◌, ◌≤◌, ◌<◌, ◌⊎◌, ℕ, Bool, List, Option, Some, None, IsUtf8, unwrap_or}
 use Rattle.serde_json.specs.Data.{Data, array, depth, item, no_items}
 use Rattle.serde_json.specs.Read.{read}
 use Rattle.jsonptr.specs.Text.{Pointer, text_of, IsNoPointerText}
@@ -17,7 +17,7 @@ use Rattle.json_patch.specs.PatchError.{PatchError}
 use Rattle.json_patch.specs.ReadKind.{ReadKind}
 use Rattle.json_patch.specs.LimitError.{LimitError}
 use Rattle.json_patch.specs.Limits.{Limits}
-use Rattle.json_patch.specs.OverLimits.{IsNeverOver, IsOverAt}
+use Rattle.json_patch.specs.OverLimits.{ComesOver, IsNeverOver, IsNeverOverRecorded, NeverOver}
 use Rattle.json_patch_bytes.specs.Kinds.{reading_kind}
 use Rattle.json_patch_bytes.specs.Nesting.{NestsDeeper}
 
@@ -83,21 +83,21 @@ Makes l document patch e = (d : Data) × (ops : List Operation) × IsShallowText
 abbrev pub pair : Data → List Operation → Data
 pair e undo = array (item e (item (written_patch undo) no_items))
 
--- the same, and w is the array of e and the inverse, which leads back
+-- the same, recorded, and w is the array of e and the inverse, which leads back
 abbrev pub MakesBoth : Limits → List ℕ → List ℕ → Data → Type 0
 MakesBoth l document patch w = (d e : Data) × (ops undo : List Operation) × IsShallowText l.depth document d × IsPatchText patch ops
-    × IsNeverOver l d ops × Accepts d ops e × IsInverse d ops undo × IsAccepted e undo d × (w ≡ pair e undo)
+    × IsNeverOverRecorded l d ops × Accepts d ops e × IsInverse d ops undo × IsAccepted e undo d × (w ≡ pair e undo)
 
 -- e is the document with the merge patch merged into it
 abbrev pub Merges : ℕ → List ℕ → List ℕ → Data → Type 0
 Merges levels document patch e = (d p : Data) × IsShallowText levels document d × IsShallowText levels patch p × IsMerged d p e
 
 -- the patch is refused on the document, none of its operations is over the limits before, and e is why
-abbrev pub StopsAt : Limits → List ℕ → List ℕ → PatchError → Type 0
-StopsAt l document patch e = (d : Data) × (ops : List Operation) × IsShallowText l.depth document d × IsPatchText patch ops
-    × IsNeverOver l d ops × NamesFirst d ops e
+abbrev pub StopsAt : Bool → Limits → List ℕ → List ℕ → PatchError → Type 0
+StopsAt recorded l document patch e = (d : Data) × (ops : List Operation) × IsShallowText l.depth document d × IsPatchText patch ops
+    × NeverOver recorded l d ops × NamesFirst d ops e
 
 -- an operation of the patch comes to be over the limits, the first one, and e is which and how
-abbrev pub GoesOver : Limits → List ℕ → List ℕ → LimitError → Type 0
-GoesOver l document patch e = (d : Data) × (ops : List Operation) × IsShallowText l.depth document d × IsPatchText patch ops
-    × IsOverAt l d ops e.operation e.kind
+abbrev pub GoesOver : Bool → Limits → List ℕ → List ℕ → LimitError → Type 0
+GoesOver recorded l document patch e = (d : Data) × (ops : List Operation) × IsShallowText l.depth document d × IsPatchText patch ops
+    × ComesOver recorded l d ops e.operation e.kind

@@ -8,7 +8,7 @@ ghost use Rattle.json_patch.specs.Document.{IsDocument};
 ghost use Rattle.json_patch.specs.Operation.{AreWhole, operations_of};
 ghost use Rattle.json_patch_bytes.specs.Differences.{IsPatchValue, LeadsBetween};
 ghost use Rattle.json_patch_bytes.specs.Failures.{IsFailure, IsTextOf, IsUnread};
-ghost use Rattle.json_patch_bytes.specs.Reasons.{of_apply, of_check, of_diff, of_merge, of_open, of_second};
+ghost use Rattle.json_patch_bytes.specs.Reasons.{of_apply, of_check, of_diff, of_merge, of_open, of_record, of_second};
 ghost use Rattle.json_patch_bytes.specs.Texts.{IsPatchText, IsShallowText, Makes, MakesBoth, Merges};
 ghost use Rattle.json_patch_bytes.specs.declared.failure.Failure.TheVariants.{Memory};
 
@@ -24,7 +24,7 @@ use std::alloc::Global;
 /// Why a text isn't read as JSON.
 #[derive(Drop)]
 pub(crate) enum Unread {
-    /// It is none, or nests too deep, as the kind says.
+    /// It is no JSON, or nests too deep, as the kind says.
     Text(u8),
     Memory,
 }
@@ -52,7 +52,7 @@ fn value_of(alloc: Global, text: &[u8]) -> Result<Value, Unread>
 ///
 /// `NoDocument` where it says none: its kind is 1 where the bytes are no UTF-8 or no JSON, 7 where they
 /// nest more than 127 arrays and objects in one another or the value has more levels than the limit,
-/// and 2 where a number is no whole one of 64 bits.
+/// and 2 where a number is no 64-bit integer.
 pub fn document_of(alloc: Global, text: &[u8], limits: Limits) -> Result<Value, Failure>
     ensures read { IfOk result (λ v. IsShallowText limits.depth text.now (view v)) }
     ensures failure { IfErr result (IsFailure (of_open limits text.now)) }
@@ -87,7 +87,7 @@ pub fn second_document_of(alloc: Global, text: &[u8], limits: Limits) -> Result<
 /// The patch that a text says.
 ///
 /// `NoPatch` where it says none: at operation 0 for the kinds 1 and 7 of [`document_of`], or 11 where it
-/// is no list; and else at the first operation that can't be read, for a kind from 12 on.
+/// is no array; and else at the first operation that can't be read, for a kind from 12 on.
 pub fn patch_of(alloc: Global, text: &[u8]) -> Result<Patch, Failure>
     ensures read { IfOk result (λ p. IsPatchText text.now (operations_of p)) }
     ensures whole { IfOk result (λ p. AreWhole (operations_of p)) }
@@ -108,8 +108,8 @@ pub fn patch_of(alloc: Global, text: &[u8]) -> Result<Patch, Failure>
     }
 }
 
-/// The text of a document, with no blanks and its members in byte order of their names: it is read
-/// again. `Memory` alone may come of it.
+/// The text of a document, with no whitespace and its members in byte order of their names: it can
+/// be read again. `Memory` alone may come of it.
 pub fn text_of(alloc: Global, document: &Value) -> Result<String, Failure>
     requires document { IsDocument (view document.now) }
     requires shallow { depth (view document.now) ≤ 127 }
@@ -153,7 +153,7 @@ pub fn recorded(
     requires { limits.depth ≤ 124 }
     ensures text { IfOk result (λ s. (e : Data) × MakesBoth limits text.now changes.now e
         × IsTextOf 127 e (string_bytes s)) }
-    ensures failure { IfErr result (IsFailure (of_apply limits text.now changes.now)) }
+    ensures failure { IfErr result (IsFailure (of_record limits text.now changes.now)) }
 {
     laws::values();
     laws::limits();

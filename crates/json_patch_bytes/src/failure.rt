@@ -12,7 +12,7 @@ use std::alloc::{AllocError, AllocFailed};
 
 /// A text is no UTF-8, or no JSON.
 pub const NOT_JSON: u8 = 1;
-/// A number in it is no whole one of 64 bits.
+/// A number in it is no 64-bit integer.
 pub(crate) const NOT_WHOLE: u8 = 2;
 /// It nests too deep, or a value would reach too deep.
 pub const TOO_DEEP: u8 = 7;
@@ -20,9 +20,9 @@ pub const TOO_DEEP: u8 = 7;
 /// Why a call makes no text.
 #[derive(Drop)]
 pub enum Failure {
-    /// The first text says no document, for this kind.
+    /// The first text says no document; this kind tells why.
     NoDocument(u8),
-    /// The second says no patch, for a fault in this operation, of this kind.
+    /// The second says no patch: this operation is at fault, for this kind.
     NoPatch(usize, u8),
     /// An operation is refused.
     Refused(PatchError),

@@ -13,7 +13,7 @@ pub(crate) enum Mode {
     Outside,
     /// In a string.
     Inside,
-    /// In a string, behind a `\`.
+    /// In a string, escaped by the `\` before it.
     Escaped,
 }
 
@@ -43,7 +43,7 @@ impl Mode {
         }
     }
 
-    /// How many arrays and objects are open after the byte, of so many.
+    /// How many arrays and objects are open after the byte, if `count` are open before it.
     fn opened(self, byte: u8, count: usize) -> usize
         requires { count ≤ 127 }
         ensures { result ≡ opened self byte count }
@@ -61,7 +61,7 @@ impl Mode {
     }
 }
 
-/// Whether the text nests deeper than the reader of JSON reads.
+/// Whether more arrays and objects are open at once in the text than the reader of JSON reads.
 #[tactic(auto, using(crate::proofs::Nested::opens_now, crate::proofs::Nested::opens_next))]
 pub(crate) fn nests_too_deep(text: &[u8]) -> bool
     ensures { IsTrue result ↔ NestsDeeper 127 text.now }

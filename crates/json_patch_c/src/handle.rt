@@ -11,7 +11,7 @@ ghost use Rattle.json_patch_bytes.specs.Bounds.{the_limits, within_most};
 ghost use Rattle.json_patch_bytes.specs.Differences.{LeadsToText};
 ghost use Rattle.json_patch_bytes.specs.Reasons.{of_open};
 ghost use Rattle.json_patch_bytes.specs.Texts.{IsNoPointer, IsShallowText};
-ghost use Rattle.json_patch_c.specs.Reasons.{of_diff_to, of_memory, of_update, of_update_merged};
+ghost use Rattle.json_patch_c.specs.Reasons.{of_diff_to, of_memory, of_update, of_update_merged, of_update_recorded};
 ghost use Rattle.json_patch_c.specs.Reports.{IsTold, IsWritten, Tells};
 ghost use Rattle.json_patch_c.specs.States.{document_in, limits_in, undo_in};
 ghost use Rattle.json_patch_c.specs.Updates.{LeadsNowhere, MergesTo, RecordsTo, StandsAtText, UpdatesTo};
@@ -74,8 +74,8 @@ pub extern "C" fn json_patch_open(
     open(alloc, document, text, default_limits(), report)
 }
 
-/// The same within limits that the caller names, of the levels at most 124: they hold of each change of
-/// the document too.
+/// The same within limits that the caller names; a depth past 124 counts as 124. They hold of each
+/// change of the document too.
 #[unsafe(no_mangle)]
 pub extern "C" fn json_patch_open_within(
     alloc: Global,
@@ -151,7 +151,7 @@ pub extern "C" fn json_patch_update_recorded(
         × RecordsTo l d patch.now e undo × (document_in document.new.held ≡ Some e)
         × (undo_in document.new.held ≡ Some undo) × Tells 0 0 0 report.new }
     // 1, 3, 4, 9: why it isn't.
-    ensures told { IfSome document.old.held (λ k. IsTold (of_update k.limits (view k.document) patch.now)
+    ensures told { IfSome document.old.held (λ k. IsTold (of_update_recorded k.limits (view k.document) patch.now)
         result out.old out.new report.new) }
     // 6: no document is open.
     ensures closed { (result ≡ 6) ↔ (document.old.held ≡ None) }
@@ -250,7 +250,7 @@ pub extern "C" fn json_patch_text(
     out: &mut [u8],
     report: &mut Report,
 ) -> u8
-    // 0, 5: the text is in `out`, or that is shorter.
+    // 0, 5: the text is in `out`, or `out` is shorter than it.
     ensures written { IfSome document.old.held
         (λ k. IsWritten k.limits.depth (λ e. e ≡ view k.document) result out.old out.new report.new) }
     // 4: out of memory. 6: no document is open.
@@ -278,7 +278,7 @@ pub extern "C" fn json_patch_inverse(
     out: &mut [u8],
     report: &mut Report,
 ) -> u8
-    // 0, 5: the text is in `out`, or that is shorter.
+    // 0, 5: the text is in `out`, or `out` is shorter than it.
     ensures written { IfSome document.old.held
         (λ k. IsWritten 126 (λ e. e ≡ written_patch (operations_of k.inverse)) result out.old out.new report.new) }
     // 4: out of memory. 6: no document is open.
@@ -306,7 +306,7 @@ pub extern "C" fn json_patch_diff_to(
     out: &mut [u8],
     report: &mut Report,
 ) -> u8
-    // 0, 5: the text is in `out`, or that is shorter.
+    // 0, 5: the text is in `out`, or `out` is shorter than it.
     ensures written { IfSome document.old.held (λ k. IsWritten 126
         (LeadsToText k.limits.depth (view k.document) text.now) result out.old out.new report.new) }
     // 3, 4: the text says no document, or memory ran out. 6: no document is open.
@@ -335,7 +335,7 @@ pub extern "C" fn json_patch_text_at(
     out: &mut [u8],
     report: &mut Report,
 ) -> u8
-    // 0, 5: the text is in `out`, or that is shorter.
+    // 0, 5: the text is in `out`, or `out` is shorter than it.
     ensures written { IfSome document.old.held (λ k. IsWritten k.limits.depth
         (StandsAtText (view k.document) pointer.now) result out.old out.new report.new) }
     // 4: out of memory. 6: no document is open.

@@ -10,7 +10,7 @@ ghost use Rattle.std.specs.Prelude.{◌≡◌, ◌≤◌, ◌⊎◌, [], List};
 ghost use Rattle.json_patch.specs.Operation.{Operation};
 ghost use Rattle.json_patch_bytes.specs.Bounds.{the_limits, within_most};
 ghost use Rattle.json_patch_bytes.specs.Differences.{LeadsBetween};
-ghost use Rattle.json_patch_bytes.specs.Reasons.{of_apply, of_check, of_diff, of_merge};
+ghost use Rattle.json_patch_bytes.specs.Reasons.{of_apply, of_check, of_diff, of_merge, of_record};
 ghost use Rattle.json_patch_bytes.specs.Texts.{IsPatchText, Makes, MakesBoth, Merges};
 ghost use Rattle.json_patch_c.specs.Reports.{IsTold, IsWritten, Tells};
 
@@ -38,7 +38,7 @@ pub extern "C" fn json_patch_apply(
     out: &mut [u8],
     report: &mut Report,
 ) -> u8
-    // 0, 5: the text is in `out`, or that is shorter.
+    // 0, 5: the text is in `out`, or `out` is shorter than it.
     ensures written { IsWritten the_limits.depth (Makes the_limits document.now patch.now) result
         out.old out.new report.new }
     // 1, 2, 3, 4, 9: why none was made.
@@ -52,7 +52,7 @@ pub extern "C" fn json_patch_apply(
     )
 }
 
-/// The same within limits that the caller names: of the levels at most 124.
+/// The same within limits that the caller names; a depth past 124 counts as 124.
 #[tactic(auto, using(crate::proofs::Answered::written, crate::proofs::Answered::told))]
 #[unsafe(no_mangle)]
 pub extern "C" fn json_patch_apply_within(
@@ -89,7 +89,7 @@ pub extern "C" fn json_patch_record(
 ) -> u8
     ensures written { IsWritten 127 (MakesBoth the_limits document.now patch.now) result out.old
         out.new report.new }
-    ensures told { IsTold (of_apply the_limits document.now patch.now) result out.old out.new report.new }
+    ensures told { IsTold (of_record the_limits document.now patch.now) result out.old out.new report.new }
     ensures status { (result ≤ 5) ⊎ (result ≡ 9) }
 {
     answer(
@@ -99,7 +99,7 @@ pub extern "C" fn json_patch_record(
     )
 }
 
-/// The same within limits that the caller names: of the levels at most 124.
+/// The same within limits that the caller names; a depth past 124 counts as 124.
 #[tactic(auto, using(crate::proofs::Answered::written, crate::proofs::Answered::told))]
 #[unsafe(no_mangle)]
 pub extern "C" fn json_patch_record_within(
@@ -112,7 +112,7 @@ pub extern "C" fn json_patch_record_within(
 ) -> u8
     ensures written { IsWritten 127 (MakesBoth (within_most limits.now) document.now patch.now) result
         out.old out.new report.new }
-    ensures told { IsTold (of_apply (within_most limits.now) document.now patch.now) result out.old
+    ensures told { IsTold (of_record (within_most limits.now) document.now patch.now) result out.old
         out.new report.new }
     ensures status { (result ≤ 5) ⊎ (result ≡ 9) }
 {
@@ -145,7 +145,8 @@ pub extern "C" fn json_patch_merge(
     )
 }
 
-/// The same within the limit on levels that the caller names, of at most 124. A merge copies nothing.
+/// The same within the limit on levels that the caller names; one past 124 counts as 124. A merge
+/// copies nothing.
 #[tactic(auto, using(crate::proofs::Answered::written, crate::proofs::Answered::told))]
 #[unsafe(no_mangle)]
 pub extern "C" fn json_patch_merge_within(
@@ -193,7 +194,7 @@ pub extern "C" fn json_patch_diff(
     )
 }
 
-/// The same within the limit on levels that the caller names, of at most 124.
+/// The same within the limit on levels that the caller names; one past 124 counts as 124.
 #[tactic(auto, using(crate::proofs::Answered::written, crate::proofs::Answered::told))]
 #[unsafe(no_mangle)]
 pub extern "C" fn json_patch_diff_within(

@@ -25,7 +25,7 @@ pub extern "C" fn json_patch_apply_text(
     out: &mut [u8],
     report: &mut Report,
 ) -> u8
-    // 0, 5: the text is in `out`, or that is shorter.
+    // 0, 5: the text is in `out`, or `out` is shorter than it.
     ensures written { IsTextWritten (IsPatched the_limits document.now patch.now) result out.old
         out.new report.new }
     // 1, 2, 3, 4, 9: why none was made.
@@ -39,7 +39,8 @@ pub extern "C" fn json_patch_apply_text(
     )
 }
 
-/// The same within limits that the caller names, of the levels at most 124. `copied` counts bytes.
+/// The same within limits that the caller names; a depth past 124 counts as 124. `copied` counts
+/// bytes.
 #[tactic(auto, using(crate::proofs::Answered::text_written, crate::proofs::Answered::told))]
 #[unsafe(no_mangle)]
 pub extern "C" fn json_patch_apply_text_within(
@@ -74,20 +75,21 @@ pub extern "C" fn json_patch_merge_text(
     out: &mut [u8],
     report: &mut Report,
 ) -> u8
-    ensures written { IsTextWritten (IsMergedInto the_limits.depth document.now patch.now) result out.old
+    ensures written { IsTextWritten (IsMergedInto the_limits document.now patch.now) result out.old
         out.new report.new }
-    ensures told { IsTold (of_merge the_limits.depth document.now patch.now) result out.old out.new
+    ensures told { IsTold (of_merge the_limits document.now patch.now) result out.old out.new
         report.new }
     ensures status { (result ≤ 5) ⊎ (result ≡ 9) }
 {
     answer(
-        calls::merged(alloc, document, patch, default_limits().depth),
+        calls::merged(alloc, document, patch, default_limits()),
         out,
         report,
     )
 }
 
-/// The same within the limit on levels that the caller names, of at most 124. A merge copies nothing.
+/// The same within limits that the caller names; a depth past 124 counts as 124. `copied` counts the
+/// bytes of the new text past those of both texts.
 #[tactic(auto, using(crate::proofs::Answered::text_written, crate::proofs::Answered::told))]
 #[unsafe(no_mangle)]
 pub extern "C" fn json_patch_merge_text_within(
@@ -98,14 +100,14 @@ pub extern "C" fn json_patch_merge_text_within(
     out: &mut [u8],
     report: &mut Report,
 ) -> u8
-    ensures written { IsTextWritten (IsMergedInto (within_most limits.now).depth document.now patch.now)
-        result out.old out.new report.new }
-    ensures told { IsTold (of_merge (within_most limits.now).depth document.now patch.now) result out.old
+    ensures written { IsTextWritten (IsMergedInto (within_most limits.now) document.now patch.now) result
+        out.old out.new report.new }
+    ensures told { IsTold (of_merge (within_most limits.now) document.now patch.now) result out.old
         out.new report.new }
     ensures status { (result ≤ 5) ⊎ (result ≡ 9) }
 {
     answer(
-        calls::merged(alloc, document, patch, within_most(limits).depth),
+        calls::merged(alloc, document, patch, within_most(limits)),
         out,
         report,
     )
@@ -121,7 +123,7 @@ pub extern "C" fn json_patch_value_text(
     out: &mut [u8],
     report: &mut Report,
 ) -> u8
-    // 0, 5: the text is in `out`, or that is shorter.
+    // 0, 5: the text is in `out`, or `out` is shorter than it.
     ensures written { IsTextWritten (IsValueAt the_limits.depth document.now pointer.now) result out.old
         out.new report.new }
     // 2, 4: the document's text is none, or memory ran out.

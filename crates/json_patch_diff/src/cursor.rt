@@ -61,7 +61,7 @@ impl<'a> Cursor<'a> {
         }
     }
 
-    /// The same, where the first member may be another.
+    /// The same, where the first member that is left may have another name.
     #[cold]
     #[inline(never)]
     fn find_later(&mut self, name: &str) -> Option<&'a Value>

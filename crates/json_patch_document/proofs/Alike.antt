@@ -9,7 +9,7 @@ use Rattle.json_patch_document.proofs.Members.{tied_same, less_back, below_more,
 pub something : (d : Data) → sight_of d ≡ Sight.nothing → ⊥
 something d h = search rules
 
--- what is seen from what stands below a step
+-- what is seen at R from o, which may be none
 abbrev pub seen : Option Data → List Segment → Sight
 seen o R = sight (option_and_then (λ e. value_at e R) o)
 

@@ -36,7 +36,7 @@ put_without k w ms h is =
     (λ q other. get_member-put_other q k w (without k ms) other ∙ get_without_other q k ms other)
     (get_member-put k w (without k ms) ∙ sym is) (λ i. refl))
 
--- ---- an item
+-- ---- an element
 
 pub remove_insert : (i : ℕ) (v : Data) (ds : Items) → i ≤ items_len ds → remove_item i (insert_item i v ds) ≡ ds
 remove_insert zero v (item d ds) h = refl

@@ -1,4 +1,4 @@
--- What a write to a list or a map of values leaves of its view.
+-- What a write to the `Vec` of an array or the map of an object leaves of its view.
 use Rattle.json_patch_document.proofs.Common.{◌≡◌, ℕ, suc, ◌<◌, ◌≤◌, List, [], ◌∷◌, length, set, Option, Some, Bool, slice_index_or, Ordering, Less, String, Global, cond, is_eq, string_bytes, nat_cmp, refl, ap, arith, rules, slice_cmp, lookup, set_value, remove_entry, keys_of, item, Members, member, put, view, items_view, members_view, Value, Entry, members_view-insert_entry, view-lookup, IsBelowMembers, insert_item, remove_item, set_item, without, insert, AllByRecursion, insert_entry, is_at, match_ordering, string_cmp}
 use Rattle.std.specs.List.{remove}
 use Rattle.std.specs.List.Sorted.{IsStrictlySortedBy}
@@ -13,7 +13,7 @@ is_named name = is_at (λ k. slice_cmp nat_cmp name (string_bytes k))
 abbrev pub AreInOrder : List Entry → Type 0
 AreInOrder es = IsStrictlySortedBy string_cmp (keys_of es)
 
--- ---- lists
+-- ---- arrays
 
 pub items_view-set : (vs : List Value) (i : ℕ) (w : Value) → items_view (set vs i w) ≡ set_item i (view w) (items_view vs)
 items_view-set (v ∷ vs) (suc i) w = ap (item (view v)) (items_view-set vs i w)

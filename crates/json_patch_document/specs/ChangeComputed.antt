@@ -8,7 +8,7 @@ use Rattle.serde_json.specs.Events.{items_len}
 use Rattle.jsonptr.specs.Places.{place_of, next_token}
 use Rattle.json_patch_document.specs.Document.{Segment, key, place, child}
 
--- the items with v before the one at n, or last
+-- the elements with v before the one at n, or last
 abbrev pub insert_item : ℕ → Data → Items → Items
 insert_item n v no_items = item v no_items
 insert_item zero v (item d ds) = item v (item d ds)
@@ -24,7 +24,7 @@ set_item n v no_items = no_items
 set_item zero v (item d ds) = item v ds
 set_item (suc n) v (item d ds) = item d (set_item n v ds)
 
--- the members with none at k
+-- the members without the one of the name k
 abbrev pub without : List ℕ → Members → Members
 without k no_members = no_members
 without k (member l d ms) = match_ordering (slice_cmp nat_cmp k l) (member l d (without k ms)) ms (member l d (without k ms))
@@ -47,7 +47,7 @@ drop_child (key k) (object ms) = object (without k ms)
 drop_child (place i) (array ds) = array (remove_item i ds)
 drop_child s d = d
 
--- the place at which a token puts a new item among n
+-- the index at which a token puts a new element among n
 abbrev pub slot_in : List ℕ → ℕ → Option ℕ
 slot_in t n = if bytes_eq t next_token then Some n else option_and_then (λ i. if nat_le i n then Some i else None) (place_of t)
 
@@ -67,7 +67,7 @@ abbrev pub pointee : Data → List (List ℕ) → Option Data
 pointee d [] = Some d
 pointee d (t ∷ P) = option_and_then (λ s. option_and_then (λ c. pointee c P) (child s d)) (segment_of d t)
 
--- the document with f of what stands at a pointer
+-- the document after f changed what stands at a pointer
 abbrev pub after_change : (Data → Option Data) → Data → List (List ℕ) → Option Data
 after_change f d [] = f d
 after_change f d (t ∷ P) = option_and_then (λ s. option_and_then (λ c. option_map (λ e. set_child s e d) (after_change f c P)) (child s d)) (segment_of d t)

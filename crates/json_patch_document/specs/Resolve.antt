@@ -6,7 +6,7 @@ use Rattle.jsonptr.specs.Text.{Pointer}
 use Rattle.jsonptr.specs.Places.{place_of, next_token}
 use Rattle.json_patch_document.specs.Document.{Segment, key, place, child}
 
--- a token names this step into a document: a member by its name, or an item by its place
+-- a token names this step into a document: a member by its name, or an element by its index
 abbrev pub Names : Data → List ℕ → Segment → Type 0
 Names (object ms) t (key k) = t ≡ k
 Names (array ds) t (place i) = place_of t ≡ Some i
@@ -18,8 +18,8 @@ Resolves d [] [] e = d ≡ e
 Resolves d (t ∷ P) (s ∷ L) e = (c : Data) × Names d t s × (child s d ≡ Some c) × Resolves c P L e
 Resolves d P L e = ⊥
 
--- a token names this step as one at which a value may be put: a member's name, a place that is taken,
--- or the one after the last
+-- a token names this step as one at which a value may be put: a member's name, the index of an element, or
+-- the one after the last
 abbrev pub Aims : Data → List ℕ → Segment → Type 0
 Aims (object ms) t (key k) = t ≡ k
 Aims (array ds) t (place i) = ((place_of t ≡ Some i) × (i ≤ items_len ds)) ⊎ ((t ≡ next_token) × (i ≡ items_len ds))

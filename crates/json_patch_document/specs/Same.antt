@@ -10,8 +10,8 @@ AreSameNumbers (negative y) (negative z) = y ≡ z
 AreSameNumbers (float x) (float y) = Unit {0}
 AreSameNumbers m n = ⊥
 
--- atoms of one kind and value, lists item by item, objects member by member. A `Value` holds its members in the order of
--- their names, and so these are the members of each name (law `same_by_name`)
+-- atoms of one kind and value, arrays element by element, objects member by member. A `Value` holds its
+-- members in the order of their names, and so these are the members of each name (law `same_by_name`)
 abbrev mutual
   pub AreSame : Data → Data → Type 0
   AreSame null null = Unit {0}

@@ -1,4 +1,4 @@
--- What is seen of a document at a location: nothing, an atom, or that a list or an object stands there.
+-- What is seen of a document at a location: nothing, an atom, or that an array or an object stands there.
 use Rattle.std.specs.Prelude.{ℕ, List, Bool}
 use Rattle.serde_json.specs.Data.{Num}
 

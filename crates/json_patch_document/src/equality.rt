@@ -9,8 +9,8 @@ ghost use Rattle.json_patch_document.specs.SameComputed.{same_num, same, same_it
 use serde_json::{Map, Number, Value};
 
 /// Whether two values are equal (RFC 6902, section 4.6): numbers by their value, strings byte by
-/// byte, arrays item by item, and objects by their members, whatever their order. All numbers that
-/// aren't whole count as one value, so this is an equivalence on all values.
+/// byte, arrays element by element, and objects by their members, whatever their order. All numbers
+/// that aren't whole count as one value, so this is an equivalence on all values.
 pub fn same(a: &Value, b: &Value) -> bool
     ensures same { IsTrue result ↔ AreSame (view a.now) (view b.now) }
     ensures documents { IsDocument (view a.now) → (IsTrue result ↔ (view a.now ≡ view b.now)) }

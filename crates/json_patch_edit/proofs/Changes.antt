@@ -72,13 +72,13 @@ added_there d (t ∷ P) v L s hd hv h =
 target_same : (d : Data) (t : List ℕ) (P : List (List ℕ)) (L M : List Segment) (s r : Segment) → HasTarget d (t ∷ P) L s → HasTarget d (t ∷ P) M r → (L ≡ M) × (s ≡ r)
 target_same d t P L M s r h k = grind (arith, common_steps, target, resolves_same, aims_same)
 
--- after the place
+-- after the index
 puts_after : (d e f v : Data) (L : List Segment) (i j : ℕ) (R : List Segment) → PutsAt d e v L (place i) → PutsAt d f v L (place i) → i < j
     → look e (L ++ place j ∷ R) ≡ look f (L ++ place j ∷ R)
 puts_after d e f v L i zero R h g lt = absurd (omega arith)
 puts_after d e f v L i (suc j) R h g lt = let le : i ≤ j = omega arith in h.later j R le ∙ sym (g.later j R le)
 
--- at the place or after
+-- at the index or after it
 puts_from : (d e f v : Data) (L : List Segment) (i j : ℕ) (R : List Segment) → PutsAt d e v L (place i) → PutsAt d f v L (place i) → i ≤ j
     → look e (L ++ place j ∷ R) ≡ look f (L ++ place j ∷ R)
 puts_from d e f v L i j R h g le =

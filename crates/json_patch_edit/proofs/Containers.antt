@@ -22,11 +22,11 @@ refused_attempt r kind wanted d h at none = search rules
 
 -- ---- what an edit makes of a container that holds values, and what it finds there
 
--- the token names the item at i, among so many
+-- the token names the element at i, among so many
 abbrev pub IsItem : List ℕ → ℕ → ℕ → Type 0
 IsItem t len i = (i < len) × (place_of t ≡ Some i)
 
--- the token names no item among so many
+-- the token names no element among so many
 abbrev pub IsNoItem : List ℕ → ℕ → Type 0
 IsNoItem t len = (i : ℕ) → place_of t ≡ Some i → len ≤ i
 
@@ -43,7 +43,7 @@ no_item_at : (o : Option ℕ) (vs : List Value) (h : Segment → Option Data) �
 no_item_at None vs h none past = refl
 no_item_at (Some i) vs h none past = none (place i) (sym (get_item_past vs i (past i refl)))
 
--- where the token names no item, nothing comes of what needs one
+-- where the token names no element, nothing comes of what needs one
 pub no_item : (t : List ℕ) (m : Vec Value Global) (len : ℕ) (h : Segment → Option Data) → ((s : Segment) → child s (array (items_view m.items)) ≡ None → h s ≡ None) → len ≡ vec_len m → IsNoItem t len
     → option_and_then h (segment_of (array (items_view m.items)) t) ≡ None
 no_item t m len h none e past = no_item_at (place_of t) m.items h none (λ i is. (let over : len ≤ i = past i is in omega arith))
@@ -70,7 +70,7 @@ found_member t es o v some is = found_here t (object (members_view es)) (key t) 
 pub found_no_member : (t : List ℕ) (es : List Entry) (o : Option Value) → o ≡ None → o ≡ lookup (is_named t) es → pointee (object (members_view es)) (t ∷ []) ≡ None
 found_no_member t es o none is = no_member t es o (λ s. option_and_then (λ c. Some c) (child s (object (members_view es)))) (λ s h. goes_none (object (members_view es)) (λ r c. Some c) s h) none is
 
--- ---- lists
+-- ---- arrays
 
 pub takes_item : (t : List ℕ) (m : Vec Value Global) (len i : ℕ) (v : Value) → len ≡ vec_len m → IsItem t len i → v ≡ get_or m.items i v → take_from t (array (items_view m.items)) ≡ Some (array (items_view (remove m.items i)))
 takes_item t m len i v e at is = rw (at.1, item_child t m len i v e at is) (ap (λ ds. Some (array ds)) (sym (items_view-remove m.items i (omega arith))))
@@ -79,13 +79,13 @@ pub swaps_item : (t : List ℕ) (m : Vec Value Global) (len i : ℕ) (v w x : Va
     → after_change (λ c. Some (view v)) (array (items_view m.items)) (t ∷ []) ≡ Some (array (items_view (set m.items i w)))
 swaps_item t m len i v w x e at is same = rw (at.1, item_child t m len i x e at is, ← same) (ap (λ ds. Some (array ds)) (sym (items_view-set m.items i w)))
 
--- ---- the item that a token names, and the place at which it puts a new one, by the index that is read of it
+-- ---- the element that a token names, and where it puts a new one, by the index that is read of it
 
 -- a refusal that `?` made of an index's
 pub refused : (r : Result ℕ PatchErrorKind) (P : ℕ → Type 0) (Q : Type 0) → IsErr r × IsErrAnd r (λ kind. kind ≡ InvalidPointer) → Q → MatchResult r P (λ kind. (kind ≡ InvalidPointer) × Q)
 refused r P Q h q = search rules
 
--- ---- items
+-- ---- elements
 
 pub item_outside : (t : List ℕ) (index : Index) (len : ℕ) → IsIndexText t index → len ≤ place_in index len → IsNoItem t len
 item_outside t index len h out = search (rules, next_is_no_place)

@@ -49,7 +49,7 @@ pub fitting_more : (n m : ℕ) (P : Pointer) → n ≤ m → AreFitting n P → 
 fitting_more n m [] le h = tt
 fitting_more n m (t ∷ P) le h = (fits_more n m t le h.0, fitting_more n m P le h.1)
 
--- of the rest of a way, after a name was read
+-- there is room for the rest of a way, after a name was read
 pub fitting_below : (n m : ℕ) (t : List ℕ) (P rest : Pointer) → P ≡ t ∷ rest → n ≤ m → AreFitting n P → AreFitting m rest
 fitting_below n m t P rest way le h = fitting_more n m rest le (rw way at h).1
 
@@ -142,7 +142,7 @@ module _ (t : List ℕ) (es : List Entry) where
   sweeps w x new order is at wrote cleared =
       rw (found_named t es (Some x) is, at, ← cleared) (ap (λ ms. Some (object ms)) (sym (ap members_view wrote ∙ members_view-set_value t es w x order (sym is))))
 
--- ---- items
+-- ---- elements
 
 pub refused_exchange : (r : Result Found StepFault) (kind : PatchErrorKind) (wanted : Option Data) (F : Found → Data → Type 0) (d v : Data) → IsErr r × IsErrAnd r (λ f. f ≡ Refused kind) → kind ≡ InvalidPointer → wanted ≡ None → Exchanges r wanted F d d v v
 refused_exchange r kind wanted F d v h at none = search rules
@@ -150,7 +150,7 @@ refused_exchange r kind wanted F d v h at none = search rules
 at_removed : (m : Vec Value Global) (i : ℕ) (new : List Value) → i < vec_len m → new ≡ remove m.items i → array (remove_item i (items_view m.items)) ≡ array (items_view new)
 at_removed m i new lt is = ap array (sym (ap items_view is ∙ items_view-remove m.items i (omega arith)))
 
--- of the item that the token names, and that is seen
+-- of the element that the token names, and that is seen
 module _ (t : List ℕ) (m : Vec Value Global) (n i : ℕ) (x : Value) (e : n ≡ live m) (within : n ≤ vec_len m) (at : IsItem t n i) (is : x ≡ get_or m.items i x) where
   pub takes_item : (v w : Value) (rest new : List Value) → rest ≡ remove m.items i → new ≡ rest ++ w ∷ [] → w ≡ v
       → (take_marked (view v) t (array (items_view m.items)) ≡ Some (array (items_view new))) × (pointee (array (items_view m.items)) (t ∷ []) ≡ Some (view x))
@@ -176,7 +176,7 @@ module _ (t : List ℕ) (m : Vec Value Global) (n i : ℕ) (x : Value) (e : n �
       at_item_shown t m n i x sweep_child e within at is
       ∙ rw (at_view m.items i x (omega arith) is) (set_there w (seen (view x)) new wrote cleared)
 
--- of the item that the token names, a mark too
+-- of the element that the token names, a mark too
 module _ (t : List ℕ) (m : Vec Value Global) (len i : ℕ) (e : len ≡ vec_len m) (at : IsItem t len i) where
   pub swaps_back_item : (v w x : Value) (new : List Value) → x ≡ get_or m.items i x → new ≡ set m.items i w → w ≡ v
       → (at_child (λ s d. set_child s (view v) d) t (array (items_view m.items)) ≡ Some (array (items_view new))) × (pointee (array (items_view m.items)) (t ∷ []) ≡ Some (view x))
@@ -194,7 +194,7 @@ undoes_insert t m n i x new e within some at is removed = (
 
 -- ---- a mark that goes
 
--- the last item
+-- the last element
 last_view : (vs : List Value) (v : Value) (n : ℕ) → suc n ≡ length vs → v ≡ get_or vs n v → last_item (items_view vs) ≡ Some (view v)
 last_view [] v n e is = absurd (omega arith)
 last_view (x ∷ []) v zero e is = ap (λ y. Some (view y)) (sym is)
@@ -205,7 +205,7 @@ last_view (x ∷ y ∷ vs) v (suc n) e is = last_view (y ∷ vs) v n (omega arit
 one_less : (n : ℕ) → zero < n → suc (n - 1) ≡ n
 one_less n lt = omega arith
 
--- the last item, of a list that is read
+-- the last element, of an array that is read
 last_read : (vs ws : List Value) (v : Value) → ws ≡ vs → zero < length ws → v ≡ get_or ws (length ws - 1) v → last_item (items_view vs) ≡ Some (view v)
 last_read vs ws v same lt is = ap (λ x. last_item (items_view x)) (sym same) ∙ last_view ws v (length ws - 1) (one_less (length ws) lt) is
 

@@ -113,7 +113,7 @@ pub without_put : (k : List ℕ) (v : Data) (ms : Members) → get_member k ms �
 without_put k v no_members is = rw tied refl
 without_put k v (member l d ms) is = without_put_at (slice_cmp nat_cmp k l) k l v d ms refl is (without_put k v ms)
 
--- ---- items
+-- ---- elements
 
 seen_insert_at : (a : Bool) (i : ℕ) (v d : Data) (ds new : Items) → suc i ≤ items_len (item_unless a d ds) → (i ≤ items_len ds → new ≡ insert_item i v ds) → item_unless a d new ≡ insert_item (suc i) v (item_unless a d ds)
 seen_insert_at true i v d ds new le more = absurd (omega arith)
@@ -316,7 +316,7 @@ mutual
   members_seen_marked no_members h = tt
   members_seen_marked (member k d ms) h = member_marked (is_mark d) k (seen d) (seen_members ms) (below_seen k ms h.0) (seen_marked d h.1) (members_seen_marked ms h.2)
 
--- ---- how many items stand before the marks
+-- ---- how many elements stand before the marks
 
 live_to_at : (b : Bool) (j : ℕ) (d : Data) (ds : Items) → items_len ds ≤ j → items_len (item_unless b d ds) ≤ suc j
 live_to_at b j d ds le = search rules
@@ -338,7 +338,7 @@ stands_within j c no_items is = cc
 stands_within zero c (item d ds) is = omega arith
 stands_within (suc j) c (item d ds) is = let h : j < items_len ds = stands_within j c ds is in omega arith
 
--- as far as each item that is no mark
+-- as far as each element that is no mark
 pub live_past : (j : ℕ) (c : Data) (ds : Items) → AreMarkedItems ds → get_item j ds ≡ Some c → is_mark c ≡ false → j < items_len (seen_items ds)
 live_past j c ds h is at = stands_within j (seen c) (seen_items ds) (get_seen_item j ds h ∙ rw (is, at) refl)
 
@@ -348,7 +348,7 @@ at_view vs j v lt is = sym (ap (λ x. Some (view x)) is ∙ get_item_within vs j
 live_most : (b : Bool) (d : Data) (ds : Items) (n : ℕ) → items_len ds ≤ n → items_len (item_unless b d ds) ≤ suc n
 live_most b d ds n le = search rules
 
--- no more than there are items
+-- no more than there are elements
 pub live_within : (ds : Items) → items_len (seen_items ds) ≤ items_len ds
 live_within no_items = search rules
 live_within (item d ds) = live_most (is_mark d) (seen d) (seen_items ds) (items_len ds) (live_within ds)
@@ -356,7 +356,7 @@ live_within (item d ds) = live_most (is_mark d) (seen d) (seen_items ds) (items_
 pub live_within_view : (vs : List Value) → items_len (seen_items (items_view vs)) ≤ length vs
 live_within_view vs = let e : items_len (items_view vs) ≡ length vs = items_len-items_view vs in omega (arith, live_within (items_view vs))
 
--- where the last item is no mark, all are seen
+-- where the last element is no mark, all are seen
 pub live_whole : (vs ws : List Value) (v : Value) → AreMarkedItems (items_view vs) → ws ≡ vs → zero < length ws → v ≡ get_or ws (length ws - 1) v → is_mark (view v) ≡ false → length vs ≡ items_len (seen_items (items_view vs))
 live_whole vs ws v h same some is at =
     let n : length ws ≡ length vs = ap length same in

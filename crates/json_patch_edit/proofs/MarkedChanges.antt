@@ -226,7 +226,7 @@ len_inserted i v ds le = search rules
 live_inserted : (i : ℕ) (v : Data) (ds : Items) → is_mark v ≡ false → i ≤ items_len (seen_items ds) → items_len (seen_items (insert_item i v ds)) ≡ suc (items_len (seen_items ds))
 live_inserted i v ds hv le = ap items_len (seen_insert i v ds hv le) ∙ len_inserted i (seen v) (seen_items ds) le
 
--- an item that was put in goes, by the token that put it there
+-- an element that was put in goes, by the token that put it there
 insert_item_back : (v w : Data) (t : List ℕ) (ds : Items) (q : Data) → is_mark v ≡ false → insert_marked v t (array ds) ≡ Some q → undone Nothing w t q ≡ Some (array ds)
 insert_item_back v w t ds q hv is =
     option_map_some _ (slot_in t (items_len (seen_items ds))) q is (λ i slot whole.
@@ -246,7 +246,7 @@ get_pushed (suc i) m no_items le = absurd (omega arith)
 get_pushed zero m (item d ds) le = (d, refl)
 get_pushed (suc i) m (item d ds) le = get_pushed i m ds (omega arith)
 
--- an item that was taken is put back, and the mark goes
+-- an element that was taken is put back, and the mark goes
 take_back : (s : Segment) (m w : Data) (t : List ℕ) (p : Data) → IsMarked p → segment_of p t ≡ Some s → child s p ≡ Some w → undone Taken w t (mark_child m s p) ≡ Some p
 take_back (key k) m w t (object ms) hp named is = swap_back (key k) t m w (object ms) hp named is
 take_back (place i) m w t (array ds) hp named is =

@@ -16,11 +16,11 @@ use Rattle.json_patch_edit.specs.Marked.{clear_upto, seen_members, member_unless
 use Rattle.json_patch_edit.specs.Marked.{pop_item, IsMarked, is_mark, shown, item_unless, seen, seen_items, AreMarkedItems}
 use Rattle.json_patch_edit.specs.Marked.{push_item, at_shown, insert_marked}
 
--- how many items stand before the marks
+-- how many elements stand before the marks
 abbrev pub live : Vec Value Global → ℕ
 live m = items_len (seen_items (items_view m.items))
 
--- ---- items
+-- ---- elements
 
 first_shown : (b : Bool) (d e : Data) (ds : Items) → zero < items_len (item_unless b d ds) → (if b then None else Some e) ≡ Some e
 first_shown true d e ds lt = absurd (omega arith)
@@ -35,7 +35,7 @@ live_shown i no_items lt = refl
 live_shown zero (item d ds) lt = first_shown (is_mark d) (seen d) d (seen_items ds) lt
 live_shown (suc i) (item d ds) lt = live_shown i ds (later_within (is_mark d) i (seen d) (seen_items ds) lt)
 
--- of the item that the token names
+-- of the element that the token names
 pub at_item_shown : (t : List ℕ) (m : Vec Value Global) (n i : ℕ) (v : Value) (h : Segment → Data → Data) → n ≡ live m → n ≤ vec_len m → IsItem t n i → v ≡ get_or m.items i v
     → at_shown h t (array (items_view m.items)) ≡ Some (h (place i) (array (items_view m.items)))
 at_item_shown t m n i v h e within at is =
@@ -137,7 +137,7 @@ retained_seen T each f (e ∷ es) kept h =
     let told = each f e.0 e.1 h.0 h.1 h.2 h.4 in
     ap members_view h.6 ∙ ap (λ b. members_view (cond b ((e.0, h.1) ∷ h.3) h.3)) told.0 ∙ kept_view (is_mark (view e.1)) e.0 h.1 e.1 h.3 (seen_members (members_view es)) told.1 (retained_seen T each h.2 es h.3 h.5)
 
--- ---- the items, cleared one by one
+-- ---- the elements, cleared one by one
 
 pub entry_depth : (before after es : List Entry) (k : String Global) (v : Value) → es ≡ before ++ (k, v) ∷ after → depth (view v) ≤ members_depth (members_view es)
 entry_depth [] after es k v is = rw is (omega arith)
@@ -164,7 +164,7 @@ taken_depth zero vs = omega arith
 taken_depth (suc n) [] = omega arith
 taken_depth (suc n) (v ∷ vs) = let more : items_depth (items_view (take n vs)) ≤ items_depth (items_view vs) = taken_depth n vs in omega arith
 
--- the item at i, which isn't cleared yet
+-- the element at i, which isn't cleared yet
 unvisited : (i n : ℕ) (vs now : List Value) (v : Value) → items_view now ≡ clear_upto i (items_view (take n vs)) → i < length now → v ≡ get_or now i v → get_item i (items_view (take n vs)) ≡ Some (view v)
 unvisited i n vs now v kept lt is = sym (get_upto i (items_view (take n vs))) ∙ ap (get_item i) (sym kept) ∙ at_view now i v lt is
 

@@ -61,7 +61,7 @@ last_to_is i n k xs ys front pieces after y h e ek f p a x =
     ∙ ap (λ (m : ℕ). take i (ys ++ y ∷ []) ++ (drop m (drop i (ys ++ y ∷ [])) ++ take m (drop i (ys ++ y ∷ [])))) less
     ∙ last-goes i ys y le
 
--- ---- a Vec of n items, all written anew
+-- ---- a Vec of n elements, all written anew
 same-long : {X : Type 0} (n : ℕ) (ws xs : List X) → length ws ≡ n → take n (ws ++ drop (length ws) xs) ≡ ws
 same-long n ws xs e = subst (λ (m : ℕ). take m (ws ++ drop (length ws) xs) ≡ ws) e (take-append_seam ws (drop (length ws) xs))
 

@@ -41,13 +41,13 @@ abbrev pub if_mark : Option Data → Data → Option Data
 if_mark None d = None
 if_mark (Some c) d = if is_mark c then Some d else None
 
--- without the mark that is the member, or one at the end of the list
+-- the container without the mark that is the member, or without one at the end of the array
 abbrev pub clear_in : List ℕ → Data → Option Data
 clear_in t (array ds) = if_mark (last_item ds) (array (pop_item ds))
 clear_in t (object ms) = if_mark (get_member t ms) (object (without t ms))
 clear_in t d = None
 
--- with what is seen of the child
+-- the container with what is seen of the child in its place
 abbrev pub sweep_child : Segment → Data → Data
 sweep_child s d = unwrap_or (option_map (λ c. set_child s (seen c) d) (child s d)) d
 
@@ -63,7 +63,7 @@ made (Undo found) v t d = undone found v t d
 made Clear v t d = clear_in t d
 made Sweep v t d = sweep_in t d
 
--- what it finds there, and its caller gets
+-- what the edit finds at the token t of d, with the value w for its caller
 abbrev pub Finds : Edit → List ℕ → Data → Found → Data → Type 0
 Finds Insert t (array ds) Nothing w = Unit {0}
 Finds Insert t (object ms) Nothing w = pointee (object ms) (t ∷ []) ≡ None

@@ -9,7 +9,7 @@ use Rattle.json_patch_operation.specs.declared.error.PatchErrorKind.{PatchErrorK
 use Rattle.json_patch_document.specs.ChangeComputed.{after_remove, pointee, front_of, last_of}
 use Rattle.json_patch_edit.specs.RunComputed.{after_step}
 
--- a last token `-` written as the number of its target, where the parent is a list
+-- a last token `-` written as the index of its target, where the parent is an array
 abbrev pub settled_token : Option Data → List ℕ → List ℕ
 settled_token (Some (array ds)) t = if bytes_eq t next_token then decimal_token (items_len ds) else t
 settled_token o t = t

@@ -30,7 +30,7 @@ abbrev pub item_unless : Bool → Data → Items → Items
 item_unless true d ds = no_items
 item_unless false d ds = item d ds
 
--- what a marked document stands for: without the members that are marks, and without the items from the first mark on
+-- what a marked document stands for: it has no member that is a mark, and no element from the first mark on
 abbrev mutual
   pub seen : Data → Data
   seen null = null
@@ -52,7 +52,7 @@ abbrev pub AreMarks : Items → Type 0
 AreMarks no_items = Unit {0}
 AreMarks (item d ds) = (is_mark d ≡ true) × AreMarks ds
 
--- in each object each name once, in byte order, and in each list the marks last
+-- in each object each name once, in byte order, and in each array the marks last
 abbrev mutual
   pub IsMarked : Data → Type 0
   IsMarked null = Unit {0}
@@ -91,7 +91,7 @@ pop_item no_items = no_items
 pop_item (item d no_items) = no_items
 pop_item (item d (item e ds)) = item d (pop_item (item e ds))
 
--- a mark in the child's place: an item goes, and the mark is put last
+-- a mark in the child's place: an element goes, and the mark is put last
 abbrev pub mark_child : Data → Segment → Data → Data
 mark_child m (key k) (object ms) = object (put k m ms)
 mark_child m (place i) (array ds) = array (push_item m (remove_item i ds))
@@ -122,20 +122,20 @@ restore_child w (key k) (object ms) = object (put k w ms)
 restore_child w (place i) (array ds) = array (insert_item i w (pop_item ds))
 restore_child w s d = d
 
--- where a token put a new item, now that there are n
+-- where a token put a new element, now that there are n
 abbrev pub undo_slot : List ℕ → ℕ → Option ℕ
 undo_slot t zero = None
 undo_slot t (suc n) = slot_in t n
 
 -- ---- results
 
--- both are there, and related, or neither is
+-- both are there, and R holds of them, or neither is there
 abbrev pub Corresponds : (Data → Data → Type 0) → Option Data → Option Data → Type 0
 Corresponds R None None = Unit {0}
 Corresponds R (Some q) (Some e) = R q e
 Corresponds R o p = ⊥
 
--- the items, the first n of which are seen
+-- the elements, each of the first n as it is seen
 abbrev pub clear_upto : ℕ → Items → Items
 clear_upto n no_items = no_items
 clear_upto zero (item d ds) = item d ds

@@ -21,27 +21,27 @@ Suits Remove v = Unit {0}
 Suits Swap v = IsValue v
 Suits edit v = ⊥
 
--- what it found undoes it
+-- what the edit found undoes it
 abbrev pub IsReversible : Edit → Data → Type 0
 IsReversible Insert v = is_mark v ≡ false
 IsReversible Take v = Unit {0}
 IsReversible Swap v = Unit {0}
 IsReversible edit v = ⊥
 
--- it takes a value away
+-- the edit takes a value away
 abbrev pub IsTaking : Edit → Type 0
 IsTaking Take = Unit {0}
 IsTaking Remove = Unit {0}
 IsTaking edit = ⊥
 
--- it wants a value at its place
+-- the edit wants a value at its place
 abbrev pub WantsValue : Edit → Type 0
 WantsValue Take = Unit {0}
 WantsValue Remove = Unit {0}
 WantsValue Swap = Unit {0}
 WantsValue edit = ⊥
 
--- it changes marks alone
+-- the edit changes marks alone
 abbrev pub IsUnseen : Edit → Type 0
 IsUnseen Clear = Unit {0}
 IsUnseen Sweep = Unit {0}
@@ -99,7 +99,7 @@ abbrev pub put_marks : Edit → Data → ℕ
 put_marks Remove v = 0
 put_marks edit v = marks v
 
--- how many items a list has
+-- how many elements an array has
 abbrev pub count_in : Option Data → Option ℕ
 count_in (Some (array ds)) = Some (items_len ds)
 count_in d = None

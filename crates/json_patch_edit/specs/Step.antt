@@ -9,7 +9,7 @@ use Rattle.json_patch_operation.specs.declared.error.PatchErrorKind.{PatchErrorK
 use Rattle.json_patch_operation.specs.declared.error.PatchErrorKind.TheVariants.{TestFailed, InvalidFromPointer, InvalidPointer}
 use Rattle.json_patch_operation.specs.declared.error.PatchErrorKind.TheVariants.{CannotMoveInsideItself}
 
--- nothing is related so
+-- R holds of no e
 abbrev pub Never : (Data → Type 0) → Type 0
 Never R = (e : Data) → R e → ⊥
 

@@ -27,7 +27,7 @@ use std::mem;
 /// An edit at one place. It exchanges what stands there and a value of its caller's.
 #[derive(Clone, Copy)]
 pub enum Edit {
-    /// Puts the value there: as a new member, in a member's place, or as a new item.
+    /// Puts the value there: as a new member, in a member's place, or as a new element.
     Insert,
     /// Takes away what stands there and leaves a mark, which is the caller's value.
     Take,
@@ -46,7 +46,7 @@ pub enum Edit {
 /// What an edit found at its place. Its caller has the value.
 #[derive(Clone, Copy)]
 pub enum Found {
-    /// No value: a member is new there, or an item, before those that stood there.
+    /// No value: a member is new there, or an element, before those that stood there.
     Nothing,
     /// The value, or the mark, in whose place another stands now.
     Former,
@@ -464,7 +464,7 @@ fn insert_item(
     }
 }
 
-/// The mark goes to the end of the array, where the item left room.
+/// The mark goes to the end of the array, where the element left room.
 fn take_item(
     items: &mut Vec<Value>,
     token: Token<'_>,
@@ -514,7 +514,7 @@ fn swap_item(
     Ok(Found::Former)
 }
 
-/// Takes out the item that was put in at the token: of `-`, the last one.
+/// Takes out the element that was put in at the token: of `-`, the last one.
 fn undo_insert(
     items: &mut Vec<Value>,
     token: Token<'_>,
@@ -551,7 +551,7 @@ fn undo_swap(
     Ok(Found::Former)
 }
 
-/// Puts the item back in its place; the mark at the end goes.
+/// Puts the element back in its place; the mark at the end goes.
 fn undo_take(
     items: &mut Vec<Value>,
     token: Token<'_>,
@@ -574,7 +574,7 @@ fn undo_take(
     Ok(Found::Nothing)
 }
 
-/// Takes away the last item, where that is a mark.
+/// Takes away the last element, where that is a mark.
 fn clear_last(items: &mut Vec<Value>, value: &mut Value) -> Result<Found, StepFault>
     ensures makes { (t : List ℕ) → ExchangesIn result Clear t
         (array (items_view items.old.items)) (array (items_view items.new.items))

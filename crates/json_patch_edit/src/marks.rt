@@ -27,7 +27,7 @@ pub fn mark() -> Value
     Value::from(0.5)
 }
 
-/// How many items stand before the marks at the end.
+/// How many elements stand before the marks at the end.
 pub fn live_count(items: &Vec<Value>) -> usize
     requires { AreMarkedItems (items_view items.now.items) }
     ensures count { result ≡ items_len (seen_items (items_view items.now.items)) }
@@ -81,7 +81,7 @@ fn clear_members(members: &mut Map<String, Value>)
     );
 }
 
-/// How many items stand before the first mark.
+/// How many elements stand before the first mark.
 fn first_mark(items: &Vec<Value>) -> usize
     ensures count { result ≡ items_len (seen_items (items_view items.now.items)) }
     ensures within { result ≤ vec_len items.now }

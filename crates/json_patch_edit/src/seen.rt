@@ -27,7 +27,7 @@ pub fn find_shown<'v>(document: &'v Value, tokens: Tokens<'_>) -> Option<&'v Val
     Some(place)
 }
 
-/// How many items are seen of the array to which the tokens lead, where it is one. It takes no
+/// How many elements are seen of the array to which the tokens lead, where it is one. It takes no
 /// memory.
 pub fn count_shown(document: &Value, tokens: Tokens<'_>) -> Option<usize>
     requires { IsValue (view document.now) }

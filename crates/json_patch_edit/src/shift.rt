@@ -1,10 +1,10 @@
-//! An insert and a removal in a `Vec`, in which the items behind it move whole.
+//! An insert and a removal in a `Vec`, in which the elements behind it move whole.
 //!
-//! `Vec::insert` and `Vec::remove` move an item part by part, so that what lies between the parts
-//! stays, and that is no copy of a run of bytes. An array of one item is moved whole: so the items
-//! are shown as such arrays, and those are turned by one place. LLVM makes one `memmove` of an
-//! insert, and of a removal a loop of 16 bytes. Nothing here knows the items' type, which is neither
-//! `Copy` nor `Drop`: no item is made, let go or in two places.
+//! `Vec::insert` and `Vec::remove` move an element part by part, without the padding between the
+//! parts, and that is no copy of a run of bytes. A `[T; 1]` is moved whole: so the elements are
+//! shown as such arrays of one, and those are turned by one place. LLVM makes one `memmove` of an
+//! insert, and of a removal a loop of 16 bytes. Nothing here knows the elements' type, which is
+//! neither `Copy` nor `Drop`: no element is made, let go or in two places.
 
 ghost use Rattle.std.specs.Prelude.{◌≡◌, ◌+◌, ◌*◌, ◌<◌, ◌≤◌, [], ◌∷◌, ◌++◌, length, take, drop, is_ok, IfErr, IsOk, if◌then◌else◌, vec_len, vec_capacity, slice_index_or, List};
 ghost use Rattle.std.specs.Borrow.{sem, LendsBoth, Array};
@@ -14,8 +14,8 @@ ghost use Rattle.std.specs.Simd.{first_chunks};
 use std::alloc::AllocFailed;
 use std::slice::from_raw_parts_mut;
 
-/// The item goes to the place `index`, and those from there on go up by one place. Room for it is
-/// asked for first: without, nothing has moved, and the item comes back.
+/// The element goes to `index`, and those from there on go up by one. Room for it is asked for
+/// first: without, nothing has moved, and the element comes back.
 pub(crate) fn insert_at<T>(items: &mut Vec<T>, index: usize, item: T) -> Result<(), AllocFailed<T>>
     requires { index ≤ vec_len items.old }
     ensures items { items.new.items ≡
@@ -28,7 +28,7 @@ pub(crate) fn insert_at<T>(items: &mut Vec<T>, index: usize, item: T) -> Result<
     Ok(())
 }
 
-/// Takes the item out, and those behind it go down by one place. The room stays.
+/// Takes the element out, and those behind it go down by one. The room stays.
 #[tactic(auto, using(crate::proofs::Singles::removed_is))]
 pub(crate) fn remove_at<T>(items: &mut Vec<T>, index: usize) -> T
     requires { index < vec_len items.old }
@@ -40,7 +40,7 @@ pub(crate) fn remove_at<T>(items: &mut Vec<T>, index: usize) -> T
     items.take_last()
 }
 
-/// The last item goes to the place `at`, and those from there on go up by one place.
+/// The last element goes to `at`, and those from there on go up by one.
 #[tactic(auto, using(crate::proofs::Singles::last_to_is))]
 fn last_to<T>(items: &mut [T], at: usize)
     requires { at < length items.old }
@@ -52,7 +52,7 @@ fn last_to<T>(items: &mut [T], at: usize)
     singles.rotate_right(1);
 }
 
-/// The item at the place `at` goes to the end, and those behind it go down by one place.
+/// The element at `at` goes to the end, and those behind it go down by one.
 #[tactic(auto, using(crate::proofs::Singles::to_last_is))]
 fn to_last<T>(items: &mut [T], at: usize)
     requires { at < length items.old }
@@ -64,9 +64,9 @@ fn to_last<T>(items: &mut [T], at: usize)
     singles.rotate_left(1);
 }
 
-/// The slice in two parts: its first `mid` items, and the `count` others as arrays of one, in their
+/// The slice in two parts: its first `mid` elements, and the `count` others as arrays of one, in
 /// order. What the two parts end as, one behind the other, is what the slice ends as. Such an array
-/// has its item's size and place, so the cast changes no address; the parts don't overlap.
+/// has its element's size and place, so the cast changes no address; the parts don't overlap.
 fn singles_mut<T>(items: &mut [T], mid: usize, count: usize) -> (&mut [T], &mut [[T; 1]])
     requires { mid + count ≡ length items.old }
     ensures* writes_back { sem 𝓛 (LendsBoth (Array T.row 0) (Array T.row 0) (Array (Array T.row 1) 0)

@@ -42,7 +42,7 @@ pub fn find<'v>(document: &'v Value, tokens: Tokens<'_>) -> Option<&'v Value>
     Some(place)
 }
 
-/// The member or the item that the token names.
+/// The member or the element that the token names.
 fn child_of<'v>(container: &'v Value, token: Token<'_>) -> Option<&'v Value>
     ensures { option_map (λ v. view v.now) result
         ≡ pointee (view container.now) (token_of token.entry ∷ []) }
@@ -75,7 +75,7 @@ fn member_of<'v>(members: &'v Map<String, Value>, token: Token<'_>) -> Option<&'
     None
 }
 
-/// The index of the item that a token names, among so many.
+/// The index of the element that a token names, among so many.
 #[tactic(auto, using(crate::proofs::Containers::refused, crate::proofs::Containers::item_outside))]
 pub fn item_index(token: Token<'_>, len: usize) -> Result<usize, PatchErrorKind>
     ensures { MatchResult result
@@ -86,7 +86,7 @@ pub fn item_index(token: Token<'_>, len: usize) -> Result<usize, PatchErrorKind>
     Ok(token.to_index()?.for_len(len)?)
 }
 
-/// The index at which a token puts a new item, among so many: that of one, or the one after the last.
+/// The index at which a token puts a new element, among so many: at most the one after the last.
 pub fn slot_index(token: Token<'_>, len: usize) -> Result<usize, PatchErrorKind>
     ensures { MatchResult result
         (λ i. (i ≤ len) × (slot_in (token_of token.entry) len ≡ Some i))

@@ -9,11 +9,10 @@ ghost use Rattle.json_patch_editor.specs.Commands.{RepliesInTurn, accepted, appl
 ghost use Rattle.json_patch_editor.specs.Shown.{versions};
 ghost use Rattle.json_patch_editor.specs.Versions.{initial};
 
-use json_patch::{Patch, PatchFault};
+use json_patch::{Fault, Patch, PatchFault};
 use json_patch_editor::{Editor, laws};
 use serde_json::Value;
 use std::alloc::Global;
-use std::test::Fail;
 
 /// Makes the change, takes it back, looks for more to take back, and makes the change again.
 fn back_and_on(alloc: Global, document: Value, changes: &Patch) -> Result<Editor, PatchFault>
@@ -32,12 +31,11 @@ fn back_and_on(alloc: Global, document: Value, changes: &Patch) -> Result<Editor
     Ok(editor)
 }
 
-#[test]
-fn a_change_is_made_again(rt: HostRuntime) -> Result<(), Fail> {
-    let alloc = rt.alloc();
-    let value = Value::from_str(alloc, r#"[{"op":"replace","path":"","value":1}]"#)?;
-    let changes = Patch::from_value(alloc, &value).expect(&rt, "a patch");
-    let editor = back_and_on(alloc, Value::Null, &changes).expect(&rt, "an accepted patch");
-    assert_eq!(rt; editor.document().to_string(alloc)?.as_str(), "1");
-    Ok(())
+/// The document that is left, and how many changes can be taken back and made again.
+pub(crate) fn answer(alloc: Global, changes: &Patch) -> Result<String, Fault>
+    requires { AreWhole (operations_of changes.now) }
+{
+    let editor = back_and_on(alloc, Value::Null, changes)?;
+    let (undos, redos) = (editor.undos(), editor.redos());
+    Ok(format!(in alloc; "{}, undos {undos}, redos {redos}", editor.document())?)
 }

@@ -10,7 +10,7 @@ ghost use Rattle.json_patch.specs.OverLimits.{size};
 ghost use Rattle.json_patch.specs.Run.{Accepts};
 ghost use Rattle.json_patch.specs.Texts.{BytesSayDocument};
 
-mod tests;
+pub(crate) mod rows;
 
 use json_patch::jsonptr::{ParseError, Pointer, PointerBuf};
 use json_patch::{

@@ -1,4 +1,4 @@
--- Pointers that diverge are not enough where a list grows.
+-- Pointers that diverge are not enough where an array grows.
 use Rattle.json_patch_laws.proofs.Common.{◌≡◌, [], ◌∷◌, ◌++◌, ap, Bool, true, false, bytes_eq, sym, ◌∙◌, IsDocument}
 use Rattle.json_patch_laws.proofs.Common.{IsWholeOp, path_of, Accepts, Ok, Err, Data, array, item, no_items, null, refl}
 use Rattle.json_patch_laws.proofs.Common.{Operation, add, replace, InvalidPointer, fault, after_run, next_token, Pointer}
@@ -10,7 +10,7 @@ use Rattle.json_patch_laws.proofs.ApartRuns.{not_both_ends}
 abbrev at_0 : Pointer
 at_0 = (48 ∷ []) ∷ []
 
--- `add /-` and then `replace /0`, on an empty list, and the other way round
+-- `add /-` and then `replace /0`, on an empty array, and the other way round
 put_last : after_run (array no_items) (add (next_token ∷ []) null ∷ replace at_0 null ∷ []) ≡ Ok (array (item null no_items))
 unfolding place_of
 put_last = refl

@@ -61,7 +61,7 @@ altered_acts f P keep = record {
   );
 }
 
--- ---- a member put or taken out, by a token that names no place
+-- ---- a member put or taken out, by a token that names no index
 
 not_both : (a b : Bool) → a || b ≡ false → (a ≡ false) × (b ≡ false)
 not_both a b h = search rules

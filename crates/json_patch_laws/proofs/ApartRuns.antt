@@ -12,7 +12,8 @@ use Rattle.json_patch_apart.proofs.Divergence.{diverge_back, diverges_nil, diver
 
 -- ---- the two orders of two parts of a run
 
--- accepted both, they lead to one document in either order; accepted the one, it does not turn the other's refusal
+-- where both are accepted, either order leads to one document; where one alone is, the other is refused after
+-- it as it is without it
 abbrev pub Meets : {A B : Type 0} → (Data → Result Data A) → (Data → Result Data B) → Result Data A → Result Data B → Type 0
 Meets F G (Ok m) (Ok n) = (e : Data) × (G m ≡ Ok e) × (F n ≡ Ok e)
 Meets F G (Ok m) (Err k) = G m ≡ Err k
@@ -31,7 +32,7 @@ back_at F G (Err j) (Err k) h = tt
 pub swaps_back : {A B : Type 0} (F : Data → Result Data A) (G : Data → Result Data B) → Swaps F G → Swaps G F
 swaps_back F G h d hd = back_at F G (F d) (G d) (h d hd)
 
--- what an arrow with the same outcome on d, and on what G leaves of d, has
+-- this holds of E where it holds of F, which has the same outcome on d and on what G leaves of d
 meets_like : {A B : Type 0} (E F : Data → Result Data A) (G : Data → Result Data B) (d : Data) (a : Result Data A) (b : Result Data B) → G d ≡ b → ((n : Data) → G d ≡ Ok n → E n ≡ F n) → Meets F G a b → Meets E G a b
 meets_like E F G d (Ok m) (Ok n) gb like h = (h.0, h.1, like n gb ∙ h.2)
 meets_like E F G d (Ok m) (Err k) gb like h = h
@@ -49,7 +50,7 @@ idle_meets : (A : Type 0) {B : Type 0} (d : Data) (G : Data → Result Data B) (
 idle_meets A d G (Ok n) is = (n, is, refl)
 idle_meets A d G (Err j) is = is
 
--- first F, then E, with the kinds of F's refusals as f has them
+-- E on what the first part left; a refusal of the first part is passed on by f
 abbrev pub chain : {A C : Type 0} → (A → C) → Result Data A → (Data → Result Data C) → Result Data C
 chain f (Ok m) E = E m
 chain f (Err k) E = Err (f k)
@@ -281,13 +282,13 @@ module _ (d : Data) (xs ys : List Operation) (hd : IsDocument d) (hx : AreWhole 
   meet : (o p : Outcome) → after_run d xs ≡ o → after_run d ys ≡ p → Meets (λ z. after_run z xs) (λ z. after_run z ys) o p
   meet o p is at = subst (λ o. Meets (λ z. after_run z xs) (λ z. after_run z ys) o p) is (subst (Meets (λ z. after_run z xs) (λ z. after_run z ys) (after_run d xs)) at (runs_swap xs ys hx hy a d hd))
 
-  -- accepted both on the document, each is on what the other leaves, and they lead to one end
+  -- where both are accepted on the document, each is on what the other leaves, and they lead to one end
   pub both_ways : (m n : Data) → Accepts d xs m → Accepts d ys n → (e : Data) × Accepts m ys e × Accepts n xs e
   both_ways m n h g =
       let c : (e : Data) × (after_run m ys ≡ Ok e) × (after_run n xs ≡ Ok e) = meet (Ok m) (Ok n) (accepts_ran d xs m hd hx h) (accepts_ran d ys n hd hy g) in
       (c.0, ran_accepts m ys c.0 (accepts_document d xs m hd hx h) hy c.1, ran_accepts n xs c.0 (accepts_document d ys n hd hy g) hx c.2)
 
-  -- accepted after the other list, a list is accepted without it
+  -- a list that is accepted after the other is accepted without it
   pub alone : (m e : Data) → Accepts d xs m → Accepts m ys e → (n : Data) × Accepts d ys n × Accepts n xs e
   alone m e h g = on (after_run d ys) refl
     where

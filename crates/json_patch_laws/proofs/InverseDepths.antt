@@ -1,6 +1,6 @@
 -- How deep the values are that an inverse holds, and how deep a patch is as a value.
 use Rattle.json_patch_laws.proofs.Common.{◌≡◌, ◌≤◌, ◌+◌, List, [], ◌∷◌, ◌++◌, length, Option, Some, None, refl, sym, subst, arith, ℕ, suc, option_map}
-use Rattle.json_patch_laws.proofs.Common.{Data, array, Pointer, IsDocument, Operation, add, remove, replace, move, copy, test, AreWhole, Accepts, IsInverse}
+use Rattle.json_patch_laws.proofs.Common.{Bool, Data, array, Pointer, IsDocument, Operation, add, remove, replace, move, copy, test, AreWhole, Accepts, IsInverse}
 use Rattle.json_patch_laws.proofs.Common.{pointee, after_remove, front_of, last_of, undo_in, undo_add, undo_at, with_found, block, inverse}
 use Rattle.std.specs.Prelude.{map}
 use Rattle.serde_json.specs.Data.{depth, items_depth, members_depth}
@@ -13,7 +13,7 @@ use Rattle.json_patch_edit.proofs.StepOutcomes.{leaves_document}
 use Rattle.json_patch_laws.proofs.Blocks.{inverse_accepted, inverse_only, inverse_step}
 use Rattle.json_patch_laws.proofs.LimitedRuns.{never_rest, under_first}
 use Rattle.json_patch_limits.proofs.Depths.{found_depth, remove_depth_at, step_depth}
-use Rattle.json_patch_limits.specs.OverLimits.{AreShallow, IsNeverOver, IsUnder, left_of, levels_of}
+use Rattle.json_patch_limits.specs.OverLimits.{AreShallow, IsUnder, NeverOver, left_of, levels_of}
 use Rattle.json_patch_limits.specs.OverLimitsComputed.{over}
 use Rattle.json_patch_limits.specs.declared.limits.Limits.{Limits}
 
@@ -61,21 +61,21 @@ joined_shallow : (b : ℕ) (xs ys : List Operation) → AreShallow b xs → AreS
 joined_shallow b [] ys h g = g
 joined_shallow b (op ∷ xs) ys h g = (h.0, joined_shallow b xs ys h.1 g)
 
-computed_shallow : (l : Limits) (d : Data) (ops : List Operation) (e : Data) → IsDocument d → AreWhole ops → IsNeverOver l d ops → depth d ≤ l.depth → Accepts d ops e → AreShallow l.depth (inverse d ops)
-computed_shallow l d [] e hd hv never h run = tt
-computed_shallow l d (op ∷ ops) e hd hv never h run =
-    let under : IsUnder l d op = under_first l d op ops never (over l d op) refl in
+computed_shallow : (b : Bool) (l : Limits) (d : Data) (ops : List Operation) (e : Data) → IsDocument d → AreWhole ops → NeverOver b l d ops → depth d ≤ l.depth → Accepts d ops e → AreShallow l.depth (inverse d ops)
+computed_shallow b l d [] e hd hv never h run = tt
+computed_shallow b l d (op ∷ ops) e hd hv never h run =
+    let under : IsUnder b l d op = under_first b l d op ops never (over b l d op) refl in
     let hm : IsDocument run.0 = leaves_document d op run.0 hd hv.0 run.1 in
     subst (AreShallow l.depth) (sym (inverse_step d op ops run.0 hd hv.0 run.1))
     (joined_shallow l.depth (inverse run.0 ops) (block d op)
-    (computed_shallow (left_of l d op) run.0 ops e hm hv.1 (never_rest l d op ops run.0 never run.1) (step_depth d op run.0 l.depth hd hv.0 run.1 h under.0) run.2)
+    (computed_shallow b (left_of b l d op) run.0 ops e hm hv.1 (never_rest b l d op ops run.0 never run.1) (step_depth d op run.0 l.depth hd hv.0 run.1 h under.0) run.2)
     (block_shallow d op l.depth h))
 
 -- no value of an inverse is deeper than the limit
-pub inverse_shallow : (l : Limits) (d : Data) (ops I : List Operation) → IsDocument d → AreWhole ops → IsNeverOver l d ops → depth d ≤ l.depth → IsInverse d ops I → AreShallow l.depth I
-inverse_shallow l d ops I hd hv never h is =
+pub inverse_shallow : (b : Bool) (l : Limits) (d : Data) (ops I : List Operation) → IsDocument d → AreWhole ops → NeverOver b l d ops → depth d ≤ l.depth → IsInverse d ops I → AreShallow l.depth I
+inverse_shallow b l d ops I hd hv never h is =
     let run = inverse_accepted d ops I is in
-    subst (AreShallow l.depth) (sym (inverse_only d ops I hd hv is)) (computed_shallow l d ops run.0 hd hv never h run.1)
+    subst (AreShallow l.depth) (sym (inverse_only d ops I hd hv is)) (computed_shallow b l d ops run.0 hd hv never h run.1)
 
 -- ---- as a value
 

@@ -1,4 +1,4 @@
--- An inverse holds `add`, `remove` and `replace` alone, and no `-` for a place in a list.
+-- An inverse holds `add`, `remove` and `replace` alone, and no `-` for an index of an array.
 use Rattle.json_patch_laws.proofs.Common.{◌≡◌, ℕ, List, [], ◌∷◌, ◌++◌, append_assoc, Option, Some, None, option_and_then, Ok}
 use Rattle.json_patch_laws.proofs.Common.{refl, sym, ap, ◌∙◌, subst, rules, option_and_then_some, Data, array, Items}
 use Rattle.json_patch_laws.proofs.Common.{Pointer, next_token, IsDocument, child, Operation, add, remove, replace, move}
@@ -32,9 +32,9 @@ found_changed f d (t ∷ P) e is =
     let there : pointee (set_child s b d) (t ∷ P) ≡ Some i.1 = rw (named_still, child_set s d c b stands) i.3 in
     (i.0, i.1, i.2, subst (λ x. pointee x (t ∷ P) ≡ Some i.1) whole there)))))
 
--- ---- `-` in a list
+-- ---- `-` in an array
 
--- in a list nothing stands at `-`
+-- in an array nothing stands at `-`
 next_nowhere : (d : Data) (F R : Pointer) (ds : Items) → pointee d F ≡ Some (array ds) → pointee d (F ++ next_token ∷ R) ≡ None
 next_nowhere d F R ds at = search (rules, found_append, option_and_then, next_is_no_place)
 

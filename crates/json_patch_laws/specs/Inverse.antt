@@ -9,8 +9,8 @@ use Rattle.json_patch_edit.specs.Change.{IsRemoved}
 use Rattle.json_patch_operation.specs.Operation.{Operation, add, remove, replace, move, copy, test}
 use Rattle.json_patch_edit.specs.Step.{Never, Leaves}
 
--- u takes back what an add at P put at the step s: it removes a member that was not there, puts back one that was, or
--- removes the item, with a token of its number in place of the last of P
+-- u takes back what an add at P put at the step s: it removes a member that was not there, puts back one that
+-- was, or removes the element, with its index in place of the last token of P
 abbrev pub TakesBack : Data → Pointer → Segment → Operation → Type 0
 TakesBack d P (key k) u = (Never (StandsAt d P) × (u ≡ remove P)) ⊎ ((w : Data) × StandsAt d P w × (u ≡ replace P w))
 TakesBack d P (place i) u = (front : Pointer) × (last t : List ℕ) × (P ≡ front ++ last ∷ []) × (place_of t ≡ Some i) × (u ≡ remove (front ++ t ∷ []))
@@ -34,11 +34,11 @@ abbrev pub IsInverse : Data → List Operation → List Operation → Type 0
 IsInverse d [] I = I ≡ []
 IsInverse d (op ∷ ops) I = (m : Data) × (J B : List Operation) × Leaves d op m × IsInverse m ops J × IsBlock d op B × (I ≡ J ++ B)
 
--- no token of P is `-` where what stands before it in d is a list
+-- no token of P is `-` where the tokens before it lead to an array of d
 abbrev pub NamesNoNext : Data → Pointer → Type 0
 NamesNoNext d P = (front rest : Pointer) (ds : Items) → P ≡ front ++ next_token ∷ rest → StandsAt d front (array ds) → ⊥
 
--- an add, remove or replace, with no `-` for a place in a list of d
+-- an add, remove or replace, with no `-` for an index of an array of d
 abbrev pub IsPlain : Data → Operation → Type 0
 IsPlain d (add P v) = NamesNoNext d P
 IsPlain d (remove P) = NamesNoNext d P

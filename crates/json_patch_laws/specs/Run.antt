@@ -22,7 +22,7 @@ pub record IsAccepted (d : Data) (ops : List Operation) (e : Data) : Type 0 wher
   pub end : (f : Data) → Accepts d ops f → f ≡ e
   pub nowhere : (k : ℕ) (kind : PatchErrorKind) → RefusesAt d ops k kind → ⊥
 
--- the list is refused at k, for this kind, and there and so alone, and accepted with no end
+-- the list is refused at k for this kind, at no other operation, for no other kind, and it has no end
 pub record IsRefused (d : Data) (ops : List Operation) (k : ℕ) (kind : PatchErrorKind) : Type 0 where
   pub refuses : RefusesAt d ops k kind
   pub here : (j : ℕ) (other : PatchErrorKind) → RefusesAt d ops j other → (j ≡ k) × (other ≡ kind)

@@ -38,6 +38,6 @@ shared_of ((t ∷ P) ∷ Ps) = parents_of (front_of t P) Ps
 abbrev pub shared_tokens : List Operation → Option Pointer
 shared_tokens ops = shared_of (all_pointers ops)
 
--- S is the longest of the lists of tokens that this holds of, which are those that begin it
+-- S is the longest list of tokens that this holds of: it holds of those that begin S, and of no others
 abbrev pub IsLongest : (Pointer → Type 0) → Pointer → Type 0
 IsLongest Holds S = (T : Pointer) → Holds T ↔ IsPrefix T S

@@ -2,7 +2,7 @@
 //! are for proofs to cite, and never called by a program.
 
 ghost use Rattle.std.specs.Prelude.{◌≡◌, ◌↔◌, ◌+◌, ◌++◌, ℕ, List, Ok, Err, length, Some, ◌∷◌, [], ◌≤◌, ◌*◌, ◌⊎◌};
-ghost use Rattle.std.specs.Prelude.{◌<◌, Option, ◌≢◌, false, take};
+ghost use Rattle.std.specs.Prelude.{◌<◌, Bool, Option, ◌≢◌, false, take};
 ghost use Rattle.serde_json.specs.Data.{Data, Members, depth, object};
 ghost use Rattle.serde_json.specs.Find.{get_member, get};
 ghost use Rattle.serde_json.specs.Written.{has_float};
@@ -13,7 +13,7 @@ ghost use Rattle.json_patch_document.specs.ChangeComputed.{after_add, after_remo
 ghost use Rattle.json_patch_document.specs.Document.{IsDocument, Segment, look, sight_of, value_at};
 ghost use Rattle.json_patch_laws.specs.Inverse.{IsInverse, ArePlain, IsBlock};
 ghost use Rattle.json_patch_edit.specs.InverseComputed.{block, inverse};
-ghost use Rattle.json_patch_limits.specs.OverLimits.{AreShallow, IsNeverOver, IsOverFirst, copied_by, own_size, own_sizes, reach_of, size};
+ghost use Rattle.json_patch_limits.specs.OverLimits.{AreShallow, IsNeverOver, IsNeverOverRecorded, IsOverFirst, NeverOver, copied_by, own_size, own_sizes, reach_of, size, values_size};
 ghost use Rattle.json_patch_limits.specs.declared.limits.LimitKind.{LimitKind};
 ghost use Rattle.json_patch_limits.specs.declared.limits.Limits.{Limits};
 ghost use Rattle.json_patch_merge.specs.Merged.{IsMerged};
@@ -104,39 +104,45 @@ pub fn limits()
     // The document that is left is no larger than the one before, with what the operation holds
     // itself and what it copies.
     ensures step_size { (d : Data) (op : Operation) (e : Data) → IsDocument d → IsWholeOp op
-        → Leaves d op e → size e ≤ size d + (own_size op + copied_by d op) }
+        → Leaves d op e → size e ≤ size d + (own_size op + copied_by false d op) }
 
     // A merge patch leaves no document deeper than both the one that it is merged into and itself.
     ensures merge_depth { (d p e : Data) (b : ℕ) → IsDocument d → IsDocument p → IsDocument e
         → IsMerged d p e → depth d ≤ b → depth p ≤ b → depth e ≤ b }
 
-    // Either no operation comes to be over the limits, or one is the first, in one way. With
-    // `run_ends` of `runs` exactly one answer fits: accepted with one end, refused at one place for
-    // one kind, or over at one place for one kind.
-    ensures over_or_never { (l : Limits) (d : Data) (ops : List Operation) → IsDocument d
-        → AreWhole ops → IsNeverOver l d ops
-        ⊎ ((k : ℕ) × (kind : LimitKind) × IsOverFirst l d ops k kind) }
+    // Either no operation comes to be over the limits, or one is the first, in one way: in a run
+    // that is recorded, and in one that isn't. With `run_ends` of `runs` exactly one answer fits:
+    // accepted with one end, refused at one operation for one kind, or over at one for one kind.
+    ensures over_or_never { (recorded : Bool) (l : Limits) (d : Data) (ops : List Operation)
+        → IsDocument d → AreWhole ops → NeverOver recorded l d ops
+        ⊎ ((k : ℕ) × (kind : LimitKind) × IsOverFirst recorded l d ops k kind) }
 
     // Where none comes to be over, no state of the run is deeper than the limit, if the document
     // isn't.
-    ensures run_depth { (l : Limits) (d : Data) (ops : List Operation) (k : ℕ) (m : Data)
-        → IsDocument d → AreWhole ops → IsNeverOver l d ops → depth d ≤ l.depth
+    ensures run_depth { (recorded : Bool) (l : Limits) (d : Data) (ops : List Operation) (k : ℕ)
+        (m : Data) → IsDocument d → AreWhole ops → NeverOver recorded l d ops → depth d ≤ l.depth
         → Accepts d (take k ops) m → depth m ≤ l.depth }
 
     // Then the values of the inverse have no more levels than the limit either.
-    ensures inverse_shallow { (l : Limits) (d : Data) (ops I : List Operation) → IsDocument d
-        → AreWhole ops → IsNeverOver l d ops → depth d ≤ l.depth → IsInverse d ops I
-        → AreShallow l.depth I }
+    ensures inverse_shallow { (recorded : Bool) (l : Limits) (d : Data) (ops I : List Operation)
+        → IsDocument d → AreWhole ops → NeverOver recorded l d ops → depth d ≤ l.depth
+        → IsInverse d ops I → AreShallow l.depth I }
 
     // A patch as a value has at most two levels more than its values: the array, and the objects.
     ensures written_depth { (b : ℕ) (ops : List Operation) → AreShallow b ops
         → depth (written_patch ops) ≤ b + 2 }
 
-    // Where none comes to be over, the end is no larger than the document, with what the operations hold and what the limit
-    // lets them copy.
+    // Where none comes to be over, the end is no larger than the document, with what the operations
+    // hold and what the limit lets them copy.
     ensures run_size { (l : Limits) (d : Data) (ops : List Operation) (e : Data) → IsDocument d
         → AreWhole ops → IsNeverOver l d ops → Accepts d ops e
         → size e ≤ size d + (own_sizes ops + l.copied) }
+
+    // Where none comes to be over in a recorded run, the end and the values of the inverse together
+    // are no larger than that.
+    ensures inverse_size { (l : Limits) (d : Data) (ops I : List Operation) (e : Data) → IsDocument d
+        → AreWhole ops → IsNeverOverRecorded l d ops → Accepts d ops e → IsInverse d ops I
+        → size e + values_size I ≤ size d + (own_sizes ops + l.copied) }
 {}
 
 /// Operations that are about one part of a document: they change that part alone, and as the
@@ -211,7 +217,7 @@ pub fn apart()
         → AreWhole ys → AreApart xs ys → (e : Data) → Accepts d (xs ++ ys) e
         ↔ ((m n : Data) × Accepts d xs m × Accepts d ys n × Accepts m ys e) }
 
-    // Both accepted on a document, each is accepted on what the other leaves, with one end.
+    // Where a document accepts both, each is accepted on what the other leaves, with one end.
     ensures both_accepted { (d : Data) (xs ys : List Operation) → IsDocument d → AreWhole xs
         → AreWhole ys → AreApart xs ys → (m n : Data) → Accepts d xs m → Accepts d ys n
         → (e : Data) × Accepts m ys e × Accepts n xs e }
@@ -232,7 +238,7 @@ pub fn apart()
         → AreWhole xs → AreWhole ys → AreApart xs ys → IsInverse d xs I → Accepts d xs m
         → Accepts m ys e → (n : Data) × Accepts d ys n × IsAccepted e I n }
 
-    // That neither's `path` begins the other's is not enough for two operations: on an empty list
+    // That neither's `path` begins the other's is not enough for two operations: on an empty array
     // an `add` at `/-` makes what a `replace` at `/0` is refused without.
     ensures diverging_is_not_enough { ((d : Data) (x y : Operation) (e : Data) → IsDocument d
         → IsWholeOp x → IsWholeOp y → Diverge (path_of x) (path_of y) → Accepts d (x ∷ y ∷ []) e
@@ -312,8 +318,8 @@ pub fn inverse()
         → (e : Data) (I : List Operation) → Accepts d ops e → IsInverse d ops I
         → AreWhole I × (length I ≤ 2 * length ops) × Accepts e I d }
 
-    // The inverse holds `add`, `remove` and `replace` alone, and no `-` that stands for a place in
-    // a list.
+    // The inverse holds `add`, `remove` and `replace` alone, and no `-` that stands for an index of
+    // an array.
     ensures inverse_is_plain { (d : Data) (ops : List Operation) → IsDocument d → AreWhole ops
         → (e : Data) (I : List Operation) → Accepts d ops e → IsInverse d ops I → ArePlain e I }
 

@@ -66,31 +66,42 @@ move_charged l F P d v r less is h charges =
 
 -- ---- what is left
 
+-- what reaches too deep, whatever it copies
+pub charged_deep : (l : Limits) (reach copied : ℕ) (r : Result Limits LimitKind) (kind : LimitKind) → r ≡ Err kind → Charges l reach 0 (Err kind) → Charges l reach copied r
+charged_deep l reach copied r TooDeep is h = rw is h
+charged_deep l reach copied r TooMuch is h = let none : l.copied < 0 = h.1 in absurd (omega arith)
+
+-- what reaches so deep, and then copies so much
+pub charged_both : (l m : Limits) (reach copied : ℕ) (r : Result Limits LimitKind) → Charges l reach 0 (Ok m) → Charges m 0 copied r → Charges l reach copied r
+charged_both l m reach copied (Ok n) h g = (h.0, g.1 ∙ h.1, omega (arith, h.2, g.2))
+charged_both l m reach copied (Err TooDeep) h g = absurd (omega (arith, g))
+charged_both l m reach copied (Err TooMuch) h g = (h.0, omega (arith, h.2, g.1))
+
 make : ℕ → ℕ → Limits
 make n m = record { depth = n; copied = m }
 
-left_is : (l m : Limits) (d : Data) (op : Operation) → m.depth ≡ l.depth → m.copied + copied_by d op ≡ l.copied → left_of l d op ≡ m
+left_is : (b : Bool) (l m : Limits) (d : Data) (op : Operation) → m.depth ≡ l.depth → m.copied + copied_by b d op ≡ l.copied → left_of b l d op ≡ m
 unfolding make
-left_is l m d op e h = let g : l.copied - copied_by d op ≡ m.copied = omega arith in ap₂ make (sym e) g
+left_is b l m d op e h = let g : l.copied - copied_by b d op ≡ m.copied = omega arith in ap₂ make (sym e) g
 
-pub charged : (l m : Limits) (d : Data) (op : Operation) (ops : List Operation) → Charges l (reach_of d op) (copied_by d op) (Ok m) → over_under (Some l) d (op ∷ ops) ≡ then_over (after_step d op) (λ x. over_under (Some m) x ops)
-charged l m d op ops h =
-    let under : IsUnder l d op = (h.0, (let e : m.copied + copied_by d op ≡ l.copied = h.2 in omega arith)) in
-    ap (λ o. or_over o (then_over (after_step d op) (λ x. first_over (left_of l d op) x ops))) (is_under l d op under)
-    ∙ ap (λ y. then_over (after_step d op) (λ x. first_over y x ops)) (left_is l m d op h.1 h.2)
+pub charged : (b : Bool) (l m : Limits) (d : Data) (op : Operation) (ops : List Operation) → Charges l (reach_of d op) (copied_by b d op) (Ok m) → over_under b (Some l) d (op ∷ ops) ≡ then_over (after_step d op) (λ x. over_under b (Some m) x ops)
+charged b l m d op ops h =
+    let under : IsUnder b l d op = (h.0, (let e : m.copied + copied_by b d op ≡ l.copied = h.2 in omega arith)) in
+    ap (λ o. or_over o (then_over (after_step d op) (λ x. first_over b (left_of b l d op) x ops))) (is_under b l d op under)
+    ∙ ap (λ y. then_over (after_step d op) (λ x. first_over b y x ops)) (left_is b l m d op h.1 h.2)
 
-over_by : (l : Limits) (d : Data) (op : Operation) (kind : LimitKind) → Charges l (reach_of d op) (copied_by d op) (Err kind) → over l d op ≡ Some kind
-over_by l d op TooDeep h = is_over l d op TooDeep h
-over_by l d op TooMuch h = is_over l d op TooMuch h
+over_by : (b : Bool) (l : Limits) (d : Data) (op : Operation) (kind : LimitKind) → Charges l (reach_of d op) (copied_by b d op) (Err kind) → over b l d op ≡ Some kind
+over_by b l d op TooDeep h = is_over b l d op TooDeep h
+over_by b l d op TooMuch h = is_over b l d op TooMuch h
 
-pub charged_over : (l : Limits) (d : Data) (op : Operation) (kind : LimitKind) (ops : List Operation) → Charges l (reach_of d op) (copied_by d op) (Err kind) → over_under (Some l) d (op ∷ ops) ≡ Some (over_at 0 kind)
-charged_over l d op kind ops h = ap (λ o. or_over o (then_over (after_step d op) (λ x. first_over (left_of l d op) x ops))) (over_by l d op kind h)
+pub charged_over : (b : Bool) (l : Limits) (d : Data) (op : Operation) (kind : LimitKind) (ops : List Operation) → Charges l (reach_of d op) (copied_by b d op) (Err kind) → over_under b (Some l) d (op ∷ ops) ≡ Some (over_at 0 kind)
+charged_over b l d op kind ops h = ap (λ o. or_over o (then_over (after_step d op) (λ x. first_over b (left_of b l d op) x ops))) (over_by b l d op kind h)
 
 never_then : (r : Result Data PatchErrorKind) → None ≡ then_over r (λ m. None)
 never_then r = search rules
 
-pub unlimited : (d : Data) (op : Operation) (ops : List Operation) → over_under None d (op ∷ ops) ≡ then_over (after_step d op) (λ m. over_under None m ops)
-unlimited d op ops = never_then (after_step d op)
+pub unlimited : (b : Bool) (d : Data) (op : Operation) (ops : List Operation) → over_under b None d (op ∷ ops) ≡ then_over (after_step d op) (λ m. over_under b None m ops)
+unlimited b d op ops = never_then (after_step d op)
 
 -- ---- a pointer has no more tokens than its text has bytes
 

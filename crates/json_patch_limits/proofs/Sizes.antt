@@ -1,4 +1,4 @@
--- How large the document is that an operation leaves.
+-- How large the document is that an operation leaves, and with it the values that the operation's block holds.
 use Rattle.json_patch_limits.proofs.Common.{◌≡◌, ◌≤◌, ◌+◌, ℕ, zero, suc, List, [], ◌∷◌, length, Option, Some, None, Ok}
 use Rattle.json_patch_limits.proofs.Common.{option_and_then_some, Ordering, Less, Equal, Greater, match_ordering}
 use Rattle.json_patch_limits.proofs.Common.{slice_cmp, nat_cmp, refl, sym, ap, ◌∙◌, subst, arith, rules, Data, array, object}
@@ -7,15 +7,17 @@ use Rattle.json_patch_limits.proofs.Common.{Segment, key, place, child, segment_
 use Rattle.json_patch_limits.proofs.Common.{set_item, slot_of, put_in, take_from, after_change, after_add, after_remove, after_replace}
 use Rattle.json_patch_limits.proofs.Common.{pointee, Pointer, front_of, last_of, Operation, add, remove, replace, move, copy, test}
 use Rattle.json_patch_limits.proofs.Common.{IsDocument, IsWholeOp, Leaves, after_step, begins, after_copy, after_move, InvalidPointer}
-use Rattle.json_patch_limits.proofs.Common.{CannotMoveInsideItself}
+use Rattle.json_patch_limits.proofs.Common.{CannotMoveInsideItself, Bool, true, false}
 use Rattle.json_patch_limits.proofs.Common.{IsBelowMembers, AreMembers, IsRemoved}
 use Rattle.json_patch_edit.proofs.Changes.{removed_is}
 use Rattle.json_patch_edit.proofs.Locations.{option_map_some, resolves_found}
 use Rattle.json_patch_edit.proofs.BlocksLeadBack.{found_last}
 use Rattle.json_patch_document.proofs.Members.{below_absent, below_more, child_document}
 use Rattle.json_patch_limits.proofs.Depths.{moves_on, or_refused_ok, tested_same}
+use Rattle.json_patch_operation.specs.Operation.{parts_of}
+use Rattle.json_patch_edit.specs.InverseComputed.{block, undo_add, undo_at, undo_in, with_found}
 use Rattle.json_patch_edit.proofs.StepOutcomes.{leaves_document, leaves_stepped, stepped_leaves}
-use Rattle.json_patch_limits.specs.OverLimits.{copied_by, own_size, size, size_at, items_size, members_size, tokens_size}
+use Rattle.json_patch_limits.specs.OverLimits.{copied_by, own_size, size, size_at, items_size, members_size, tokens_size, values_size}
 
 -- ---- in a container
 
@@ -149,7 +151,7 @@ moved_size d e F P (Some v) (Some m) hd found took is =
 moved_size d e F P None r hd found took is = cc
 moved_size d e F P (Some v) None hd found took is = cc
 
-stepped_size : (d : Data) (op : Operation) (e : Data) → IsDocument d → after_step d op ≡ Ok e → size e ≤ size d + (own_size op + copied_by d op)
+stepped_size : (d : Data) (op : Operation) (e : Data) → IsDocument d → after_step d op ≡ Ok e → size e ≤ size d + (own_size op + copied_by false d op)
 stepped_size d (add P v) e hd is = let h : size e ≤ size d + (tokens_size P + size v) = add_size d v e P hd (or_refused_ok InvalidPointer (after_add d P v) e is) in omega arith
 stepped_size d (remove P) e hd is = let h : size e ≤ size d = removed_less d e P hd (or_refused_ok InvalidPointer (after_remove d P) e is) in omega arith
 stepped_size d (replace P v) e hd is = let h : size e ≤ size d + (tokens_size P + size v) = replace_size d v e P hd (or_refused_ok InvalidPointer (after_replace d P v) e is) in omega arith
@@ -158,5 +160,94 @@ stepped_size d (move F P) e hd is =
 stepped_size d (copy F P) e hd is = copied_size d e P (pointee d F) hd is
 stepped_size d (test P v) e hd is = let same : e ≡ d = tested_same d v e (pointee d P) is in rw same (omega arith)
 
-pub step_size : (d : Data) (op : Operation) (e : Data) → IsDocument d → IsWholeOp op → Leaves d op e → size e ≤ size d + (own_size op + copied_by d op)
+pub step_size : (d : Data) (op : Operation) (e : Data) → IsDocument d → IsWholeOp op → Leaves d op e → size e ≤ size d + (own_size op + copied_by false d op)
 step_size d op e hd hv leaves = stepped_size d op e hd (leaves_stepped d op e hd hv leaves)
+
+-- ---- what a block holds
+
+-- no array stands there
+abbrev NoList : Option Data → Type 0
+NoList (Some (array ds)) = ⊥
+NoList o = Unit {0}
+
+found_member : (t : List ℕ) (ms : Members) (w : Data) → pointee (object ms) (t ∷ []) ≡ Some w → get_member t ms ≡ Some w
+found_member t ms w is = search rules
+
+-- a member put in where another stood
+put_over_size : (v w : Data) (t : List ℕ) (p q : Data) → NoList (Some p) → IsDocument p → put_in v t p ≡ Some q → pointee p (t ∷ []) ≡ Some w → size q + size w ≤ size p + (length t + size v)
+put_over_size v w t (array ds) q free hp is found = absurd free
+put_over_size v w t (object ms) q free hp is found =
+    let whole : object (put t v ms) ≡ q = cc in
+    let swapped : members_size (put t v ms) + size w ≤ members_size ms + size v = swap_size t w v ms hp (found_member t ms w found) in
+    subst (λ x. size x + size w ≤ suc (members_size ms) + (length t + size v)) whole (omega arith)
+put_over_size v w t p q free hp is found = search rules
+
+-- a value added where another stood, whose parent is no array
+added_over_size : (d v w e : Data) (t : List ℕ) (P : Pointer) → NoList (pointee d (front_of t P)) → IsDocument d → after_add d (t ∷ P) v ≡ Some e → pointee d (t ∷ P) ≡ Some w
+    → size e + size w ≤ size d + (tokens_size (t ∷ P) + size v)
+added_over_size d v w e t P free hd is found =
+    let at : size e + size w ≤ size d + (length (last_of t P) + size v) = change_size (put_in v (last_of t P)) d e (front_of t P) (size w) (length (last_of t P) + size v)
+    (λ p q hp stands is. put_over_size v w (last_of t P) p q (subst NoList stands free) hp is (sym (found_last d t P p stands) ∙ found)) hd is in
+    let last : length (last_of t P) ≤ tokens_size (t ∷ P) = last_size t P in omega arith
+
+-- how large the value is that an operation holds, if it holds one
+abbrev held : Operation → ℕ
+held op = size_at (parts_of op).value
+
+undo_at_size : (d v e : Data) (t : List ℕ) (P : Pointer) (o : Option Data) → NoList (pointee d (front_of t P)) → IsDocument d → after_add d (t ∷ P) v ≡ Some e → pointee d (t ∷ P) ≡ o
+    → held (undo_at (t ∷ P) o) + size e ≤ size d + (tokens_size (t ∷ P) + size v)
+undo_at_size d v e t P None free hd is found = let h : size e ≤ size d + (tokens_size (t ∷ P) + size v) = add_size d v e (t ∷ P) hd is in omega arith
+undo_at_size d v e t P (Some w) free hd is found = let h : size e + size w ≤ size d + (tokens_size (t ∷ P) + size v) = added_over_size d v w e t P free hd is found in omega arith
+
+undo_in_size : (d v e : Data) (t : List ℕ) (P : Pointer) (o : Option Data) → pointee d (front_of t P) ≡ o → IsDocument d → after_add d (t ∷ P) v ≡ Some e
+    → held (undo_in d (front_of t P) (last_of t P) (t ∷ P) o) + size e ≤ size d + (tokens_size (t ∷ P) + size v)
+undo_in_size d v e t P (Some (array ds)) at hd is = let h : size e ≤ size d + (tokens_size (t ∷ P) + size v) = add_size d v e (t ∷ P) hd is in omega arith
+undo_in_size d v e t P o at hd is = undo_at_size d v e t P (pointee d (t ∷ P)) (subst NoList (sym at) tt) hd is refl
+
+undo_size : (d v e : Data) (P : Pointer) → IsDocument d → after_add d P v ≡ Some e → held (undo_add d P) + size e ≤ size d + (tokens_size P + size v)
+undo_size d v e [] hd is = let same : v ≡ e = cc in rw (← same) (omega arith)
+undo_size d v e (t ∷ P) hd is = undo_in_size d v e t P (pointee d (front_of t P)) refl hd is
+
+-- a value replaced
+replaced_over_size : (d v w e : Data) (P : Pointer) → IsDocument d → after_replace d P v ≡ Some e → pointee d P ≡ Some w → size e + size w ≤ size d + size v
+replaced_over_size d v w e P hd is found =
+    change_size (λ c. Some v) d e P (size w) (size v) (λ p q hp stands is.
+    (let new : size v ≡ size q = (let whole : v ≡ q = cc in ap size whole) in
+    let old : size p ≡ size w = (let whole : p ≡ w = cc in ap size whole) in omega arith)) hd is
+
+removed_block_size : (d e : Data) (P : Pointer) (o : Option Data) → IsDocument d → after_remove d P ≡ Some e → pointee d P ≡ o
+    → values_size (with_found o (λ w. add P w ∷ [])) + size e ≤ size d
+removed_block_size d e P None hd is found = let h : size e ≤ size d = removed_less d e P hd is in omega arith
+removed_block_size d e P (Some w) hd is found = let h : size e + size w ≤ size d = remove_size_at d e w P hd is found in omega arith
+
+replaced_block_size : (d v e : Data) (P : Pointer) (o : Option Data) → IsDocument d → after_replace d P v ≡ Some e → pointee d P ≡ o
+    → values_size (with_found o (λ w. replace P w ∷ [])) + size e ≤ size d + (tokens_size P + size v)
+replaced_block_size d v e P None hd is found = let h : size e ≤ size d + (tokens_size P + size v) = replace_size d v e P hd is in omega arith
+replaced_block_size d v e P (Some w) hd is found = let h : size e + size w ≤ size d + size v = replaced_over_size d v w e P hd is found in omega arith
+
+copied_block_size : (d e : Data) (P : Pointer) (o : Option Data) → IsDocument d → after_copy d P o ≡ Ok e → held (undo_add d P) + size e ≤ size d + (tokens_size P + 0 + size_at o)
+copied_block_size d e P None hd is = cc
+copied_block_size d e P (Some v) hd is = let h : held (undo_add d P) + size e ≤ size d + (tokens_size P + size v) = undo_size d v e P hd (or_refused_ok InvalidPointer (after_add d P v) e is) in omega arith
+
+moved_block_size : (d e : Data) (F P : Pointer) (o r : Option Data) → IsDocument d → pointee d F ≡ o → after_remove d F ≡ r → after_move P o r ≡ Ok e
+    → values_size (with_found o (λ v. with_found r (λ m. undo_add m P ∷ add F v ∷ []))) + size e ≤ size d + (tokens_size P + 0 + size_at o)
+moved_block_size d e F P (Some v) (Some m) hd found took is =
+    let hm : IsDocument m = leaves_document d (remove F) m hd tt (stepped_leaves d (remove F) m hd tt (rw took refl)) in
+    let gone : size m + size v ≤ size d = remove_size_at d m v F hd took found in
+    let h : held (undo_add m P) + size e ≤ size m + (tokens_size P + size v) = undo_size m v e P hm (or_refused_ok InvalidPointer (after_add m P v) e is) in omega arith
+moved_block_size d e F P None r hd found took is = cc
+moved_block_size d e F P (Some v) None hd found took is = cc
+
+stepped_block_size : (d : Data) (op : Operation) (e : Data) → IsDocument d → after_step d op ≡ Ok e → values_size (block d op) + size e ≤ size d + (own_size op + copied_by true d op)
+stepped_block_size d (add P v) e hd is = let h : held (undo_add d P) + size e ≤ size d + (tokens_size P + size v) = undo_size d v e P hd (or_refused_ok InvalidPointer (after_add d P v) e is) in omega arith
+stepped_block_size d (remove P) e hd is =
+    let h : values_size (block d (remove P)) + size e ≤ size d = removed_block_size d e P (pointee d P) hd (or_refused_ok InvalidPointer (after_remove d P) e is) refl in omega arith
+stepped_block_size d (replace P v) e hd is =
+    let h : values_size (block d (replace P v)) + size e ≤ size d + (tokens_size P + size v) = replaced_block_size d v e P (pointee d P) hd (or_refused_ok InvalidPointer (after_replace d P v) e is) refl in omega arith
+stepped_block_size d (move F P) e hd is =
+    moved_block_size d e F P (pointee d F) (after_remove d F) hd refl refl (moves_on (begins F P) (after_move P (pointee d F) (after_remove d F)) CannotMoveInsideItself e is)
+stepped_block_size d (copy F P) e hd is = let h : held (undo_add d P) + size e ≤ size d + (tokens_size P + 0 + size_at (pointee d F)) = copied_block_size d e P (pointee d F) hd is in omega arith
+stepped_block_size d (test P v) e hd is = let same : e ≡ d = tested_same d v e (pointee d P) is in rw same (omega arith)
+
+pub block_size : (d : Data) (op : Operation) (e : Data) → IsDocument d → IsWholeOp op → Leaves d op e → values_size (block d op) + size e ≤ size d + (own_size op + copied_by true d op)
+block_size d op e hd hv leaves = stepped_block_size d op e hd (leaves_stepped d op e hd hv leaves)

@@ -1,6 +1,6 @@
 -- How deep an operation puts a value, how much it copies, and which operation of a list is the first that is over its limits.
 use Rattle.std.specs.Prelude.{◌≡◌, ◌≤◌, ◌<◌, ◌+◌, ◌-◌, ℕ, zero, suc, List, [], ◌∷◌, length, Option, Some, None, Result, Ok, Err}
-use Rattle.std.specs.Prelude.{nat_lt, if◌then◌else◌}
+use Rattle.std.specs.Prelude.{Bool, true, false, nat_lt, if◌then◌else◌}
 use Rattle.serde_json.specs.Data.{Data, null, boolean, number, string, array, object, Items, no_items, item}
 use Rattle.serde_json.specs.Data.{Members, no_members, member, depth}
 use Rattle.jsonptr.specs.Text.{Pointer}
@@ -23,7 +23,8 @@ abbrev pub reach_at : Pointer → Option Data → ℕ
 reach_at P None = 0
 reach_at P (Some v) = length P + depth v
 
--- how deep the value reaches that op puts at its path; a `move` counts only where it leads deeper than where it takes the value
+-- how deep the value reaches that op puts at its path; a `move` counts only where it leads deeper than where
+-- it takes the value
 abbrev pub reach_of : Data → Operation → ℕ
 reach_of d (add P v) = length P + depth v
 reach_of d (remove P) = 0
@@ -44,7 +45,7 @@ AreShallow b (op ∷ ops) = (levels_of (parts_of op).value ≤ b) × AreShallow 
 
 -- ---- how much
 
--- one for each value in it, and one for each byte of its texts and names
+-- one for each value in it, and one for each byte of its strings and names
 abbrev mutual
   pub size : Data → ℕ
   size null = 1
@@ -66,14 +67,14 @@ abbrev pub size_at : Option Data → ℕ
 size_at None = 0
 size_at (Some v) = size v
 
--- how much of d op copies
-abbrev pub copied_by : Data → Operation → ℕ
-copied_by d (add P v) = 0
-copied_by d (remove P) = 0
-copied_by d (replace P v) = 0
-copied_by d (move F P) = 0
-copied_by d (copy F P) = size_at (pointee d F)
-copied_by d (test P v) = 0
+-- how much of d op copies; in a recorded run also what a `move` moves, since the inverse holds a copy of it
+abbrev pub copied_by : Bool → Data → Operation → ℕ
+copied_by recorded d (add P v) = 0
+copied_by recorded d (remove P) = 0
+copied_by recorded d (replace P v) = 0
+copied_by recorded d (move F P) = if recorded then size_at (pointee d F) else 0
+copied_by recorded d (copy F P) = size_at (pointee d F)
+copied_by recorded d (test P v) = 0
 
 abbrev pub tokens_size : Pointer → ℕ
 tokens_size [] = 0
@@ -87,35 +88,53 @@ abbrev pub own_sizes : List Operation → ℕ
 own_sizes [] = 0
 own_sizes (op ∷ ops) = own_size op + own_sizes ops
 
--- ---- over the limits
+-- how large the values are that the operations hold, all together
+abbrev pub values_size : List Operation → ℕ
+values_size [] = 0
+values_size (op ∷ ops) = size_at (parts_of op).value + values_size ops
 
--- op is over the limits on d, by this
-abbrev pub IsOver : Limits → Data → Operation → LimitKind → Type 0
-IsOver l d op TooDeep = l.depth < reach_of d op
-IsOver l d op TooMuch = (reach_of d op ≤ l.depth) × (l.copied < copied_by d op)
+-- ---- over the limits, in a run that is recorded or isn't
+
+-- op is over the limits on d, in this way
+abbrev pub IsOver : Bool → Limits → Data → Operation → LimitKind → Type 0
+IsOver recorded l d op TooDeep = l.depth < reach_of d op
+IsOver recorded l d op TooMuch = (reach_of d op ≤ l.depth) × (l.copied < copied_by recorded d op)
 
 -- op is not over
-abbrev pub IsUnder : Limits → Data → Operation → Type 0
-IsUnder l d op = (reach_of d op ≤ l.depth) × (copied_by d op ≤ l.copied)
+abbrev pub IsUnder : Bool → Limits → Data → Operation → Type 0
+IsUnder recorded l d op = (reach_of d op ≤ l.depth) × (copied_by recorded d op ≤ l.copied)
 
 -- what op leaves of the limits: less to copy
-abbrev pub left_of : Limits → Data → Operation → Limits
-left_of l d op = record l { copied = l.copied - copied_by d op }
+abbrev pub left_of : Bool → Limits → Data → Operation → Limits
+left_of recorded l d op = record l { copied = l.copied - copied_by recorded d op }
 
--- the operations before the one at k are accepted and none is over, and it is, by this
-abbrev pub IsOverAt : Limits → Data → List Operation → ℕ → LimitKind → Type 0
-IsOverAt l d [] k kind = ⊥
-IsOverAt l d (op ∷ ops) zero kind = IsOver l d op kind
-IsOverAt l d (op ∷ ops) (suc k) kind = IsUnder l d op × ((m : Data) × Leaves d op m × IsOverAt (left_of l d op) m ops k kind)
+-- the operations before the one at k are accepted and none is over, and the one at k is over, in this way
+abbrev pub ComesOver : Bool → Limits → Data → List Operation → ℕ → LimitKind → Type 0
+ComesOver recorded l d [] k kind = ⊥
+ComesOver recorded l d (op ∷ ops) zero kind = IsOver recorded l d op kind
+ComesOver recorded l d (op ∷ ops) (suc k) kind = IsUnder recorded l d op × ((m : Data) × Leaves d op m × ComesOver recorded (left_of recorded l d op) m ops k kind)
 
 -- none comes to be over: up to the end, or to the one that is refused
-abbrev pub IsNeverOver : Limits → Data → List Operation → Type 0
-IsNeverOver l d ops = (k : ℕ) (kind : LimitKind) → IsOverAt l d ops k kind → ⊥
+abbrev pub NeverOver : Bool → Limits → Data → List Operation → Type 0
+NeverOver recorded l d ops = (k : ℕ) (kind : LimitKind) → ComesOver recorded l d ops k kind → ⊥
 
--- it is over at k, by this, and there and so alone
-pub record IsOverFirst (l : Limits) (d : Data) (ops : List Operation) (k : ℕ) (kind : LimitKind) : Type 0 where
-  pub over : IsOverAt l d ops k kind
-  pub here : (j : ℕ) (other : LimitKind) → IsOverAt l d ops j other → (j ≡ k) × (other ≡ kind)
+-- the operation at k comes to be over, in this way; no other does, and this one in no other way
+pub record IsOverFirst (recorded : Bool) (l : Limits) (d : Data) (ops : List Operation) (k : ℕ) (kind : LimitKind) : Type 0 where
+  pub over : ComesOver recorded l d ops k kind
+  pub here : (j : ℕ) (other : LimitKind) → ComesOver recorded l d ops j other → (j ≡ k) × (other ≡ kind)
+
+-- the same of a run that isn't recorded, and of one that is
+abbrev pub IsOverAt : Limits → Data → List Operation → ℕ → LimitKind → Type 0
+IsOverAt l d ops k kind = ComesOver false l d ops k kind
+
+abbrev pub IsNeverOver : Limits → Data → List Operation → Type 0
+IsNeverOver l d ops = NeverOver false l d ops
+
+abbrev pub IsOverRecordedAt : Limits → Data → List Operation → ℕ → LimitKind → Type 0
+IsOverRecordedAt l d ops k kind = ComesOver true l d ops k kind
+
+abbrev pub IsNeverOverRecorded : Limits → Data → List Operation → Type 0
+IsNeverOverRecorded l d ops = NeverOver true l d ops
 
 -- ---- what the calls say
 

@@ -1,5 +1,5 @@
--- Which operation of a list is the first that is over its limits, computed.
-use Rattle.std.specs.Prelude.{◌≡◌, ◌≤◌, ◌<◌, ◌+◌, ℕ, zero, suc, List, [], ◌∷◌, Option, Some, None, Result, Ok, Err, nat_lt, if◌then◌else◌}
+-- Which operation of a list is the first that is over its limits, in a run that is recorded or isn't, computed.
+use Rattle.std.specs.Prelude.{◌≡◌, ◌≤◌, ◌<◌, ◌+◌, ℕ, zero, suc, List, [], ◌∷◌, Option, Some, None, Result, Ok, Err, nat_lt, if◌then◌else◌, Bool}
 use Rattle.serde_json.specs.Data.{Data}
 use Rattle.json_patch_operation.specs.Operation.{Operation}
 use Rattle.json_patch_edit.specs.RunComputed.{after_step}
@@ -10,8 +10,8 @@ use Rattle.json_patch_limits.specs.declared.limits.LimitKind.{LimitKind}
 use Rattle.json_patch_limits.specs.declared.limits.LimitKind.TheVariants.{TooDeep, TooMuch}
 
 -- how op is over the limits, if it is
-abbrev pub over : Limits → Data → Operation → Option LimitKind
-over l d op = if nat_lt l.depth (reach_of d op) then Some TooDeep else (if nat_lt l.copied (copied_by d op) then Some TooMuch else None)
+abbrev pub over : Bool → Limits → Data → Operation → Option LimitKind
+over recorded l d op = if nat_lt l.depth (reach_of d op) then Some TooDeep else (if nat_lt l.copied (copied_by recorded d op) then Some TooMuch else None)
 
 -- which one is over, and how
 pub data FirstOver : Type 0 where
@@ -29,16 +29,16 @@ abbrev pub or_over : Option LimitKind → Option FirstOver → Option FirstOver
 or_over (Some kind) rest = Some (over_at zero kind)
 or_over None rest = rest
 
-abbrev pub first_over : Limits → Data → List Operation → Option FirstOver
-first_over l d [] = None
-first_over l d (op ∷ ops) = or_over (over l d op) (then_over (after_step d op) (λ m. first_over (left_of l d op) m ops))
+abbrev pub first_over : Bool → Limits → Data → List Operation → Option FirstOver
+first_over recorded l d [] = None
+first_over recorded l d (op ∷ ops) = or_over (over recorded l d op) (then_over (after_step d op) (λ m. first_over recorded (left_of recorded l d op) m ops))
 
--- where there are limits
-abbrev pub over_under : Option Limits → Data → List Operation → Option FirstOver
-over_under None d ops = None
-over_under (Some l) d ops = first_over l d ops
+-- which one is over, and how, if there are limits
+abbrev pub over_under : Bool → Option Limits → Data → List Operation → Option FirstOver
+over_under recorded None d ops = None
+over_under recorded (Some l) d ops = first_over recorded l d ops
 
--- what is left of n, less s, where that isn't more
+-- n less s, or None where s is more
 abbrev pub Spares : Option ℕ → ℕ → ℕ → Type 0
 Spares (Some m) n s = m + s ≡ n
 Spares None n s = n < s
@@ -49,7 +49,7 @@ Charges l reach copied (Ok m) = (reach ≤ l.depth) × (m.depth ≡ l.depth) × 
 Charges l reach copied (Err TooDeep) = l.depth < reach
 Charges l reach copied (Err TooMuch) = (reach ≤ l.depth) × (l.copied < copied)
 
--- counted on from n
+-- with its number counted on from n
 abbrev pub later_by : ℕ → Option FirstOver → Option FirstOver
 later_by n None = None
 later_by n (Some (over_at k kind)) = Some (over_at (n + k) kind)

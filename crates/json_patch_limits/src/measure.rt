@@ -68,8 +68,8 @@ pub fn is_small(document: &Value, most: usize) -> bool
     spare(document, most).is_some()
 }
 
-/// What is left of so much, less the size of what is seen of the value, where that isn't more. It
-/// looks at no more of the value than that.
+/// `much` less the size of what is seen of the value, or `None` where that size is more. It looks
+/// at no more of the value than `much` allows.
 #[cycle(sizes)]
 pub fn spare(value: &Value, much: usize) -> Option<usize>
     ensures { Spares result much (size (seen (view value.now))) }

@@ -19,7 +19,7 @@ enum Command {
     Redo,
 }
 
-/// The last of a list of commands, after those before it, on an editor of this document. A number
+/// The last command of an array, after those before it, on an editor of this document. A number
 /// before the last stands for that many changes by the empty patch.
 pub(crate) fn edit(
     rt: &HostRuntime,

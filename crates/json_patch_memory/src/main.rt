@@ -1,35 +1,55 @@
 //! Makes one call on one input and tells what came of it, for a test that refuses its requests for
 //! memory one after another: `json_patch_memory CALL TEXT..` writes a line with the result and with
-//! what the call leaves.
+//! what the call leaves. `json_patch_memory rows` does so for each line of standard input.
 #![tactic(auto)]
 
+mod apart;
 mod counted;
 mod editing;
 mod kinds;
+mod limits;
 mod pointers;
+mod rows;
 mod runs;
 mod texts;
 
-use std::env::Args;
 use std::io::ErrorKind;
 use std::{env, io};
 
 fn main(rt: HostRuntime) -> io::Result<()> {
-    let line = seen(&rt, env::args(&rt)?)?;
-    println!(rt; "{line}")
+    let mut words = Vec::new(rt.alloc());
+    for word in env::args(&rt)?.skip(1) {
+        words.push(word)?;
+    }
+    match words.as_slice() {
+        [word] if word.as_str() == "rows" => rows::answer_all(&rt),
+        words => {
+            let line = seen(&rt, words)?;
+            println!(rt; "{line}")
+        }
+    }
 }
 
-/// The line for a call that the arguments name, on the texts after its name.
-fn seen(rt: &HostRuntime, mut words: Args) -> io::Result<String> {
-    let _program = words.next();
-    let (Some(call), Some(first)) = (words.next(), words.next()) else {
-        return Err(io::Error::from(ErrorKind::InvalidInput));
-    };
-    let (call, first) = (call.as_str(), first.as_str());
-    match (words.next(), words.next()) {
-        (Some(second), Some(third)) => on_three(rt, call, first, second.as_str(), third.as_str()),
-        (Some(second), None) => on_two(rt, call, first, second.as_str()),
-        (None, _) => on_one(rt, call, first),
+/// The line for a call that the first word names, on the texts after it.
+fn seen(rt: &HostRuntime, words: &[String]) -> io::Result<String> {
+    match words {
+        [call, text] => on_one(rt, call.as_str(), text.as_str()),
+        [call, first, second] => on_two(rt, call.as_str(), first.as_str(), second.as_str()),
+        [call, first, second, third] => on_three(
+            rt,
+            call.as_str(),
+            first.as_str(),
+            second.as_str(),
+            third.as_str(),
+        ),
+        [call, document, changes, depth, copied] => limits::within(
+            rt,
+            call.as_str(),
+            document.as_str(),
+            changes.as_str(),
+            limits::of(depth.as_str(), copied.as_str())?,
+        ),
+        _ => Err(io::Error::from(ErrorKind::InvalidInput)),
     }
 }
 
@@ -49,6 +69,9 @@ fn on_one(rt: &HostRuntime, call: &str, text: &str) -> io::Result<String> {
 
 fn on_two(rt: &HostRuntime, call: &str, first: &str, second: &str) -> io::Result<String> {
     match call {
+        "are_apart" => apart::are_apart(rt, first, second),
+        "is_shallow" => limits::is_shallow(rt, first, second),
+        "is_small" => limits::is_small(rt, first, second),
         "push_back" => pointers::push_back(rt, first, second),
         "with_last" => pointers::with_last(rt, first, second),
         "patch" => runs::patch(rt, first, second),
@@ -59,6 +82,7 @@ fn on_two(rt: &HostRuntime, call: &str, first: &str, second: &str) -> io::Result
         "guarded_diff" => runs::guarded_diff(rt, first, second),
         "moving_diff" => runs::moving_diff(rt, first, second),
         "remove_from_text" => texts::remove(rt, first, second),
+        "respond" => texts::respond(rt, first, second),
         "from_value" => kinds::from_value(rt, first, second),
         "to_value" => kinds::to_value(rt, first, second),
         "clone" => kinds::clone(rt, first, second),

@@ -6,13 +6,13 @@ ghost use Rattle.json_patch.specs.Document.{IsDocument};
 ghost use Rattle.json_patch.specs.Operation.{AreWhole, operations_of};
 
 use crate::counted::{counted, line};
-use json_patch::{Patch, PatchFault, is_whole};
+use json_patch::{Patch, PatchFault, document_from_str};
 use serde_json::Value;
 use std::io;
 use std::io::ErrorKind;
 
 /// `done`, in place of a result that is empty.
-fn done<E>(answer: Result<(), E>) -> Result<&'static str, E> {
+pub(crate) fn done<E>(answer: Result<(), E>) -> Result<&'static str, E> {
     match answer {
         Ok(()) => Ok("done"),
         Err(fault) => Err(fault),
@@ -80,14 +80,13 @@ pub(crate) fn pretty(rt: &HostRuntime, document: &str) -> io::Result<String> {
 pub(crate) fn document_of(rt: &HostRuntime, text: &str) -> io::Result<Value>
     ensures { IfOk result (λ document. IsDocument (view document)) }
 {
-    let document = value_of(rt, text)?;
-    if !is_whole(&document) {
-        return Err(io::Error::from(ErrorKind::InvalidInput));
+    match document_from_str(rt.alloc(), text) {
+        Ok(document) => Ok(document),
+        Err(_) => Err(io::Error::from(ErrorKind::InvalidInput)),
     }
-    Ok(document)
 }
 
-fn patch_of(rt: &HostRuntime, text: &str) -> io::Result<Patch>
+pub(crate) fn patch_of(rt: &HostRuntime, text: &str) -> io::Result<Patch>
     ensures { IfOk result (λ changes. AreWhole (operations_of changes)) }
 {
     patch_from(rt, &value_of(rt, text)?)

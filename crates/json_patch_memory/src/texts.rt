@@ -3,7 +3,9 @@
 use crate::counted::{counted, line};
 use crate::pointers::pointer_of;
 use json_patch::{Patch, document_from_slice, document_from_str};
+use json_patch_answers::mode_of;
 use std::io;
+use std::io::ErrorKind;
 
 pub(crate) fn document(rt: &HostRuntime, text: &str) -> io::Result<String> {
     let answer = counted!(rt; document_from_str(rt.alloc(), text));
@@ -35,5 +37,13 @@ pub(crate) fn replace(rt: &HostRuntime, text: &str, path: &str, value: &str) -> 
 pub(crate) fn remove(rt: &HostRuntime, text: &str, path: &str) -> io::Result<String> {
     let place = pointer_of(path)?;
     let answer = counted!(rt; json_text::remove(rt.alloc(), text, place));
+    line(rt, &answer, &text)
+}
+
+pub(crate) fn respond(rt: &HostRuntime, mode: &str, text: &str) -> io::Result<String> {
+    let Some(mode) = mode_of(mode) else {
+        return Err(io::Error::from(ErrorKind::InvalidInput));
+    };
+    let answer = counted!(rt; json_patch_answers::respond(rt.alloc(), mode, text.as_bytes()));
     line(rt, &answer, &text)
 }

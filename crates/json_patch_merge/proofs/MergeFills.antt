@@ -28,7 +28,7 @@ use Rattle.json_patch_document.proofs.Members.{without_absent}
 
 -- ---- a loop over a patch's members, each of which changes the document's member of its name alone
 
--- what is changed at the name t alone, where o stands now
+-- `new` is `now` but for the name t, where o stands
 pub record ChangesAt (t : List ℕ) (now new : Members) (o : Option Data) : Type 0 where
   pub document : AreMembers new
   pub others : (k : List ℕ) → k ≢ t → get_member k new ≡ get_member k now

@@ -35,7 +35,7 @@ abbrev pub restore_members : List (Bor (List ℕ) × (Option Data → Option Dat
 restore_members [] ms = ms
 restore_members (e ∷ log) ms = let ns = restore_members log ms in with_member e.0.now (e.1 (get_member e.0.now ns)) ns
 
--- one level, with what is within already seen as what takes it back
+-- one level: the logs within it are given as the functions that take them back
 abbrev pub former_value_step : Before-F (Option Data → Option Data) → Option Data → Option Data
 former_value_step Before-F.Absent now = None
 former_value_step (Before-F.Replaced v) None = None
@@ -43,7 +43,7 @@ former_value_step (Before-F.Replaced v) (Some d) = Some (view v)
 former_value_step (Before-F.Filled log) (Some (object ms)) = Some (object (restore_members log.items ms))
 former_value_step (Before-F.Filled log) now = now
 
--- what stood where now this stands
+-- what stood there before, by what stands there now
 abbrev pub former_value : Before → Option Data → Option Data
 former_value = fold-Before (Option Data → Option Data) former_value_step
 
@@ -51,7 +51,7 @@ former_value = fold-Before (Option Data → Option Data) former_value_step
 abbrev pub members_before : List (Bor (List ℕ) × Before) → Members → Members
 members_before log ms = restore_members (map (λ e. (e.0, former_value e.1)) log) ms
 
--- a document is filled, and what was found leads back; or it is as it was
+-- a document is filled, and what was found leads back; or, out of memory, it is as it was
 abbrev pub Fills : Result Before AllocError → Data → Data → Data → Type 0
 Fills (Ok former) d p w = IsDocument d → IsDocument p → IsFilled d p w × IsDocument w × (former_value former (Some w) ≡ Some d)
 Fills (Err e) d p w = IsDocument d → IsDocument p → w ≡ d
@@ -66,19 +66,19 @@ abbrev pub FillsAt : Result Before AllocError → List ℕ → Members → Data 
 FillsAt (Ok former) t ms q ns = AreMembers ms → IsDocument q → (w : Data) × (ns ≡ put t w ms) × IsFilled (unwrap_or (get_member t ms) null) q w × IsDocument w × (former_value former (Some w) ≡ get_member t ms)
 FillsAt (Err e) t ms q ns = AreMembers ms → IsDocument q → ns ≡ ms
 
--- and the log has what was found, under this name; or it is as it was
+-- and the log has what was found, under this name; or, out of memory, it is as it was
 abbrev pub LogsMember : Result ⊤ AllocError → List ℕ → List (Bor (List ℕ) × Before) → List (Bor (List ℕ) × Before) → (Result Before AllocError → Type 0) → Type 0
 LogsMember (Ok done) t was now Holds = (name : Bor (List ℕ)) × (former : Before) × (name.now ≡ t) × (now ≡ was ++ (name, former) ∷ []) × Holds (Ok former)
 LogsMember (Err e) t was now Holds = (now ≡ was) × Holds (Err e)
 
--- one member that is filled, whatever it was before, and is left or removed
+-- `end` is the member with `named` merged into it, for each member that is `now` when it is filled
 abbrev pub IsPrunedMember : Option Data → Option Data → Option Data → Type 0
 IsPrunedMember now named end = (was : Option Data) → IsFilledMember was named now → IsMergedMember was named end
 
 abbrev pub ArePruned : Members → Members → Members → Type 0
 ArePruned ms ps ns = (k : List ℕ) → IsPrunedMember (get_member k ms) (get_member k ps) (get_member k ns)
 
--- what is filled is pruned, whatever it was before
+-- e is d with p merged into it, for each d that is w when it is filled with p
 abbrev pub Prunes : Data → Data → Data → Type 0
 Prunes w p e = IsDocument w → IsDocument p → IsDocument e × ((d : Data) → IsFilled d p w → IsMerged d p e)
 

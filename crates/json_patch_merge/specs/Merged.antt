@@ -10,7 +10,7 @@ mutual
   pub data IsMerged : Data → Data → Data → Type 0 where
     -- a patch that is no object is the result
     replaces : {d p : Data} → sight_of p ≢ Sight.object → IsMerged d p p
-    -- one that is an object leaves an object; a document that is none has no members
+    -- one that is an object leaves an object; a document that is none counts as one with no members
     by_key : {d p e : Data} → sight_of p ≡ Sight.object → sight_of e ≡ Sight.object → ((k : List ℕ) → IsMergedMember (get k d) (get k p) (get k e)) → IsMerged d p e
 
   -- at one key: what the document had there, what the patch has, and what is left

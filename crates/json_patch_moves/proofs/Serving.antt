@@ -1,5 +1,5 @@
 -- Patches with moves: what one that serves is, beside the plain one.
-use Rattle.std.proofs.Common.{◌≡◌, ◌<◌, ◌≤◌, ℕ, zero, suc, List, [], ◌∷◌, inl, inr, refl, arith}
+use Rattle.std.proofs.Common.{◌≡◌, ◌<◌, ◌≤◌, ℕ, zero, suc, List, [], ◌∷◌, false, inl, inr, refl, arith}
 use Rattle.std.proofs.lemmas.Bool.{cases_lt}
 use Rattle.serde_json.specs.Data.{Data, depth}
 use Rattle.json_patch.specs.Inverse.{ArePlain, IsPlain}
@@ -30,7 +30,7 @@ plain_moving d (op ∷ ops) h = (one_moving d op h.1, plain_moving h.0 ops h.3)
 
 -- ---- within limits
 
-none_copied : (d : Data) (op : Operation) → IsMoving op → copied_by d op ≡ 0
+none_copied : (d : Data) (op : Operation) → IsMoving op → copied_by false d op ≡ 0
 none_copied d (add P v) h = refl
 none_copied d (remove P) h = refl
 none_copied d (replace P v) h = refl
@@ -48,18 +48,18 @@ not_above a b h = elim (cases_lt b a) [
 first_low : (l : Limits) (d : Data) (op : Operation) (ops : List Operation) → IsNeverOver l d (op ∷ ops) → reach_of d op ≤ l.depth
 first_low l d op ops never = not_above (reach_of d op) l.depth (λ lt. never zero TooDeep lt)
 
-rest_under : (l : Limits) (d : Data) (op : Operation) (ops : List Operation) (m : Data) → IsMoving op → IsNeverOver l d (op ∷ ops) → Leaves d op m → IsNeverOver (left_of l d op) m ops
+rest_under : (l : Limits) (d : Data) (op : Operation) (ops : List Operation) (m : Data) → IsMoving op → IsNeverOver l d (op ∷ ops) → Leaves d op m → IsNeverOver (left_of false l d op) m ops
 rest_under l d op ops m h never leaves k kind over =
     let none = none_copied d op h in
     never (suc k) kind ((first_low l d op ops never, omega arith), (m, leaves, over))
 
--- so of these limits, and of none that let go deeper
+-- so what is never over some limits is never over others that let go as deep
 over_less : (s l : Limits) (d : Data) (ops : List Operation) → AreMoving ops → s.depth ≤ l.depth → IsNeverOver s d ops → (k : ℕ) (kind : LimitKind) → IsOverAt l d ops k kind → ⊥
 over_less s l d [] h le never k kind over = over
 over_less s l d (op ∷ ops) h le never zero TooDeep over = let low = first_low s d op ops never in absurd (omega arith)
 over_less s l d (op ∷ ops) h le never zero TooMuch over = let none = none_copied d op h.0 in let more = over.1 in absurd (omega arith)
 over_less s l d (op ∷ ops) h le never (suc k) kind over =
-    over_less (left_of s d op) (left_of l d op) over.1.0 ops h.1 le (rest_under s d op ops over.1.0 h.0 never over.1.1) k kind over.1.2
+    over_less (left_of false s d op) (left_of false l d op) over.1.0 ops h.1 le (rest_under s d op ops over.1.0 h.0 never over.1.1) k kind over.1.2
 
 pub never_less : (s l : Limits) (d : Data) (ops : List Operation) → AreMoving ops → s.depth ≤ l.depth → IsNeverOver s d ops → IsNeverOver l d ops
 never_less s l d ops h le never k kind over = over_less s l d ops h le never k kind over
@@ -77,7 +77,7 @@ pub all_low : (l : Limits) (d : Data) (ops : List Operation) (e : Data) (b : ℕ
 all_low l d [] e b le h never run = tt
 all_low l d (op ∷ ops) e b le h never run =
     let low = first_low l d op ops never in
-    (levels_low d op b h.0 (omega arith), all_low (left_of l d op) run.0 ops e b le h.1 (rest_under l d op ops run.0 h.0 never run.1) run.2)
+    (levels_low d op b h.0 (omega arith), all_low (left_of false l d op) run.0 ops e b le h.1 (rest_under l d op ops run.0 h.0 never run.1) run.2)
 
 -- ---- what one that serves is
 

@@ -5,12 +5,12 @@ use json_patch::jsonptr::PointerBuf;
 use json_patch::jsonptr::index::Index;
 use std::alloc::{AllocError, Global};
 
-/// What an operation does to the items of the list in which it is made.
+/// What an operation does to the elements of the array in which it is made.
 #[derive(Clone, Copy)]
 pub(crate) enum Effect {
-    /// It inserts one: those from its place on go one further.
+    /// It inserts one: the index of those from there on goes up by one.
     Inserts,
-    /// It takes one out: those after it come one nearer.
+    /// It takes one out: the index of those after it goes down by one.
     Takes,
     /// It replaces one: each stays where it is.
     Stays,
@@ -19,11 +19,11 @@ pub(crate) enum Effect {
 /// Where an operation is made.
 #[derive(Drop)]
 pub(crate) struct Site {
-    /// The list of whose items it is about one, or else its path.
+    /// The path of the array, where it adds, removes or replaces an element; else its own path.
     pub(crate) way: PointerBuf,
-    /// Which item of the list.
+    /// The index of that element.
     pub(crate) item: Option<usize>,
-    /// What it does to the list.
+    /// What it does to the array.
     pub(crate) effect: Effect,
 }
 
@@ -53,7 +53,7 @@ impl Site {
     }
 }
 
-/// What becomes of a way.
+/// What becomes of a site's `way`.
 #[derive(Drop)]
 enum Turn {
     /// It leads through what the other operation adds, removes or replaces.
@@ -62,8 +62,8 @@ enum Turn {
     Other(PointerBuf),
 }
 
-/// Makes of the sites of two operations, the second made after the first, those that they have if it
-/// is made before. Where one is about what the other adds, removes or replaces there are none:
+/// Changes the sites of two operations, the second made after the first, to those that they have if
+/// the second is made first. Where one is about what the other adds, removes or replaces, it returns
 /// `false`, and both stay.
 pub(crate) fn exchange(
     alloc: Global,
@@ -78,7 +78,7 @@ pub(crate) fn exchange(
     exchange_ways(alloc, first, second)
 }
 
-/// The same, of two items of one list.
+/// The same, of two elements of one array.
 fn exchange_items(first: &mut Site, second: &mut Site, place: usize, index: usize) -> bool {
     let Some(before) = index_before(first.effect, place, second.effect, index) else {
         return false;
@@ -88,8 +88,8 @@ fn exchange_items(first: &mut Site, second: &mut Site, place: usize, index: usiz
     true
 }
 
-/// The same, where neither is an item of the list in which the other is made, so that each may lead
-/// through that list at most.
+/// The same, where they aren't about elements of one array: at most, the path of one leads through
+/// the other's array.
 fn exchange_ways(alloc: Global, first: &mut Site, second: &mut Site) -> Result<bool, AllocError> {
     let before = way_before(alloc, first, &second.way)?;
     let after = way_after(alloc, second, &first.way)?;
@@ -145,7 +145,7 @@ fn barred_below(path: &PointerBuf, way: &PointerBuf) -> Turn {
     }
 }
 
-/// Which item of the list a way leads through, if it does.
+/// The index of the array's element through which a way leads, if it leads through one.
 fn item_on(list: &PointerBuf, way: &PointerBuf) -> Option<usize> {
     let rest = way.as_pointer().strip_prefix(list.as_pointer())?;
     let token = rest.tokens().next()?;
@@ -156,7 +156,7 @@ fn item_on(list: &PointerBuf, way: &PointerBuf) -> Option<usize> {
     }
 }
 
-/// The way that leads through another item of the list.
+/// The way through the element at `other` of the array, in place of the one at `place`.
 fn turned(
     alloc: Global,
     way: &PointerBuf,
@@ -183,10 +183,10 @@ fn turned(
     Ok(Turn::Other(turned))
 }
 
-/// The index by which the second operation goes before the first, which is made at this place;
-/// `None` where it is about what the first leaves there.
+/// The second operation's index if it is made before the first, which is made at `place`; `None`
+/// where it is about what the first leaves there.
 fn index_before(first: Effect, place: usize, second: Effect, index: usize) -> Option<usize> {
-    // An item that is inserted at the place goes in front of what stands there.
+    // An element that is inserted at an index goes in front of what stands there.
     let is_apart = index != place || matches!(&second, Effect::Inserts);
     match first {
         Effect::Takes if index > place || !is_apart => index.checked_add(1),
@@ -197,8 +197,8 @@ fn index_before(first: Effect, place: usize, second: Effect, index: usize) -> Op
     }
 }
 
-/// The place at which the first operation is made after the second, whose index this was when it
-/// came after it.
+/// The first operation's index if it is made after the second, which had `index` when it came after
+/// the first.
 fn place_after(place: usize, second: Effect, index: usize) -> usize {
     match second {
         Effect::Inserts if index <= place => place.saturating_add(1),

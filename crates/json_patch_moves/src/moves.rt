@@ -212,7 +212,7 @@ fn join_pairs(alloc: Global, steps: &mut [Step<'_>]) -> Result<(), AllocError> {
     Ok(())
 }
 
-/// Where the second step of a pair stands, if the first stands at this place and no more steps are
+/// The index of the second step of a pair, if the first stands at this one and no more steps are
 /// passed than are left.
 fn partner_of(steps: &[Step<'_>], place: usize, left: &mut usize) -> Option<usize>
     ensures later { IfSome result (λ later. place < later) }
@@ -233,7 +233,7 @@ fn partner_of(steps: &[Step<'_>], place: usize, left: &mut usize) -> Option<usiz
     None
 }
 
-/// Brings the later step up to the one at this place, past those between, as far as it gets.
+/// Brings the later step up to the one at this index, past those between, as far as it gets.
 fn join(alloc: Global, steps: &mut [Step<'_>], place: usize, later: usize) -> Result<(), AllocError>
     requires { place < later }
 {
@@ -251,7 +251,7 @@ fn join(alloc: Global, steps: &mut [Step<'_>], place: usize, later: usize) -> Re
     Ok(())
 }
 
-/// Whether the step at this place and the next could change places, and did.
+/// Whether the step at this index and the next could change places, and did.
 fn exchange_at(alloc: Global, steps: &mut [Step<'_>], place: usize) -> Result<bool, AllocError> {
     if place >= steps.len() {
         return Ok(false);
@@ -293,9 +293,9 @@ fn is_move(step: &Step<'_>, next: &Step<'_>) -> bool {
     is_removal(step) && step.pair.is_some() && step.pair == next.pair
 }
 
-/// Appends the move that a removal and an addition are, or both of them: an item can't be moved by a
-/// path through the index that it has itself, and another has once it is gone (RFC 6902, section 4.4).
-/// In place of another member it replaces that (section 4.1).
+/// Appends the move that a removal and an addition are, or both of them: an element can't be moved by
+/// a path through its own index, which another has once it is gone (RFC 6902, section 4.4). In place
+/// of another member it replaces that (section 4.1).
 fn push_move(
     alloc: Global,
     step: &Step<'_>,

@@ -11,8 +11,8 @@ use json_patch::{AddOperation, PatchOperation, lookup};
 use serde_json::Value;
 use std::alloc::{AllocError, Global};
 
-/// What of its operation a step is. The replacement of an item is its removal and an addition, and
-/// that of an object in which one member got another name the removal and an addition of this.
+/// What of its operation a step is. The replacement of an element is its removal and an addition,
+/// and that of an object in which one member got another name the removal and an addition of this.
 #[derive(Clone, Copy)]
 pub(crate) enum Part {
     /// All of it.
@@ -170,8 +170,8 @@ fn if_long(
     Ok(Some(texts.number_of(text)?))
 }
 
-/// Whether a text isn't shorter than the path of a change and so many bytes, as which its value
-/// stands in a `move`.
+/// Whether a value's text isn't shorter than the path of a change and so many bytes more: in a
+/// `move` a path stands in place of the value.
 fn is_long(text: &str, more: usize, change: &PatchOperation) -> bool {
     text.len() as u128 >= change.path().len() as u128 + more as u128
 }
@@ -192,8 +192,9 @@ fn site_of(alloc: Global, to: &Value, change: &PatchOperation) -> Result<Site, A
     Ok(Site { way, item, effect })
 }
 
-/// The list, and which item of it, if the path leads to an item. The changes go through a list from
-/// its front, so what the path goes through stands in the second document as it says.
+/// The array's path and the element's index, if the path leads to an element. The changes go
+/// through an array from its front, so what the path goes through stands in the second document as
+/// it says.
 pub(crate) fn item_of<'a>(to: &Value, path: Pointer<'a>) -> Option<(Pointer<'a>, usize)> {
     let (front, last) = path.split_back()?;
     match lookup(to, front) {

@@ -1,5 +1,5 @@
-//! Numbers for texts of values. Equal documents have one text, since their members stand in order and
-//! their numbers are whole; unequal ones have two. This is advice, as `moves` is.
+//! Numbers for texts of values. Equal documents have the same text, since their members stand in
+//! order and their numbers are integers, and unequal ones don't. This is advice, as `moves` is.
 
 use std::alloc::{AllocError, Global};
 use std::collections::BTreeMap;

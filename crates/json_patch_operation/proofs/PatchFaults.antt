@@ -20,7 +20,7 @@ some_or_none : (o : Option Data) → ((d : Data) × (o ≡ Some d)) ⊎ (o ≡ N
 some_or_none None = inr refl
 some_or_none (Some d) = inl (d, refl)
 
--- what is found of a member that is to be a pointer's text
+-- what is found of a member that is to be a pointer's string
 pub data Text (v : Data) (k : List ℕ) : Type 0 where
   pointer : (P : Pointer) → get k v ≡ Some (string (text_of P)) → Text v k
   lacks : Lacks v k → Text v k
@@ -86,7 +86,7 @@ module _ (F : ReadKind → Type 0) (from_one : (e f : ParseError) → F (BadFrom
   pub first_one : (kind other : ReadKind) → IsFirst F kind → IsFirst F other → other ≡ kind
   first_one kind other h g = search (rules, same_rank)
 
--- ---- the operation that `op` names, and the items of a list, read one by one
+-- ---- the operation that `op` names, and the elements of an array, read one by one
 
 -- what is read is whole
 pub reads_whole : (ds : Items) (ops : List Operation) → ReadsItems ds ops → AreWhole ops
@@ -97,13 +97,13 @@ pub patch_whole : (v : Data) (ops : List Operation) → ReadsPatch v ops → Are
 patch_whole (array ds) ops h = reads_whole ds ops h
 patch_whole v ops h = absurd h
 
--- the next item is read
+-- the next element is read
 pub item_read : (vs : List Value) (os : List PatchOperation) (n : ℕ) (v : Value) (o : PatchOperation) → n < length vs → v ≡ get_or vs n v
     → ReadsItems (items_view (take n vs)) (operations os) → ReadsOperation (view v) (operation_of o) → ReadsItems (items_view (take (suc n) vs)) (operations (os ++ o ∷ []))
 item_read (w ∷ vs) (p ∷ os) (suc n) v o l is h g = (h.0, item_read vs os n v o (omega arith) is h.1 g)
 item_read vs os n v o l is h g = search rules
 
--- the next item is refused
+-- the next element is refused
 pub item_refused : (vs : List Value) (os : List PatchOperation) (n : ℕ) (v : Value) (kind : ReadKind) → n < length vs → v ≡ get_or vs n v
     → ReadsItems (items_view (take n vs)) (operations os) → RefusesOperation (view v) kind → RefusesItem (items_view vs) n kind
 item_refused (w ∷ vs) (p ∷ os) (suc n) v kind l is h g = (operation_of p, h.0, item_refused vs os n v kind (omega arith) is h.1 g)

@@ -182,7 +182,7 @@ read_alone_or_refused v =
     (λ h. inr (h.0, record { refuses = h.1; alone = λ other g. operation_fault_one v h.0 other h.1 g; never = λ op g. reads_no_fault v op g h.0 h.1.here }))
     (operation_read_or_refused v)
 
--- ---- lists
+-- ---- arrays
 
 items_read_or_refused : (ds : Items) → ((ops : List Operation) × ReadsItems ds ops) ⊎ ((k : ℕ) × (kind : ReadKind) × RefusesItem ds k kind)
 items_read_or_refused no_items = inl ([], tt)
@@ -205,7 +205,7 @@ same_item_refused (item d ds) (suc k) zero kind other h g = absurd (reads_no_fau
 same_item_refused (item d ds) (suc k) (suc j) kind other h g = search (rules, same_item_refused ds k j kind other)
 same_item_refused ds k j kind other h g = search (rules, operation_fault_one)
 
--- a list reads as one patch, or is refused at one item for one kind
+-- an array reads as one patch, or is refused at one element for one kind
 list_read_or_refused : (ds : Items) → ((ops : List Operation) × IsRead (array ds) ops) ⊎ ((k : Option ℕ) × (kind : ReadKind) × HasReadFault (array ds) k kind)
 list_read_or_refused ds =
     ⊎_elim (λ h. inl (h.0, search (rules, same_items_read, items_exclude))) (λ h. inr (Some h.0, h.1, search (rules, same_item_refused, items_exclude)))

@@ -40,7 +40,7 @@ escaped_control c below b t n f r = search rules
 pub hexadecimal-four_digits : (c : ℕ) → c < 32 → 92 ∷ 117 ∷ four_digits c ≡ hexadecimal c
 hexadecimal-four_digits c below = grind (arith, common_steps, bytes_eq-Decides, holds_at, two_zeros)
 
--- ---- the characters of a text, one by one
+-- ---- the characters of a string, one by one
 
 pub escaped_more : (done text rest whole : List ℕ) (c : ℕ) → IsUtf8 text → text ≡ encode_utf8 c ++ rest
     → done ++ flat_map character_text (chars text) ≡ whole → (done ++ character_text c) ++ flat_map character_text (chars rest) ≡ whole
@@ -53,7 +53,7 @@ pub quoted_end : (done text rest : List ℕ) → length rest ≡ 0 → done ++ f
     → (34 ∷ done) ++ 34 ∷ [] ≡ quote text
 quoted_end done text rest none h = search (rules, append-nil, flat_map, no_bytes, chars-nil)
 
--- ---- items and members, one by one
+-- ---- elements and members, one by one
 
 pub printed_items_more : (done before whole : List ℕ) (ds es : Items) (d : Data) → ds ≡ item d es
     → done ++ printed_items before ds ≡ whole → ((done ++ before) ++ value_text d) ++ printed_items (codes ",") es ≡ whole

@@ -22,7 +22,7 @@ pub data Operation : Type 0 where
   copy : Pointer → Pointer → Operation
   test : Pointer → Data → Operation
 
--- what an operation of the program stands for
+-- what an operation of the program stands for; `o.path` and `o.from` stand for their tokens
 abbrev pub add_of : AddOperation → Operation
 add_of o = add o.path (view o.value)
 
@@ -52,7 +52,7 @@ operation_of (Test o) = test_of o
 abbrev pub operations : List PatchOperation → List Operation
 operations os = map operation_of os
 
--- those that a patch has
+-- the operations of a patch
 abbrev pub operations_of : Patch → List Operation
 operations_of p = operations p.0.items
 

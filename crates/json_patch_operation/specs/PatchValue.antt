@@ -22,7 +22,7 @@ use Rattle.json_patch_operation.specs.declared.read_error.ReadFault.TheVariants.
 
 -- ---- the members of an operation (RFC 6902, section 4)
 
--- the text of its member `op`
+-- the string of its member `op`
 abbrev pub name_of : Operation → List ℕ
 name_of op = (parts_of op).name
 
@@ -31,7 +31,7 @@ abbrev pub field_if : List ℕ → Option Data → List (List ℕ × Data)
 field_if name None = []
 field_if name (Some d) = (name, d) ∷ []
 
--- the text of a pointer, as a value (RFC 6901, section 3)
+-- the string of a pointer, as a value (RFC 6901, section 3)
 abbrev pub pointer_text : Pointer → Data
 pointer_text P = string (text_of P)
 
@@ -66,13 +66,13 @@ ReadsFields v op = HasMembers v (fields op) × IsWholeOp op
 abbrev pub ReadsOperation : Data → Operation → Type 0
 ReadsOperation v op = HasMembers v (all_fields op) × IsWholeOp op
 
--- the items read as the operations, one by one
+-- the elements read as the operations, one by one
 abbrev pub ReadsItems : Items → List Operation → Type 0
 ReadsItems no_items [] = Unit {0}
 ReadsItems (item d ds) (op ∷ ops) = ReadsOperation d op × ReadsItems ds ops
 ReadsItems ds ops = ⊥
 
--- v is a list that reads as the operations
+-- v is an array that reads as the operations
 abbrev pub ReadsPatch : Data → List Operation → Type 0
 ReadsPatch (array ds) ops = ReadsItems ds ops
 ReadsPatch v ops = ⊥
@@ -87,11 +87,11 @@ IsObject v = (ms : Members) × (v ≡ object ms)
 abbrev pub Lacks : Data → List ℕ → Type 0
 Lacks v k = IsObject v × (get k v ≡ None)
 
--- the member k of v isn't a text
+-- the member k of v isn't a string
 abbrev pub HasNoText : Data → List ℕ → Type 0
 HasNoText v k = (d : Data) × (get k v ≡ Some d) × ((t : List ℕ) → d ≡ string t → ⊥)
 
--- the member k of v is a text, and no pointer's, for this fault
+-- the member k of v is a string, and no pointer's, for this fault
 abbrev pub HasNoPointer : Data → List ℕ → ParseError → Type 0
 HasNoPointer v k e = (t : List ℕ) × (get k v ≡ Some (string t)) × IsFault t e
 
@@ -168,13 +168,13 @@ RefusesFields names v kind = IsFirst (IsFieldFault names v) kind
 abbrev pub RefusesOperation : Data → ReadKind → Type 0
 RefusesOperation v kind = IsFirst (IsOperationFault v) kind
 
--- the items before the one at k read as operations, and it isn't read, for this kind
+-- the elements before the one at k read as operations, and that one doesn't, for this kind
 abbrev pub RefusesItem : Items → ℕ → ReadKind → Type 0
 RefusesItem no_items k kind = ⊥
 RefusesItem (item d ds) zero kind = RefusesOperation d kind
 RefusesItem (item d ds) (suc k) kind = (op : Operation) × ReadsOperation d op × RefusesItem ds k kind
 
--- v isn't read as a patch, for this kind: at this item of the list, or since v is no list
+-- v isn't read as a patch, for this kind: at this element of the array, or since v is no array
 abbrev pub RefusesPatch : Data → Option ℕ → ReadKind → Type 0
 RefusesPatch (array ds) (Some k) kind = RefusesItem ds k kind
 RefusesPatch (array ds) None kind = ⊥
@@ -217,7 +217,7 @@ written_patch ops = array (items_of (map written_value ops))
 
 -- ---- for private clauses
 
--- the members of parts, with a member `op` in front where there is a text for it
+-- the members of parts, with a member `op` in front where there is a string for it
 abbrev pub named_fields : Option (List ℕ) → Parts → List (List ℕ × Data)
 named_fields name p = field_if (codes "op") (option_map string name) ++ part_fields p
 

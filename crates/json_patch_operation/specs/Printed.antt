@@ -1,4 +1,4 @@
--- The text of values and operations with no space (RFC 8259).
+-- The text of values and operations without whitespace (RFC 8259).
 use Rattle.std.specs.Prelude.{ℕ, ◌/◌, ◌%◌, ◌==◌, nat_lt, if◌then◌else◌, true, false, List, [], ◌∷◌, ◌++◌, map, flat_map}
 use Rattle.std.specs.Prelude.{Option, Some, None, chars, codes, decimal, encode_utf8}
 use Rattle.std.specs.Char.{digit_char}
@@ -41,7 +41,7 @@ abbrev mutual
   value_text (array ds) = codes "[" ++ (printed_items [] ds ++ codes "]")
   value_text (object ms) = codes "{" ++ (printed_members [] ms ++ codes "}")
 
-  -- the items, where this stands before the first, and a comma before each other
+  -- the elements, with `before` in front of the first and a comma in front of each other
   pub printed_items : List ℕ → Items → List ℕ
   printed_items before no_items = []
   printed_items before (item d ds) = before ++ (value_text d ++ printed_items (codes ",") ds)

@@ -12,7 +12,7 @@ pub record IsRead (v : Data) (ops : List Operation) : Type 0 where
   pub alone : (others : List Operation) → ReadsPatch v others → others ≡ ops
   pub nowhere : (k : Option ℕ) (kind : ReadKind) → RefusesPatch v k kind → ⊥
 
--- v is refused with this number and for this kind, and so alone, and reads as no operations
+-- v is refused with this number and for this kind, in no other way, and reads as no operations
 pub record HasReadFault (v : Data) (k : Option ℕ) (kind : ReadKind) : Type 0 where
   pub refuses : RefusesPatch v k kind
   pub alone : (j : Option ℕ) (other : ReadKind) → RefusesPatch v j other → (j ≡ k) × (other ≡ kind)

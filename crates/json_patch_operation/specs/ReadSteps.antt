@@ -5,10 +5,10 @@ use Rattle.serde_json.specs.Find.{get}
 use Rattle.jsonptr.specs.Text.{Pointer, text_of}
 use Rattle.json_patch_operation.specs.PatchValue.{IsOneOf}
 
--- the member k of v is the text of this pointer
+-- the member k of v is the string of this pointer
 abbrev pub IsPointerAt : Data → List ℕ → Pointer → Type 0
 IsPointerAt v k P = get k v ≡ Some (string (text_of P))
 
--- if there is to be a member `from`, it is a pointer's text
+-- if there is to be a member `from`, it is a pointer's string
 abbrev pub HasAnyFrom : List (List ℕ) → Data → Type 0
 HasAnyFrom names v = IsOneOf names (codes "from") → (P : Pointer) × IsPointerAt v (codes "from") P

@@ -3,7 +3,7 @@ use Rattle.std.specs.Prelude.{◌≡◌, List, [], ◌∷◌}
 use Rattle.json_patch_operation.specs.Operation.{Operation, Parts, parts_of}
 pub use Rattle.json_patch_document.specs.Same.{AreSameNumbers, AreSame, AreSameItems, AreSameMembers, AreSameAt, AreInOrder}
 
--- one name, equal pointers and the same value, those that there are
+-- one name, equal pointers and the same value, or none in both
 pub record AreSameParts (p q : Parts) : Type 0 where
   pub name : p.name ≡ q.name
   pub from : p.from ≡ q.from

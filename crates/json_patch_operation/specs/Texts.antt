@@ -28,7 +28,8 @@ BytesSayDocument bytes d = IsUtf8 bytes × SaysDocument bytes d
 abbrev pub SaysPatch : List ℕ → List Operation → Type 0
 SaysPatch text ops = (v : Data) × (read text ≡ Some v) × ReadsPatch v ops
 
--- why the text says no document: it is no JSON, or a number of its value isn't whole; of want of memory nothing is said
+-- why the text says no document: it is no JSON, or a number of its value isn't whole; where memory ran out,
+-- the text may say one
 abbrev pub NoDocument : List ℕ → Fault → Type 0
 NoDocument text (Syntax e) = read text ≡ None
 NoDocument text NotWhole = (v : Data) × (read text ≡ Some v) × (IsDocument v → ⊥)
@@ -41,7 +42,8 @@ NoDocumentInBytes bytes (Syntax e) = IsUtf8 bytes → NoDocument bytes (Syntax e
 NoDocumentInBytes bytes NotWhole = IsUtf8 bytes × NoDocument bytes NotWhole
 NoDocumentInBytes bytes fault = NoDocument bytes fault
 
--- why the text says no patch: it is no JSON, or its value isn't read as one; of want of memory nothing is said
+-- why the text says no patch: it is no JSON, or its value isn't read as one; where memory ran out, the text
+-- may say one
 abbrev pub NoPatch : List ℕ → Fault → Type 0
 NoPatch text (Syntax e) = read text ≡ None
 NoPatch text (Unreadable e) = (v : Data) × (read text ≡ Some v) × RefusesPatch v e.operation e.kind

@@ -12,7 +12,7 @@ use jsonptr::{Pointer, PointerBuf};
 use serde_json::Value;
 use std::alloc::{AllocError, Global};
 
-/// Puts a value at `path`: a new member, a member in place of another, or an item before the one
+/// Puts a value at `path`: a new member, a member in place of another, or an element before the one
 /// that stands there (RFC 6902, section 4.1).
 #[derive(Default, Drop)]
 pub struct AddOperation {

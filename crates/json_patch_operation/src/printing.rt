@@ -1,5 +1,5 @@
-//! Patches and operations as JSON text (RFC 8259) with no space, and documents as text on several
-//! lines.
+//! Patches and operations as JSON text (RFC 8259) without whitespace, and documents as text on
+//! several lines.
 
 ghost use Rattle.std.specs.Prelude.{◌≡◌, ◌≤◌, ◌++◌, Some, IfOk, codes, option_map, string_bytes};
 ghost use Rattle.std.specs.Fmt.{WritesOnOk};
@@ -207,7 +207,7 @@ fn write_parts<W: fmt::Write>(
     f.write_str("}")
 }
 
-/// Writes a member and the comma after it, if there is a text.
+/// Writes a member and the comma after it, if there is a string for it.
 fn write_leading<W: fmt::Write>(
     name: &str,
     text: Option<&str>,

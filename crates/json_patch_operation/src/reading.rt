@@ -178,8 +178,8 @@ fn read_name(value: &Value) -> Result<&str, ReadFault>
 }
 
 impl Patch {
-    /// Reads a list of operations (RFC 6902, section 3). Returns the first fault of the first
-    /// item that isn't an operation, or `Memory` where a growth was refused.
+    /// Reads an array of operations (RFC 6902, section 3). Returns the first fault of the first
+    /// element that isn't an operation, or `Memory` where a growth was refused.
     ///
     /// ```rust
     /// let read = Patch::from_value(alloc, &changes.to_value(alloc)?)?;

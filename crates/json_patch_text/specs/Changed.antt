@@ -7,13 +7,13 @@ use Rattle.jsonptr.specs.Text.{Pointer}
 use Rattle.json_patch_document.specs.ChangeComputed.{slot_in, front_of, last_of}
 use Rattle.json_text.specs.Pointed.{child, tree_at, if_some, put_member, put_at}
 
--- ---- lists
+-- ---- arrays
 
 abbrev pub count : Items → ℕ
 count no_items = 0
 count (item j js) = suc (count js)
 
--- the items with w before the one at n, or last
+-- the elements with w before the one at n, or last
 abbrev pub insert_item : ℕ → Json → Items → Items
 insert_item n w no_items = item w no_items
 insert_item zero w (item j js) = item w (item j js)

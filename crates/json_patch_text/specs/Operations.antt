@@ -65,7 +65,7 @@ ReadsTrees no_items [] = ⊤
 ReadsTrees (item v js) (op ∷ ops) = HasFields v (tree_fields op) × ReadsTrees js ops
 ReadsTrees js ops = ⊥
 
--- a list whose items have the members of the operations, one by one
+-- an array whose elements have the members of the operations, one by one
 abbrev pub ReadsTreePatch : Json → List TreeOperation → Type 0
 ReadsTreePatch (array js) ops = ReadsTrees js ops
 ReadsTreePatch p ops = ⊥
@@ -76,7 +76,7 @@ ReadsTreePatch p ops = ⊥
 abbrev pub SaysOperations : List ℕ → List TreeOperation → Type 0
 SaysOperations text ops = (p : Json) × Says text p × ReadsTreePatch p ops
 
--- the text is JSON, and whatever its numbers are read as, it isn't read as a patch, for this kind: at this item of the list, or
--- since it is no list
+-- the text is JSON, and whatever its numbers are read as, it isn't read as a patch, for this kind: at this element of the array, or
+-- since it is no array
 abbrev pub SaysNoOperations : List ℕ → Option ℕ → ReadKind → Type 0
 SaysNoOperations text k kind = (p : Json) × Says text p × ((r : Reading) → RefusesPatch (data_of r p) k kind)

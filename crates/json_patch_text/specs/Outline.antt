@@ -66,7 +66,7 @@ pub record IsAhead (text : List ℕ) (j : json.Json) (es : List Texts) (seen : M
 
 -- ---- a patch
 
--- of the items of the text's list, n of which are read as the operations os, those with the texts es are still ahead
+-- of the elements of the text's array, n of which are read as the operations os, those with the texts es are still ahead
 pub record IsRead (text : List ℕ) (js : json.Items) (es : List Texts) (os : List TextOperation) (n : ℕ) : Type 0 where
   pub rest : json.Items
   pub texts : AreTextsOfItems es rest
@@ -82,7 +82,7 @@ pub record IsRead (text : List ℕ) (js : json.Items) (es : List Texts) (os : Li
 abbrev pub IsReadPatch : List ℕ → json.Json → List Texts → List TextOperation → ℕ → Type 0
 IsReadPatch text p es os n = (js : json.Items) × (p ≡ json.array js) × IsRead text js es os n
 
--- a fault with the number of its item
+-- a fault with the number of its element
 abbrev pub at_number : ℕ → ReadFault → ReadFault
 at_number n (Refused e) = Refused (record { operation = Some n; kind = e.kind })
 at_number n (Memory e) = Memory e

@@ -11,7 +11,7 @@ use Rattle.json_patch_text.specs.Operations.{TreeOperation, add, remove, replace
 use Rattle.json_patch_text.specs.declared.operation.TextOperation.{TextOperation}
 use Rattle.json_patch_text.specs.declared.operation.TextOperation.TheVariants.{Add, Remove, Replace, Move, Copy, Test}
 
--- a value's text, without the blanks around it
+-- a value's text, without the whitespace around it
 abbrev pub IsValueText : List ℕ → Json → Type 0
 IsValueText s w = IsShallowText s w × IsTight s
 

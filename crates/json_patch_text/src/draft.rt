@@ -69,9 +69,10 @@ impl WholeText<'_> {
 /// The text that operations work on.
 #[derive(Drop)]
 pub(crate) enum Draft<'a> {
-    /// `remove` and `add` work on it as well, though more slowly than on pieces.
+    /// Made for a lone `replace` or `test`. `remove` and `add` work on it as well: to rule them out would
+    /// take a clause in each step, and arms that are never reached.
     Whole(WholeText<'a>),
-    /// An object or a list is passed over once, however many calls go through it.
+    /// An object or an array is passed over once, however many calls go through it.
     Pieces(Pieces<'a>),
 }
 
@@ -83,7 +84,7 @@ impl<'a> Draft<'a> {
     ghost use Rattle.json_pieces.specs.Changes.{Adds, Removes, Replaces};
 
     /// The document's text, as serves these operations best: for a single one in place as a whole, since
-    /// to find its place is all that it takes. Another would pass over the objects and lists around it, or
+    /// to find its place is all that it takes. Another would pass over the objects and arrays around it, or
     /// copy them, more than once.
     pub(crate) fn new(text: CheckedText<'a>, operations: &[TextOperation]) -> Draft<'a>
         ensures draft { IsDraft result }

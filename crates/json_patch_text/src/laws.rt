@@ -135,7 +135,7 @@ pub fn whole_numbers()
 
 /// Values as they are written.
 pub fn values()
-    // Of a text with no blanks around it all is put in, byte by byte, where it is added.
+    // Of a text with no whitespace around it all is put in, byte by byte, where it is added.
     ensures as_written { (s put : List ℕ) (w : Json) → IsTight s → IsWrittenAt s w [] put
         → put ≡ s }
 {}

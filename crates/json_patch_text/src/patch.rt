@@ -79,7 +79,7 @@ fn operations_in<'a>(
 /// The text with the patch applied, and every byte kept that no operation changes.
 ///
 /// A value of the patch is put in as it is written there, and a value that is copied or moved as it is
-/// written in the text. What goes with a new member or item follows the style of its neighbours.
+/// written in the text. What goes with a new member or element follows the style of its neighbours.
 /// Numbers are compared by their value, exactly.
 ///
 /// ```rust
@@ -107,8 +107,8 @@ pub fn patch_text(alloc: Global, text: &str, patch: &str) -> Result<String, Patc
 ///
 /// Each text that the operations leave, one after another, may have at most `limits.depth` objects and
 /// arrays open at once. It may have at most as many bytes as `text` and `patch` together, and
-/// `limits.copied` bytes more: so much the `copy`s may add, with the blanks, commas and names that go
-/// with a new member or item.
+/// `limits.copied` bytes more: so much the `copy`s may add, with the whitespace, commas and names that go
+/// with a new member or element.
 ///
 /// The first operation that would leave another text is `Over`, with its number: `TooDeep` where that
 /// text nests deeper, and else `TooMuch`. An operation that is refused leaves no text, and is never

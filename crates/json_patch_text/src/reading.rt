@@ -97,7 +97,7 @@ fn read_operation<'a>(alloc: Global, text: &'a str) -> Result<TextOperation<'a>,
     Ok(texted(operation, outline.value))
 }
 
-/// A fault of the item of this number.
+/// A fault of the element of this number.
 fn numbered(number: usize, fault: ReadFault) -> ReadFault
     ensures { result ≡ at_number number fault }
 {

@@ -1,10 +1,14 @@
 -- What is made of bytes that are texts, and why nothing is: a fault of a text is one of a call's reasons.
 use Rattle.std.proofs.Common.{◌≡◌, ◌≤◌, [], ◌∷◌, inl, inr, ℕ, List, arith, refl, subst, sym}
-use Rattle.std.specs.Prelude.{IsUtf8, max}
+use Rattle.std.specs.Prelude.{IsUtf8, length, max}
 use Rattle.std.proofs.Math.Nat.{max-le}
 use Rattle.json_lexemes.specs.Skipped.{nesting}
 use Rattle.json_text.specs.declared.fault.TextFault.TheVariants as text
-use Rattle.json_merge_text.specs.Merged.{IsMergedAlready, IsMergedText, SaysMerged}
+use Rattle.json.specs.Json.{Json}
+use Rattle.json_lexemes.specs.Spelled.{Says}
+use Rattle.json_merge_text.specs.Merged.{IsMergeOver, IsMergedAlready, IsMergedText, SaysMerged}
+use Rattle.json_merge_text.specs.Merged.{most_bytes as merged_bytes}
+use Rattle.json_patch.specs.LimitKind.TheVariants.{TooMuch}
 use Rattle.json_patch.specs.Limits.{Limits}
 use Rattle.json_patch_text.specs.Patched.{AcceptsPatch, IsPatchedText}
 use Rattle.json_patch_text.specs.Within.{IsPatchedWithin, IsTextLimitFault, IsTextWithin, most_bytes}
@@ -16,7 +20,7 @@ use Rattle.json_patch_bytes.specs.declared.failure.Failure.{Failure}
 use Rattle.json_patch_bytes.specs.declared.failure.Failure.TheVariants as failure
 use Rattle.json_patch_text_bytes.specs.Failures.{IsOfText, IsTold, of_fault}
 use Rattle.json_patch_text_bytes.specs.Reasons.{of_patch, of_text}
-use Rattle.json_patch_text_bytes.specs.Texts.{IsJsonText, IsMergedInto, IsPatched}
+use Rattle.json_patch_text_bytes.specs.Texts.{IsJsonText, IsMergedInto, IsMergedOver, IsPatched}
 
 -- the failure of the document's text is one of the call's
 own_failure : (l : Limits) (document patch : List ℕ) (failure : Failure) → IsFailure (of_text l.depth document) failure → IsFailure (of_patch l document patch) failure
@@ -72,16 +76,24 @@ is_failure l document patch d p fault failure told same same_patch few utf8 fits
 
 -- ---- a merge
 
-pub is_merged : (levels : ℕ) (document patch d p new : List ℕ) → d ≡ document → p ≡ patch → IsUtf8 document → nesting document ≤ levels → IsUtf8 new → nesting patch ≤ levels
-    → SaysMerged d p new → (IsMergedAlready d p → new ≡ d) → nesting new ≤ max (nesting d) (nesting p) → IsMergedText d p new → IsMergedInto levels document patch new
-is_merged levels document patch d p new same same_patch text flat utf8 fits merged unchanged depth kept =
-    let here : IsJsonText levels d = (subst IsUtf8 (sym same) text, (merged.0, merged.3), subst (λ s. nesting s ≤ levels) (sym same) flat) in let there : nesting p ≤ levels = subst (λ s. nesting s ≤ levels) (sym same_patch) fits in
-    let most : max (nesting d) (nesting p) ≤ levels = max-le here.2 there in
-    let at : IsMergedInto levels d p new = record {
+pub is_merged : (l : Limits) (document patch d p new : List ℕ) → d ≡ document → p ≡ patch → IsUtf8 document → nesting document ≤ l.depth → IsUtf8 new → nesting patch ≤ l.depth
+    → SaysMerged d p new → (IsMergedAlready d p → new ≡ d) → nesting new ≤ max (nesting d) (nesting p) → IsMergedText d p new → length new ≤ merged_bytes l.copied d p → IsMergedInto l document patch new
+is_merged l document patch d p new same same_patch text flat utf8 fits merged unchanged depth kept small =
+    let here : IsJsonText l.depth d = (subst IsUtf8 (sym same) text, (merged.0, merged.3), subst (λ s. nesting s ≤ l.depth) (sym same) flat) in let there : nesting p ≤ l.depth = subst (λ s. nesting s ≤ l.depth) (sym same_patch) fits in
+    let most : max (nesting d) (nesting p) ≤ l.depth = max-le here.2 there in
+    let at : IsMergedInto l d p new = record {
       text = here;
       merged = merged;
       unchanged = unchanged;
       kept = kept;
+      small = small;
       again = (utf8, (merged.2, merged.5), omega (arith, depth, most));
     } in
-    subst (λ s. IsMergedInto levels s patch new) same (subst (λ s. IsMergedInto levels d s new) same_patch at)
+    subst (λ s. IsMergedInto l s patch new) same (subst (λ s. IsMergedInto l d s new) same_patch at)
+
+pub is_merged_over : (l : Limits) (document patch d p : List ℕ) → d ≡ document → p ≡ patch → IsUtf8 document → nesting document ≤ l.depth → IsMergeOver l.copied d p → IsMergedOver l document patch (record { operation = 0; kind = TooMuch })
+is_merged_over l document patch d p same same_patch text flat over =
+    let kept = over.1 in
+    let at : IsMergedOver l document p (record { operation = 0; kind = TooMuch }) =
+    ((text, subst (λ s. (j : Json) × Says s j) same (kept.0, kept.2), flat), refl, subst (λ s. IsMergeOver l.copied s p) same over) in
+    subst (λ s. IsMergedOver l document s (record { operation = 0; kind = TooMuch })) same_patch at

@@ -3,7 +3,7 @@ use Rattle.std.specs.Prelude.{◌≡◌, ℕ, List}
 use Rattle.json_patch.specs.Limits.{Limits}
 use Rattle.json_patch_text.specs.Within.{NamesFirstOver}
 use Rattle.json_patch_bytes.specs.Reasons.{Reasons}
-use Rattle.json_patch_text_bytes.specs.Texts.{IsJsonText, IsNoJsonText, IsNoTextPatch, IsRefusedIn}
+use Rattle.json_patch_text_bytes.specs.Texts.{IsJsonText, IsMergedOver, IsNoJsonText, IsNoTextPatch, IsRefusedIn}
 
 -- of a document's text that is read
 abbrev pub of_text : ℕ → List ℕ → Reasons
@@ -19,10 +19,10 @@ of_patch l document patch = record {
 }
 
 -- of a document's text into which a merge patch's is merged
-abbrev pub of_merge : ℕ → List ℕ → List ℕ → Reasons
-of_merge levels document patch = record {
-  no_document = IsNoJsonText levels document;
-  no_patch = λ operation kind. IsJsonText levels document × (operation ≡ 0) × IsNoJsonText levels patch kind;
+abbrev pub of_merge : Limits → List ℕ → List ℕ → Reasons
+of_merge l document patch = record {
+  no_document = IsNoJsonText l.depth document;
+  no_patch = λ operation kind. IsJsonText l.depth document × (operation ≡ 0) × IsNoJsonText l.depth patch kind;
   refused = λ e. ⊥;
-  over = λ e. ⊥;
+  over = IsMergedOver l document patch;
 }

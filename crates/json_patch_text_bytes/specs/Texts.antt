@@ -1,11 +1,13 @@
 -- What bytes say as a JSON text, whatever its numbers, and what a call makes of it.
-use Rattle.std.specs.Prelude.{◌≡◌, ◌≤◌, ◌<◌, ◌⊎◌, ℕ, List, Option, None, IsUtf8, unwrap_or}
+use Rattle.std.specs.Prelude.{◌≡◌, ◌≤◌, ◌<◌, ◌⊎◌, ℕ, List, Option, None, IsUtf8, length, unwrap_or}
 use Rattle.json.specs.Json.{Json}
 use Rattle.jsonptr.specs.Text.{Pointer}
 use Rattle.json_lexemes.specs.Skipped.{nesting}
 use Rattle.json_text.specs.Pointed.{IsWrittenAt, tree_at}
 use Rattle.json_lexemes.specs.Spelled.{Says}
-use Rattle.json_merge_text.specs.Merged.{IsMergedAlready, IsMergedText, SaysMerged}
+use Rattle.json_merge_text.specs.Merged.{IsMergeOver, IsMergedAlready, IsMergedText, SaysMerged, most_bytes}
+use Rattle.json_patch.specs.LimitError.{LimitError}
+use Rattle.json_patch.specs.LimitKind.TheVariants.{TooMuch}
 use Rattle.json_patch.specs.Limits.{Limits}
 use Rattle.json_patch.specs.PatchError.{PatchError}
 use Rattle.json_patch.specs.ReadKind.{ReadKind}
@@ -16,7 +18,7 @@ use Rattle.json_patch_text.specs.Within.{IsPatchedWithin, ReachesWithin}
 use Rattle.json_patch_bytes.specs.Kinds.{reading_kind}
 use Rattle.json_patch_bytes.specs.Texts.{IsTextOfPointer}
 
--- the bytes are UTF-8 and JSON (RFC 8259), and at most so many objects and arrays are open in them at once
+-- the bytes are UTF-8 and JSON (RFC 8259) with no unpaired surrogate, and at most so many objects and arrays are open in them at once
 abbrev pub IsJsonText : ℕ → List ℕ → Type 0
 IsJsonText levels text = IsUtf8 text × ((j : Json) × Says text j) × (nesting text ≤ levels)
 
@@ -48,15 +50,21 @@ abbrev pub IsRefusedIn : Limits → List ℕ → List ℕ → PatchError → Typ
 IsRefusedIn l document patch e = ((ops : List TreeOperation) × SaysOperations patch ops × NamesFirstIn document ops e)
     × ReachesWithin l document patch e.operation
 
--- new is the document's text with the merge patch merged into it, every byte kept that the merge doesn't change
-pub record IsMergedInto (levels : ℕ) (document patch new : List ℕ) : Type 0 where
-  pub text : IsJsonText levels document
+-- new is the document's text with the merge patch merged into it, every byte kept that the merge doesn't change, within the limits
+pub record IsMergedInto (l : Limits) (document patch new : List ℕ) : Type 0 where
+  pub text : IsJsonText l.depth document
   pub merged : SaysMerged document patch new
   -- it is the document's own where the merge changes nothing of what that says
   pub unchanged : IsMergedAlready document patch → new ≡ document
   pub kept : IsMergedText document patch new
+  -- it has at most as many bytes as both texts, and as many more as may be copied
+  pub small : length new ≤ most_bytes l.copied document patch
   -- so it can be handed in again
-  pub again : IsJsonText levels new
+  pub again : IsJsonText l.depth new
+
+-- the merge would leave a longer text than the limits let it
+abbrev pub IsMergedOver : Limits → List ℕ → List ℕ → LimitError → Type 0
+IsMergedOver l document patch e = IsJsonText l.depth document × (e ≡ record { operation = 0; kind = TooMuch }) × IsMergeOver l.copied document patch
 
 -- s is the value's text in the document's where the pointer leads
 abbrev pub IsValueAt : ℕ → List ℕ → List ℕ → List ℕ → Type 0

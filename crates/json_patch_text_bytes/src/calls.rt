@@ -9,8 +9,8 @@ ghost use Rattle.json_patch_text_bytes.specs.Texts.{IsMergedInto, IsPatched, IsV
 use crate::failures::{of_merge, of_run};
 use crate::lookup::LookupFault;
 use crate::texts::{checked_text, flat_text, told};
-use json_merge_text::merge_text;
-use json_patch::Limits;
+use json_merge_text::merge_text_within;
+use json_patch::{LimitError, LimitKind, Limits};
 use json_patch_bytes::failure::{Failure, NOT_JSON};
 use json_patch_text::patch_text_within;
 use jsonptr::Pointer;
@@ -18,6 +18,12 @@ use std::alloc::Global;
 
 /// The most levels of a patch's text, as of one whose values are documents.
 const MOST_OF_PATCH: usize = 127;
+
+/// What is told of a merge that would leave too long a text.
+const TOO_LONG: LimitError = LimitError {
+    operation: 0,
+    kind: LimitKind::TooMuch,
+};
 
 /// The document's text with the patch applied (RFC 6902), and every byte kept that no operation changes.
 ///
@@ -52,17 +58,19 @@ pub fn patched(
 /// doesn't change.
 ///
 /// `NoDocument` where the document's bytes are no UTF-8 or no JSON, for the kind 1, or nest deeper than
-/// `levels`, for 7; then `NoPatch` where the patch's bytes are such.
+/// the limit, for 7; then `NoPatch` where the patch's bytes are such; then `Over`, of operation 0, where
+/// the merge would leave more bytes than both texts and the limit's `copied` have together.
 pub fn merged(
     alloc: Global,
     document: &[u8],
     patch: &[u8],
-    levels: usize,
+    limits: Limits,
 ) -> Result<String, Failure>
-    requires { levels ≤ 124 }
-    ensures text { IfOk result (λ s. IsMergedInto levels document.now patch.now (string_bytes s)) }
-    ensures failure { IfErr result (IsFailure (of_merge levels document.now patch.now)) }
+    requires { limits.depth ≤ 124 }
+    ensures text { IfOk result (λ s. IsMergedInto limits document.now patch.now (string_bytes s)) }
+    ensures failure { IfErr result (IsFailure (of_merge limits document.now patch.now)) }
 {
+    let levels = limits.depth;
     let text = match flat_text(document, levels) {
         Ok(text) => text,
         Err(kind) => return Err(Failure::NoDocument(kind)),
@@ -71,9 +79,13 @@ pub fn merged(
         Ok(patch) => patch,
         Err(kind) => return Err(told(alloc, document, levels, Failure::NoPatch(0, kind))),
     };
-    match merge_text(alloc, text, patch) {
-        Ok(new) => Ok(new),
-        Err(fault) => Err(told(alloc, document, levels, of_merge(fault))),
+    let made = match merge_text_within(alloc, text, patch, limits.copied) {
+        Ok(made) => made,
+        Err(fault) => return Err(told(alloc, document, levels, of_merge(fault))),
+    };
+    match made {
+        Some(new) => Ok(new),
+        None => Err(Failure::Over(TOO_LONG)),
     }
 }
 

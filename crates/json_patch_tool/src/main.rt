@@ -1,7 +1,7 @@
 //! Applies a JSON Patch to a document: `json_patch_tool patch` reads an array of the two from
 //! standard input, and writes the new document as one line of compact JSON to standard output. With
 //! `record` in place of `patch` it writes an array of the new document and the patch that leads
-//! back, with `merge` it takes the second value for a merge patch, and with `edit` for a list of
+//! back, with `merge` it takes the second value for a merge patch, and with `edit` for an array of
 //! patches and of the words `undo` and `redo`, which an editor of the document does in turn.
 #![tactic(auto)]
 

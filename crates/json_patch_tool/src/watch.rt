@@ -1,4 +1,4 @@
-//! A reader and a writer that keep how what was asked of them went, so that a clause can say when a
+//! A reader and a writer that record how the calls on them went, so that a clause can say when a
 //! fault of theirs comes.
 
 ghost use Rattle.std.specs.Prelude.{◌≡◌, ◌≢◌, ◌<◌, ◌+◌, ◌^◌, Ok, Err, MatchResult, true, false, length};
@@ -10,21 +10,21 @@ ghost use Rattle.json_patch_tool.specs.Watched.{IsUnread, IsUnwritten};
 use std::io;
 use std::io::{ErrorKind, Read, Write};
 
-/// A reader, with how the reads went that it was asked for.
+/// A reader that records how its reads went.
 #[derive(Drop)]
 pub struct WatchedReader<R> {
     /// The reader that is watched.
     pub inner: R,
     /// How often it was read.
     pub calls: u64,
-    /// Whether a read returned that nothing is left.
+    /// Whether a read showed the end.
     pub has_ended: bool,
     /// Whether a read failed. One that was interrupted didn't.
     pub has_failed: bool,
 }
 
 impl<R: Read> WatchedReader<R> {
-    /// The reader, of which nothing was asked yet.
+    /// The reader, before its first read.
     pub fn new(inner: R) -> WatchedReader<R>
         ensures inner { result.inner ≡ inner }
         ensures unread { IsUnread result }
@@ -69,7 +69,7 @@ impl<R: Read> Read for WatchedReader<R> {
     }
 }
 
-/// A writer, with how the writes and flushes went that it was asked for.
+/// A writer that records how its writes and flushes went.
 #[derive(Drop)]
 pub struct WatchedWriter<'a, W> {
     /// The writer that is watched.
@@ -81,7 +81,7 @@ pub struct WatchedWriter<'a, W> {
 }
 
 impl<'a, W: Write> WatchedWriter<'a, W> {
-    /// The writer, of which nothing was asked yet.
+    /// The writer, before its first call.
     pub fn new(inner: &'a mut W) -> WatchedWriter<'a, W>
         ensures same_reference { result.inner.ghost_name ≡ inner.entry.ghost_name }
         ensures holds { result.inner.now ≡ inner.old }

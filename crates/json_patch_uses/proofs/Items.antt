@@ -1,4 +1,4 @@
--- Pointers that name no item.
+-- Pointers that name no element.
 use Rattle.std.proofs.Common.{◌≡◌, ◌≤◌, ◌^◌, ℕ, List, [], ◌∷◌, ◌++◌, ◌∙◌, Some, None, subst, sym, arith}
 use Rattle.std.proofs.lemmas.Grind.{common_steps}
 use Rattle.jsonptr.specs.PlaceLaws.{next_is_no_place}

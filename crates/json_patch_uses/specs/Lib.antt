@@ -8,3 +8,4 @@ pub mod History
 pub mod SharedDocuments
 pub mod Guards
 pub mod Guarded
+pub mod Sending

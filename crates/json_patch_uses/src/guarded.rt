@@ -99,8 +99,8 @@ impl Guarded {
         &self.document
     }
 
-    /// Makes the changes that a stranger's text says, or none: they are made of a copy, so that one
-    /// that is too large takes its place in no case.
+    /// Makes the changes that a stranger's text says, or none: they are made on a copy, so that a
+    /// document that is too large never takes the place of this one.
     pub fn change(&mut self, alloc: Global, text: &str) -> Result<(), GuardFault>
         ensures changed { OnOk result (UpdatesWithin (levels_in self.old) (most_in self.old)
             (document_in self.old) text.now (document_in self.new)) }

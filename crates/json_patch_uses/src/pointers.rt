@@ -1,4 +1,4 @@
-//! Pointers: one step further, the item that one names, and how deep it leads.
+//! Pointers: one step further, the element that one names, and how deep it leads.
 
 ghost use Rattle.std.specs.Prelude.{◌≡◌, ◌≤◌, ◌^◌, ℕ, List, Some, ◌∷◌, [], ◌++◌, length};
 ghost use Rattle.std.specs.Prelude.{IfErr, IfNone, IfOk, IfSome};
@@ -24,7 +24,7 @@ pub fn member(alloc: Global, text: &str, name: &str) -> Result<PointerBuf, Point
     Ok(pointer)
 }
 
-/// The pointer to an array, and the item in it that `pointer` names.
+/// The pointer to an array and the index in it, if `pointer` names an element.
 pub fn item(pointer: Pointer) -> Option<(Pointer, usize)>
     ensures item { IfSome result
         (λ x. (last : List ℕ)

@@ -24,7 +24,7 @@ pub enum ChangeFault {
     /// The document has had no such version.
     #[error("there is no such version")]
     NoVersion,
-    /// It isn't apart from the change that led on from this version, the first such.
+    /// It isn't apart from the change that was made to this version, the first such change.
     #[error("the change collides with the one that was made to version {0}")]
     Conflict(usize),
     /// An operation was refused.
@@ -154,8 +154,8 @@ impl SharedDocument {
         laws::runs();
     }
 
-    /// To which version, from this one on, the first change was made from which the operations
-    /// aren't apart.
+    /// The first version, from this one on, such that the operations aren't apart from the change
+    /// that was made to it.
     fn first_collision(&self, patch: &[PatchOperation], version: usize) -> Option<usize>
         ensures none { IfNone result (AreApart (operations patch.now) (since self.now version)) }
         ensures some { IfSome result (CollidesAt self.now version (operations patch.now)) }

@@ -1,5 +1,6 @@
-//! Tests of `json_patch` and `json_patch_diff`: published vectors and worked examples, as tables of
-//! cases. It has no public item.
+//! Tests of `json_patch`, `json_merge_diff`, `json_patch_editor` and `json_patch_answers`: published
+//! vectors and worked examples, as tables of cases. Further rows are run by `json_patch_memory`. It has
+//! no public item.
 #![tactic(auto)]
 
 #[cfg(test)]
@@ -11,23 +12,23 @@ mod callers;
 #[cfg(test)]
 mod computed;
 #[cfg(test)]
-mod differences;
-#[cfg(test)]
 mod documentation;
+#[cfg(test)]
+mod editor;
 #[cfg(test)]
 mod equality;
 #[cfg(test)]
 mod hostile;
 #[cfg(test)]
-mod limits;
+mod merge_diffs;
 #[cfg(test)]
 mod merges;
-#[cfg(test)]
-mod moves;
 #[cfg(test)]
 mod pointers;
 #[cfg(test)]
 mod printing;
+#[cfg(test)]
+mod program;
 #[cfg(test)]
 mod reading;
 #[cfg(test)]

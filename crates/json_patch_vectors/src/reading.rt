@@ -23,7 +23,8 @@ fn described(alloc: Global, fault: ReadFault) -> Result<String, Fail> {
     }
 }
 
-/// Asserts what is written again of what is read from the text, or the number and kind of the fault.
+/// Asserts that what is read from the text is written again as expected, or that the fault is as
+/// expected.
 fn assert_answer<T, R, W>(
     rt: &(impl Abort + AllocGlobal),
     text: &str,

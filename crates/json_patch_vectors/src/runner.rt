@@ -230,8 +230,8 @@ macro_rules! assert_again {
     };
 }
 
-/// Asserts that the patch, each operation and its struct are what is read where they were written,
-/// and that a clone of each is the same.
+/// Asserts that the patch, each operation and its struct can be written, read again and cloned, and
+/// are the same then.
 fn assert_patch_kept(
     rt: &(impl Abort + AllocGlobal),
     name: &str,
@@ -260,8 +260,8 @@ fn assert_struct_kept(
     }
 }
 
-/// Asserts that the value is written as this text, where one is given, that it is what is read
-/// where it was written, and that a clone is the same.
+/// Asserts that the value is written as this text, where one is given, and that it is the same when
+/// it is read again or cloned.
 pub(crate) fn assert_read_again<T, R, W, C>(
     rt: &(impl Abort + AllocGlobal),
     name: &str,

@@ -1,5 +1,5 @@
-//! Patches whose operations stand below shared tokens, worked by hand from RFC 6902. The part of
-//! the document to which those tokens lead is the one in which marks are looked for at the end.
+//! Patches whose operations stand below shared tokens, worked by hand from RFC 6902. At the end
+//! marks are looked for in the part of the document alone to which those tokens lead.
 
 use crate::runner::{Case, Expected, run_all};
 use std::test::Fail;

@@ -1,4 +1,5 @@
-//! Documents and patches read from texts, and documents from bytes.
+//! What isn't read as a document or a patch. Texts that are, and what is told of others, are rows of
+//! `json_patch_memory`.
 
 use crate::runner::assert_shown;
 use json_patch::jsonptr::PointerBuf;
@@ -7,23 +8,8 @@ use json_patch::{
     document_from_str,
 };
 use std::alloc::{AllocError, AllocGlobal, Global};
-use std::fmt::Display;
 use std::process::Abort;
 use std::test::Fail;
-
-const CUT_SHORT: &str = "text is not JSON: EOF while parsing at line 1 column 3";
-
-/// Asserts that what was read, or why nothing was, is shown as this text.
-fn assert_answer<T: Display>(
-    rt: &(impl Abort + AllocGlobal),
-    answer: &Result<T, Fault>,
-    expected: &str,
-) -> Result<(), Fail> {
-    match answer {
-        Ok(read) => assert_shown(rt, read, expected),
-        Err(fault) => assert_shown(rt, fault, expected),
-    }
-}
 
 /// The text of a patch that adds what a text says.
 fn adding(alloc: Global, value: &str) -> Result<String, AllocError> {
@@ -88,22 +74,6 @@ fn a_float_holds_308_zeros(rt: HostRuntime) -> Result<(), Fail> {
     Ok(())
 }
 
-#[test]
-fn documents_are_read(rt: HostRuntime) -> Result<(), Fail> {
-    for (text, expected) in [
-        (r#" {"b" : 1, "a" : [2]} "#, r#"{"a":[2],"b":1}"#),
-        (r#"{"a":1,"a":-2}"#, r#"{"a":-2}"#),
-        ("[1.5]", "document holds a number that is not whole"),
-        (r#"{"a":-0}"#, "document holds a number that is not whole"),
-        ("[1,", CUT_SHORT),
-    ] {
-        assert_answer(&rt, &document_from_str(rt.alloc(), text), expected)?;
-        let bytes = text.as_bytes();
-        assert_answer(&rt, &document_from_slice(rt.alloc(), bytes), expected)?;
-    }
-    Ok(())
-}
-
 // RFC 3629, sections 3 and 10: a byte that stands nowhere, a character cut short, a slash in two
 // bytes, half of a surrogate pair, and a character past the last one. And a text in UTF-16.
 #[test]
@@ -119,26 +89,6 @@ fn bytes_that_are_not_utf8_are_no_json(rt: HostRuntime) -> Result<(), Fail> {
     for bytes in inputs {
         let document = document_from_slice(rt.alloc(), bytes);
         assert!(rt; matches!(document, Err(Fault::Syntax(_))));
-    }
-    Ok(())
-}
-
-#[test]
-fn patches_are_read(rt: HostRuntime) -> Result<(), Fail> {
-    for (text, expected) in [
-        (" [ ] ", "[]"),
-        (
-            r#"[{"x":1.5,"path":"/a","op":"remove"}]"#,
-            r#"[{"op":"remove","path":"/a"}]"#,
-        ),
-        ("{}", "patch is not a list"),
-        (
-            r#"[{"op":"add","path":"/a","value":1.5}]"#,
-            "operation '/0': member \"value\" holds a number that is not whole",
-        ),
-        ("[1,", CUT_SHORT),
-    ] {
-        assert_answer(&rt, &Patch::from_str(rt.alloc(), text), expected)?;
     }
     Ok(())
 }

@@ -1,6 +1,7 @@
 -- The pieces of a row with one changed, taken out or put in.
 use Rattle.std.specs.Prelude.{ℕ, zero, suc, List, [], ◌∷◌, ◌++◌, take, drop}
 use Rattle.json_text.specs.Cuts.{Piece}
+use Rattle.json_text.specs.Styled.{blanks_like, colons_like}
 
 -- with another value's text, with other blanks before it, and with others behind it
 abbrev pub valued : List ℕ → Piece → Piece
@@ -43,7 +44,7 @@ taken n ps = taken_by (take n ps) (drop n ps)
 
 -- what comes behind p as p does, by the text of its name and of its value; and what comes alone in a row with these blanks
 abbrev pub member_like : Piece → List ℕ → List ℕ → Piece
-member_like p name s = record { blank = p.blank; name = name; colons = p.colons; value = s; trail = p.trail }
+member_like p name s = record { blank = blanks_like p.blank; name = name; colons = colons_like p.colons; value = s; trail = p.trail }
 
 abbrev pub member_alone : List ℕ → List ℕ → List ℕ → Piece
 member_alone hollow name s = record { blank = []; name = name; colons = 58 ∷ []; value = s; trail = hollow }
@@ -60,18 +61,18 @@ member_pushed hollow name s (p ∷ q ∷ ps) = p ∷ member_pushed hollow name s
 -- an item more behind the last
 abbrev pub item_pushed : List ℕ → List ℕ → List Piece → List Piece
 item_pushed hollow s [] = item_between [] s hollow ∷ []
-item_pushed hollow s (p ∷ []) = trailed [] p ∷ item_between p.blank s p.trail ∷ []
+item_pushed hollow s (p ∷ []) = trailed [] p ∷ item_between (blanks_like p.blank) s p.trail ∷ []
 item_pushed hollow s (p ∷ q ∷ ps) = p ∷ item_pushed hollow s (q ∷ ps)
 
--- the blanks of the item p between these once another stands before it: of the first those of the second
-abbrev pub blank_like : List Piece → Piece → List Piece → List ℕ
-blank_like [] p [] = p.blank
-blank_like [] p (q ∷ post) = q.blank
-blank_like (o ∷ pre) p post = p.blank
+-- whose blanks those of the item p between these are like once another stands before it: of the first the second's
+abbrev pub neighbour_blank : List Piece → Piece → List Piece → List ℕ
+neighbour_blank [] p [] = p.blank
+neighbour_blank [] p (q ∷ post) = q.blank
+neighbour_blank (o ∷ pre) p post = p.blank
 
 abbrev pub item_put_by : List ℕ → List Piece → List Piece → List Piece
 item_put_by s pre [] = pre
-item_put_by s pre (p ∷ post) = pre ++ (item_between p.blank s [] ∷ led (blank_like pre p post) p ∷ post)
+item_put_by s pre (p ∷ post) = pre ++ (item_between p.blank s [] ∷ led (blanks_like (neighbour_blank pre p post)) p ∷ post)
 
 -- an item more before the one of number n
 abbrev pub item_put : ℕ → List ℕ → List Piece → List Piece

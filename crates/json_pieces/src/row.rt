@@ -335,8 +335,8 @@ fn next_member<'a>(
     ensures sound { OnOk result (IsSound (row_view row.new)) }
 {
     let name = Text::Made(quoted(alloc, name)?);
-    let blank = row.seams.list[last].blank.copied(alloc)?;
-    let colons = row.seams.list[last].colons.copied(alloc)?;
+    let blank = row.seams.list[last].blank.blanks_like(alloc)?;
+    let colons = row.seams.list[last].colons.colons_like(alloc)?;
     let trail = trail_of(row, last);
     put_part(
         row,
@@ -378,14 +378,14 @@ fn next_item<'a>(
     ensures pieces { OnOk result (row_pieces row.new ≡ item_pushed (text_bytes row.old.hollow) (text_bytes value.entry) (row_pieces row.old)) }
     ensures sound { OnOk result (IsSound (row_view row.new)) }
 {
-    let blank = row.seams.list[last].blank.copied(alloc)?;
+    let blank = row.seams.list[last].blank.blanks_like(alloc)?;
     let trail = trail_of(row, last);
     put_part(row, last + 1, around(blank, trail), value, 1)?;
     Ok(())
 }
 
-/// Whose blanks stand before an item of this number, once another comes before it: the second's before
-/// the first, if there is a second.
+/// Like whose blanks those before an item of this number are, once another comes before it: the second's
+/// before the first, if there is a second.
 fn like_number(number: usize, count: usize) -> usize
     requires { number < count }
     ensures within { result < count }
@@ -412,8 +412,8 @@ fn blank_of<'a>(row: &mut Row<'a>, number: usize, blank: Text<'a>) -> Result<Tex
     Ok(old)
 }
 
-/// Puts an item before the one of this number. The blanks of that one, or before the first those of
-/// the second, stand before both.
+/// Puts an item before the one of this number. The blanks of that one go to the new one; blanks like
+/// these, or before the first like those of the second, stand before that one.
 fn item_before<'a>(
     alloc: Global,
     row: &mut Row<'a>,
@@ -429,7 +429,7 @@ fn item_before<'a>(
     ensures sound { OnOk result (IsSound (row_view row.new)) }
 {
     let like = like_number(number, row.values.len());
-    let behind = row.seams.list[like].blank.copied(alloc)?;
+    let behind = row.seams.list[like].blank.blanks_like(alloc)?;
     let blank = blank_of(row, number, behind)?;
     put_part(row, number, around(blank, Text::Kept("")), value, 1)?;
     Ok(())

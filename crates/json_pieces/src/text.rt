@@ -2,7 +2,9 @@
 
 ghost use Rattle.std.specs.Prelude.{◌≡◌, IfOk, length};
 ghost use Rattle.json_pieces.specs.Nodes.{text_bytes};
+ghost use Rattle.json_text.specs.Styled.{blanks_like, colons_like};
 
+use json_text::{blanks_like, colons_like};
 use std::alloc::{AllocError, Global};
 
 /// A stretch of the first text, or one that was made since.
@@ -38,13 +40,23 @@ impl<'a> Text<'a> {
         Ok(Text::Made(String::from_str(alloc, text)?))
     }
 
-    /// The same text once more.
-    pub(crate) fn copied(&self, alloc: Global) -> Result<Text<'a>, AllocError>
-        ensures { IfOk result (λ copy. text_bytes copy ≡ text_bytes self.now) }
+    /// The blanks of a new member or item, by these of a neighbour.
+    pub(crate) fn blanks_like(&self, alloc: Global) -> Result<Text<'a>, AllocError>
+        ensures { IfOk result (λ copy. text_bytes copy ≡ blanks_like (text_bytes self.now)) }
     {
         match self {
-            Text::Kept(text) => Ok(Text::Kept(text)),
-            Text::Made(text) => Text::made(alloc, text.as_str()),
+            Text::Kept(text) => Ok(Text::Kept(blanks_like(text))),
+            Text::Made(text) => Text::made(alloc, blanks_like(text.as_str())),
+        }
+    }
+
+    /// The colon of a new member, by this one of a neighbour.
+    pub(crate) fn colons_like(&self, alloc: Global) -> Result<Text<'a>, AllocError>
+        ensures { IfOk result (λ copy. text_bytes copy ≡ colons_like (text_bytes self.now)) }
+    {
+        match self {
+            Text::Kept(text) => Ok(Text::Kept(colons_like(text))),
+            Text::Made(text) => Text::made(alloc, colons_like(text.as_str())),
         }
     }
 }

@@ -15,5 +15,6 @@ pub mod Added
 pub mod Befores
 pub mod Adding
 pub mod Shapes
+pub mod Styles
 pub mod Texts
 pub mod Pieces

@@ -10,6 +10,7 @@ use Rattle.json_text.specs.Faults.{IsTextFault}
 use Rattle.json_text.specs.Pointed.{IsTight, IsWrittenAt, ParentStands}
 use Rattle.json_text.specs.Removed.{IsTightEnd, IsTightFront}
 use Rattle.json_text.specs.Replaced.{IsReplaced}
+use Rattle.json_text.specs.Styled.{blanks_like, colons_like}
 use Rattle.json_lexemes.specs.Spelled.{IsShallowText, Says}
 use Rattle.json_text.specs.declared.fault.ChangeFault.{ChangeFault}
 use Rattle.json_text.specs.declared.fault.ChangeFault.TheVariants.{Text, Value, NoTarget, Memory}
@@ -57,18 +58,18 @@ pub record HasOne (s : List ℕ) : Type 0 where
   pub says : (v : Json) × Says value v
   pub last : HasNoComma rest
 
--- before an item: the comma, and its blanks; before the first one those of the second, if there is one
+-- before an item: the comma, and blanks like its own; before the first one like those of the second, if there is one
 abbrev pub IsBeforeItem : List ℕ → List ℕ → List ℕ → Type 0
-IsBeforeItem front trail back = (blank : List ℕ) × (trail ≡ 44 ∷ blank) × IsTightFront back
+IsBeforeItem front trail back = (blank : List ℕ) × (trail ≡ 44 ∷ blanks_like blank) × IsTightFront back
     × (((lex between front ≡ token t.begin_array ∷ []) × HasSecond back blank)
     ⊎ ((lead : List ℕ) × (front ≡ lead ++ blank) × IsTightEnd lead × (lex between blank ≡ []) × (lex between front ≡ token t.begin_array ∷ [] → HasOne back)))
 
--- behind the last: the comma, its blanks, and for a member the name and the colon with the blanks of the last
+-- behind the last: the comma, blanks like its own, and for a member the name and a colon like that of the last
 abbrev pub IsBehindMember : List ℕ → List ℕ → List ℕ → List ℕ → List ℕ → Type 0
-IsBehindMember k front ahead trail back = (blank : List ℕ) × (colons : List ℕ) × EndsWithMember front blank colons × (ahead ≡ 44 ∷ (blank ++ (quoted k ++ colons))) × (trail ≡ []) × HasNoComma back
+IsBehindMember k front ahead trail back = (blank : List ℕ) × (colons : List ℕ) × EndsWithMember front blank colons × (ahead ≡ 44 ∷ (blanks_like blank ++ (quoted k ++ colons_like colons))) × (trail ≡ []) × HasNoComma back
 
 abbrev pub IsBehindItem : List ℕ → List ℕ → List ℕ → List ℕ → Type 0
-IsBehindItem front ahead trail back = (blank : List ℕ) × EndsWithItem front blank × (ahead ≡ 44 ∷ blank) × (trail ≡ []) × HasNoComma back
+IsBehindItem front ahead trail back = (blank : List ℕ) × EndsWithItem front blank × (ahead ≡ 44 ∷ blanks_like blank) × (trail ≡ []) × HasNoComma back
 
 -- between front and back, ahead and trail go with a new child t; with no other there, right behind the bracket
 abbrev pub IsStyled : List ℕ → Json → List ℕ → List ℕ → List ℕ → List ℕ → Type 0

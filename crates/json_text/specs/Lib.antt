@@ -6,6 +6,7 @@ pub mod Changed
 pub mod Checked
 pub mod Cuts
 pub mod Removed
+pub mod Styled
 pub mod Added
 pub mod Less
 pub mod Replaced

@@ -10,6 +10,7 @@ use Rattle.json.specs.Word.{is_space}
 use Rattle.json_lexemes.specs.Spelled.{spelled, Says}
 use Rattle.json_lexemes.specs.Places.{mode_at, left_at, HasEnd, IsEnd}
 use Rattle.json_lexemes.specs.Found.{IsCut, IsWithin, or_else}
+use Rattle.json_text.specs.Styled.{blanks_like, colons_like}
 use Rattle.json_text.specs.declared.parts.Numbered.{Numbered}
 use Rattle.json_text.specs.declared.parts.Part.{Part}
 use Rattle.json_lexemes.specs.declared.span.Span.{Span}
@@ -175,15 +176,15 @@ pub record EndsName (t : List ℕ) (r : Numbered) (k : ℕ) : Type 0 where
   pub behind : r.part.start < k
   pub order : k ≤ r.part.value.start
 
--- the comma and the blanks before a child
+-- the comma, and blanks like those before a child
 abbrev pub IsComma : List ℕ → ℕ → List ℕ → Type 0
-IsComma t start s = (i : ℕ) × IsGap t i start × (s ≡ 44 ∷ slice t i start)
+IsComma t start s = (i : ℕ) × IsGap t i start × (s ≡ 44 ∷ blanks_like (slice t i start))
 
--- the comma and the blanks before a member, the name k, and its colon with the blanks
+-- the comma, blanks like those before a member, the name k, and a colon like its own
 abbrev pub IsMemberAhead : List ℕ → Numbered → List ℕ → List ℕ → Type 0
-IsMemberAhead t r k s = (i : ℕ) × (e : ℕ) × IsGap t i r.part.start × EndsName t r e × (s ≡ 44 ∷ (slice t i r.part.start ++ (quoted k ++ slice t e r.part.value.start)))
+IsMemberAhead t r k s = (i : ℕ) × (e : ℕ) × IsGap t i r.part.start × EndsName t r e × (s ≡ 44 ∷ (blanks_like (slice t i r.part.start) ++ (quoted k ++ colons_like (slice t e r.part.value.start))))
 
--- the comma and the blanks behind a value before the item r of number n: before the first those of the second
+-- the comma, and the blanks behind a value before the item r of number n, like those before it: before the first like those of the second
 abbrev pub IsTrail : List ℕ → ℕ → ℕ → Numbered → List ℕ → Type 0
 IsTrail t from n r s = (cs : List Child) → IsInside t false cs from
     → ((n ≡ 0) × ((r2 : Numbered) × IsNumbered t false cs 1 r2 × AreInOrder t r2.part × IsComma t r2.part.start s))

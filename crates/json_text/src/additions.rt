@@ -53,7 +53,8 @@ fn standing_member(
 ///
 /// Behind the comma come the blanks that stand before the last member or item, or before the item that
 /// the new one precedes (before the first those of the second). A member has the last one's colon with
-/// the blanks around it. With no neighbour the value comes right behind the bracket, with no blank.
+/// the blanks around it. Of more than 128 bytes neither is taken over: then no blank comes, and the colon
+/// is bare. With no neighbour the value comes right behind the bracket, with no blank.
 ///
 /// ```rust
 /// let text = r#"{"name": "x", "list": [1.50, 2] }"#;

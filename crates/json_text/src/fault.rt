@@ -8,7 +8,8 @@ use thiserror::Error;
 /// Why a text isn't read.
 #[derive(Debug, Drop, Error)]
 pub enum TextFault {
-    /// The text is not JSON (RFC 8259).
+    /// The text is not JSON (RFC 8259), or has an unpaired surrogate, such as `"\ud800"`: the grammar
+    /// takes that, but what it says is left open (section 8.2).
     #[error("the text is not JSON")]
     NotJson,
     /// More than 128 objects and arrays are open at once. Whether the text is JSON isn't told.

@@ -14,6 +14,7 @@ ghost use Rattle.json_text.specs.Rows.{AreInOrder, CutNone, Child, HasRow, IsChi
 ghost use Rattle.json_text.specs.Rows.{IsMember, IsMemberAhead, IsNumbered, IsTrail};
 
 use crate::parts::{Numbered, last_part, part_at, row_in};
+use crate::style::{blanks_like, colons_like};
 use json::Writer;
 use json_lexemes::{blank_end, string_end};
 use jsonptr::index::Index;
@@ -70,7 +71,7 @@ fn gap(text: &[u8], number: usize, found: Numbered) -> usize
     }
 }
 
-/// What stands before a value behind the last item: a comma, and the blanks of that item.
+/// What stands before a value behind the last item: a comma, and blanks like those of that item.
 fn comma(alloc: Global, text: &str, number: usize, last: Numbered) -> Result<String, AllocError>
     requires child { IsChild text.now number last }
     requires order { last.before ≤ last.part.start }
@@ -81,11 +82,11 @@ fn comma(alloc: Global, text: &str, number: usize, last: Numbered) -> Result<Str
     let gap = gap(text.as_bytes(), number, last);
     let mut ahead = String::new(alloc);
     ahead.push(',')?;
-    ahead.push_str(&text[gap..last.part.start])?;
+    ahead.push_str(blanks_like(&text[gap..last.part.start]))?;
     Ok(ahead)
 }
 
-/// The same behind the last member: and then the name, and that member's colon.
+/// The same behind the last member: and then the name, and a colon like that member's.
 fn label(
     alloc: Global,
     text: &str,
@@ -103,7 +104,7 @@ fn label(
     let name = quoted(alloc, name)?;
     let name_end = string_end(text.as_bytes(), last.part.start + 1);
     ahead.push_str(name.as_str())?;
-    ahead.push_str(&text[name_end..last.part.value.start])?;
+    ahead.push_str(colons_like(&text[name_end..last.part.value.start]))?;
     Ok(ahead)
 }
 
@@ -149,8 +150,8 @@ fn second(text: &[u8], start: usize, number: usize) -> Option<Numbered>
     }
 }
 
-/// What stands behind a value before an item: a comma, and the blanks of that item, but before the
-/// first those of the second, if there is one.
+/// What stands behind a value before an item: a comma, and blanks like those of that item, but before
+/// the first like those of the second, if there is one.
 fn trail(
     alloc: Global,
     text: &str,

@@ -26,6 +26,7 @@ mod listing;
 mod parts;
 mod reading;
 mod strings;
+mod style;
 
 pub use additions::add;
 pub use changes::{remove, replace};
@@ -36,3 +37,4 @@ pub use growing::quoted;
 pub use listing::{Shape, child_texts};
 pub use reading::{is_deeper, value_text};
 pub use strings::string_of;
+pub use style::{blanks_like, colons_like};

@@ -1,4 +1,4 @@
--- What a text names in an array, by its digits.
+-- Which index a text names in an array, by its digits.
 use Rattle.std.proofs.Common.{◌≡◌, ℕ, true, ◌<◌, ◌^◌, List, [], ◌∷◌, ◌++◌, length, get_or, suc, subst, Result, Ok, Err}
 use Rattle.std.proofs.Common.{Some, None, refl, sym, ap, ◌∙◌, inl, inr, ⊎_elim, arith}
 use Rattle.std.specs.Prelude.{IfOk, IfErr, OnErr, MatchResult, ◌≢◌}
@@ -28,7 +28,7 @@ numerals = numerals_by_value IsDigits tells_by_index
 by_test : IsNumeralModel (λ ds. all_ascii_digits ds ≡ true) (digits_value 10)
 by_test = numerals_by_value _ tells_all_ascii_digits
 
--- ---- places
+-- ---- indexes
 
 -- digits without a leading zero name the number that they write
 place_of-digits : (t : List ℕ) → IsDigits t → 0 < length t → ¬ HasLeadingZero t → place_of t ≡ Some (digits_value 10 t)
@@ -42,7 +42,7 @@ place_of-digits t d some z = tells_back t (digits_value 10 t) (record {
 place_digits : (t : List ℕ) (i : ℕ) → place_of t ≡ Some i → IsDigits t
 place_digits t i h = let w : Tells t i = tells t i h in numerals.from t (by_test.to t w.digits)
 
--- a place is written otherwise than `-`
+-- the text of a number isn't `-`
 pub place_other : (t : List ℕ) (i : ℕ) → place_of t ≡ Some i → t ≢ next_token
 place_other t i h is = let none : place_of t ≡ None = ap place_of is ∙ next_is_no_place in cc
 

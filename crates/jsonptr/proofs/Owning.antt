@@ -26,7 +26,7 @@ pub last_tokens : (P : List (List ℕ)) (s t raw : List ℕ) → s ≡ t ++ 47 �
 last_tokens P s t raw e is =
     ap tokens_of_text e ∙ push_tokens t raw ∙ ap (λ Q. Q ++ raw ∷ []) (ap tokens_of_text is ∙ tokens_of_text-text_of P)
 
--- what stands before the last token is one list
+-- where two pointers are equal, so are their tokens before the last
 pub same_front : (P Q : List (List ℕ)) (a b : List ℕ) → P ++ a ∷ [] ≡ Q ++ b ∷ [] → P ≡ Q
 same_front [] [] a b h = refl
 same_front [] (q ∷ Q) a b h = absurd (omega (arith, ap length h, length-append Q (b ∷ [])))

@@ -7,7 +7,7 @@ use Rattle.jsonptr.specs.Text.{IsPrefix, IsLongestShared, text_of}
 use Rattle.jsonptr.specs.TextLaws.{tokens_of_text-text_of}
 use Rattle.jsonptr.proofs.Texts.{text_of-append}
 
--- both go on, with A and B, after the same tokens
+-- P and Q start with the same tokens, and A and B are what follows
 abbrev pub GoOn : List (List ℕ) → List (List ℕ) → List (List ℕ) → List (List ℕ) → Type 0
 GoOn P Q A B = (S : List (List ℕ)) × (P ≡ S ++ A) × (Q ≡ S ++ B)
 
@@ -24,7 +24,7 @@ goes_on_less A B A' B' (t, a, b) = omega (arith, ap length a)
 joined : (s r : List ℕ) (S T : List (List ℕ)) → s ≡ r → S ≡ T → s ∷ S ≡ r ∷ T
 joined s r S T e f = cc
 
--- nothing longer begins both
+-- no longer pointer begins both
 longest : (S A B R : List (List ℕ)) → AreApart A B → IsPrefix R (S ++ A) → IsPrefix R (S ++ B) → IsPrefix R S
 longest S A B [] apart a b = (S, refl)
 longest [] A B (r ∷ R) apart (x, a) (y, b) = absurd (apart (R ++ x) (R ++ y) (r, a, b))
@@ -47,7 +47,7 @@ strips_end s n x (k, finds, is, fits) = finds.1 ∙ ap (λ a. a ++ n) (sym is)
 front_text : (s r : List ℕ) (S : List (List ℕ)) → IsOfItsTokens s → IsOfItsTokens r → tokens_of_text s ≡ S ++ tokens_of_text r → s ≡ text_of S ++ r
 front_text s r S v w e = sym v ∙ ap text_of e ∙ text_of-append S (tokens_of_text r) ∙ ap (λ a. text_of S ++ a) w
 
--- what is left ends the text
+-- what is left is the end of the text
 pub ends : (s r : List ℕ) (Q B : List (List ℕ)) → IsOfItsTokens s → IsOfItsTokens r → GoOn (tokens_of_text s) Q (tokens_of_text r) B → ((front : List ℕ) → s ≡ front ++ r → ⊥) → ⊥
 ends s r Q B v w (S, p, q) never = never (text_of S) (front_text s r S v w p)
 

@@ -8,12 +8,12 @@ use Rattle.jsonptr.specs.declared.index.ParseIndexError.{ParseIndexError}
 use Rattle.jsonptr.specs.declared.index.ParseIndexError.TheVariants.{LeadingZeros, InvalidCharacter, InvalidInteger}
 use Rattle.jsonptr.specs.Places.{place_of, next_token}
 
--- t names i: a place that a machine's number holds, or the place after the last
+-- t names i: an index below 2^64, or by `-` the one after the last element
 abbrev pub IsIndexText : List ℕ → Index → Type 0
 IsIndexText t (Num n) = (place_of t ≡ Some n) × (n < 2 ^ 64)
 IsIndexText t Next = t ≡ next_token
 
--- t names no index: it is not `-`, and no place that a machine's number holds
+-- t names no index: it is not `-`, and names none below 2^64
 pub record IsNoIndexText (t : List ℕ) : Type 0 where
   pub other : t ≢ next_token
   pub past : (i : ℕ) → place_of t ≡ Some i → 2 ^ 64 ≤ i
@@ -29,7 +29,7 @@ abbrev pub IsFirstNonDigit : List ℕ → ℕ → Type 0
 IsFirstNonDigit t i = (i < length t) × ¬ (IsInRange 48 57 (slice_index t i))
     × ((k : ℕ) → k < i → IsInRange 48 57 (slice_index t k))
 
--- t is empty, or names a place past each that a machine's number holds
+-- t is empty, or names an index of 2^64 or more
 abbrev pub IsNoInteger : List ℕ → Type 0
 IsNoInteger t = (t ≡ []) ⊎ ((i : ℕ) × (place_of t ≡ Some i) × (2 ^ 64 ≤ i))
 
@@ -39,9 +39,9 @@ IsIndexFault t LeadingZeros = HasLeadingZero t
 IsIndexFault t (InvalidCharacter i) = (t ≢ next_token) × ¬ HasLeadingZero t × IsFirstNonDigit t i
 IsIndexFault t InvalidInteger = IsNoInteger t
 
--- ---- an index in an array of len items
+-- ---- an index in an array of len elements
 
--- the place that an index names there
+-- the number of an index there: for `-` it is the length
 abbrev pub place_in : Index → ℕ → ℕ
 place_in (Num n) len = n
 place_in Next len = len

@@ -1,4 +1,4 @@
--- Laws of the places that tokens name, for the proofs above this crate to cite: the last section,
+-- Laws of the indexes that tokens name, for the proofs above this crate to cite: the last section,
 -- which the module `laws` has as contracts.
 use Rattle.std.proofs.Common.{◌≡◌, ℕ, zero, suc, ◌+◌, ◌*◌, ◌/◌, ◌%◌, ◌<◌, ◌≤◌, ◌^◌, ⊎_elim, ◌++◌, append-nil}
 use Rattle.std.proofs.Common.{append_assoc, List, [], ◌∷◌, map, length, get_or, Bool, true, false, not, ◌&&◌, ◌||◌}
@@ -17,7 +17,7 @@ use Rattle.std.specs.Str.Parse.{digits_value}
 use Rattle.jsonptr.specs.Places.{place_of, decimal_token, next_token}
 use Rattle.jsonptr.specs.Text.{encoded, encoded_byte}
 
--- ---- what is told by a place
+-- ---- what a token is that names an index
 
 pub record Tells (t : List ℕ) (i : ℕ) : Type 0 where
   pub digits : all_ascii_digits t ≡ true
@@ -56,7 +56,7 @@ tells_back t i h =
     let k : (nat_lt 0 (length t) ≡ true) × ((length t == 1 || not (get_or t 0 0 == 48)) ≡ true) = told (length t) (get_or t 0 0) h.nonempty h.first in
     rw (h.digits, k.0, k.1) (ap Some h.value)
 
--- ---- the token of a place names it
+-- ---- the decimal text of an index names it
 
 glyph : (x : ℕ) → x < 10 → digit_value (48 + x) ≡ x
 glyph x h = rw (le-ltb (48 + x) 48 (omega arith), lt-ltb (48 + x) 58 (omega arith)) (omega arith)
@@ -172,21 +172,21 @@ encoded_digits (x ∷ ds) h =
 
 -- ---- the laws
 
--- a token names a place exactly where it is that place's token
+-- a token names an index exactly where it is the decimal text of that index
 pub place_is_token : (t : List ℕ) (i : ℕ) → (place_of t ≡ Some i) ↔ (t ≡ decimal_token i)
 place_is_token t i = (place_token t i, λ is. ap place_of is ∙ token_place i)
 
--- the token of a machine's number is what is printed for it
+-- the decimal text of an index below 2^64 is the one that is printed for it
 pub token_is_decimal : (i : ℕ) → i < 2 ^ 64 → decimal_token i ≡ decimal i
 token_is_decimal zero small = sym (decimal_digit 0 (omega arith))
 token_is_decimal (suc n) small = sym (decimal-digits_of (suc n) (omega arith) small)
 
--- the token of a place stands in a pointer's text as it is
+-- the decimal text of an index stands in a pointer's text as it is
 pub place_is_plain : (i : ℕ) → encoded (decimal_token i) ≡ decimal_token i
 place_is_plain zero = refl
 place_is_plain (suc n) = encoded_digits (digits_of 10 (suc n)) (all_below_base_digits_of 10 (suc n) (omega arith))
 
--- `-` names no place
+-- the token `-` is no index's decimal text
 pub next_is_no_place : place_of next_token ≡ None
 unfolding place_of
 next_is_no_place = refl

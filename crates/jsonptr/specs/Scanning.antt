@@ -3,8 +3,8 @@
 use Rattle.std.specs.Prelude.{◌≡◌, ℕ, List, [], ◌∷◌, ◌==◌, if◌then◌else◌, ◌⊎◌}
 use Rattle.jsonptr.specs.Text.{decoded, decoded_byte, encoded, text_of}
 
--- one byte before a text of which the front, up to its first /, decodes to s.0, and of which the
--- rest has the tokens s.1
+-- x in front of a text that was scanned to s: up to its first / the text decodes to s.0, and from
+-- there on it has the tokens s.1
 abbrev pub scan : ℕ → List ℕ × List (List ℕ) → List ℕ × List (List ℕ)
 scan x s = if x == 47 then ([], s.0 ∷ s.1) else (decoded_byte x s.0, s.1)
 

@@ -11,9 +11,9 @@ use thiserror::Error;
 /// What a token names in an array.
 #[derive(Clone, Copy, Debug, PartialEq, Eq)]
 pub enum Index {
-    /// The item at this index, counted from 0.
+    /// The element at this index, counted from 0.
     Num(usize),
-    /// The index after the last item, written `-`.
+    /// The index after the last element, written `-`.
     Next,
 }
 
@@ -38,7 +38,7 @@ pub enum ParseIndexError {
 #[derive(Debug, Drop, Error)]
 #[error("index {index} is out of bounds for length {length}")]
 pub struct OutOfBoundsError {
-    /// How many items the array has.
+    /// How many elements the array has.
     pub length: usize,
     /// The index, which for `-` is the length.
     pub index: usize,
@@ -61,7 +61,7 @@ impl Index {
         }
     }
 
-    /// The index of an item in an array of `len` items; `-` names none.
+    /// The index of an element in an array of `len` elements; `-` names none.
     pub fn for_len(self, len: usize) -> Result<usize, OutOfBoundsError>
         ensures place { IfOk result (λ n. n ≡ place_in self len) }
         ensures within { IfOk result (λ n. n < len) }
@@ -78,7 +78,7 @@ impl Index {
         }
     }
 
-    /// The index at which an item can be inserted in an array of `len` items; `-` names the end.
+    /// The index at which an array of `len` elements takes a new one; `-` names the end.
     pub fn for_len_incl(self, len: usize) -> Result<usize, OutOfBoundsError>
         ensures place { IfOk result (λ n. n ≡ place_in self len) }
         ensures within { IfOk result (λ n. n ≤ len) }

@@ -15,13 +15,13 @@ pub fn places()
     // A token names an index exactly where it is the decimal text of that index.
     ensures place_is_token { (t : List ℕ) (i : ℕ) → (place_of t ≡ Some i) ↔ (t ≡ decimal_token i) }
 
-    // The decimal text of a place that a machine's number holds is the one that is printed for it.
+    // The decimal text of an index below 2^64 is the one that is printed for it.
     ensures token_is_decimal { (i : ℕ) → i < 2 ^ 64 → decimal_token i ≡ decimal i }
 
-    // The decimal text of a place stands in a pointer's text as it is.
+    // The decimal text of an index stands in a pointer's text as it is.
     ensures place_is_plain { (i : ℕ) → encoded (decimal_token i) ≡ decimal_token i }
 
-    // The token `-` names no index.
+    // The token `-` is no index's decimal text.
     ensures next_is_no_place { place_of next_token ≡ None }
 {}
 

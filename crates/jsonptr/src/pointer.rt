@@ -129,7 +129,7 @@ impl<'a> Pointer<'a> {
         ensures value { tokens_left result ≡ tokens_of self.now }
         ensures fits { length (tokens_left result) < 2 ^ 64 }
     {
-        // The length of a text fits a `usize`, so the number of its tokens does.
+        // The length of a string fits a `usize`, so the number of the pointer's tokens does.
         let _fits = self.text.len();
         Tokens::new(*self)
     }

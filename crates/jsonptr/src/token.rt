@@ -65,7 +65,7 @@ impl<'a> Token<'a> {
         out.push_str(rest)
     }
 
-    /// Whether the token stands for `key`. Texts are compared as they are, without normalisation.
+    /// Whether the token stands for `key`. Strings are compared as they are, without normalisation.
     pub fn is_key(&self, key: &str) -> bool
         ensures { IsTrue result ↔ (token_of self.now ≡ key.now) }
     {

@@ -41,8 +41,8 @@ A large document that is changed again and again is kept by the library:
 ...     document.get("/rows")
 [3, 2]
 
-A stranger's patch can't nest a document without end, nor copy it so: every call keeps to Limits, those
-of `limits` or Limits(). OverLimit tells which operation is over, before it is made:
+A stranger's patch can't nest a document without end, nor copy it, or what its inverse holds: every call
+keeps to Limits, those of `limits` or Limits(). OverLimit tells which operation is over, before it is made:
 
 >>> try:
 ...     apply_patch([], [{"op": "copy", "from": "", "path": "/-"}] * 9, limits=Limits(copied=100))

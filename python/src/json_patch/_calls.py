@@ -26,13 +26,16 @@ def _operation(patch: bytes, number: int) -> Dict[str, Any]:
 
 
 def _over(operation: int, kind: str, patch: bytes) -> Exception:
+    if not patch:
+        return OverLimit(f"the merge is over the limits: {kind}", kind=kind)
     path = _operation(patch, operation)["path"]
     told = f"operation {operation} is over the limits at path {path!r}: {kind}"
     return OverLimit(told, operation=operation, kind=kind, path=path)
 
 
 def fault(status: int, report: Report, path: Optional[str] = None, patch: bytes = b"") -> Exception:
-    """The exception for a status of a call that was handed the text of this patch."""
+    """The exception for a status of a call that was handed the text of this patch, none if that is a merge
+    patch."""
     if status == NO_MEMORY:
         return MemoryError("out of memory")
     if status == CLOSED:
@@ -56,6 +59,12 @@ def called(call: Callable[..., int], document: bytes, patch: bytes, limits: Limi
     """The text that a call makes of two others, within limits."""
     given = document, len(document), patch, len(patch), bounds(limits)
     return written(lambda *out: call(*given, *out), len(document) + len(patch) + 64, patch)
+
+
+def merged(document: bytes, patch: bytes, limits: Limits) -> bytes:
+    """A text as it is written, with the text of a merge patch merged into it."""
+    given = document, len(document), patch, len(patch), bounds(limits)
+    return written(lambda *out: LIBRARY.json_patch_merge_text_within(*given, *out), len(document) + len(patch) + 64)
 
 
 def written(call: Callable[..., int], room: int, patch: bytes = b"") -> bytes:

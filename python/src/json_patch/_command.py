@@ -3,14 +3,14 @@ from __future__ import annotations
 
 import argparse
 import json
-import os
 import signal
 import sys
-from contextlib import contextmanager
-from typing import Callable, Dict, Iterator, List, NoReturn, Optional, Union
+from contextlib import contextmanager, suppress
+from itertools import combinations
+from typing import Any, Callable, Dict, Iterator, List, NoReturn, Optional, Union
 
 from . import _files
-from ._calls import expect_patch
+from ._calls import expect_patch, merged
 from ._texts import indented, value_of
 from ._version import __version__
 from .document import Document
@@ -18,14 +18,16 @@ from .errors import (
     InvalidJsonPatch, JsonPatchConflict, JsonPatchException, JsonPatchTestFailed, JsonPointerException, OverLimit,
 )
 from .limits import MOST_COPIED, MOST_LEVELS, Limits
-from .texts import _merged, apply_text, resolve_text
+from .texts import apply_text, resolve_text
 
 REFUSED, UNREADABLE, NO_MEMORY, UNWRITABLE, USAGE = 1, 2, 3, 4, 64
 
 _EPILOG = """\
 DOCUMENT, PATCH, FROM and TO are names of files, or - for standard input. The result goes to standard output;
 with --in-place it takes the place of DOCUMENT, by a new file that is written beside it and renamed over
-it, so that DOCUMENT has the old content or the new one whenever the command is stopped.
+it, so that DOCUMENT has the old content or the new one whenever the command is stopped. INVERSE may be a
+device or a pipe, such as /dev/stdout with --in-place. Where two results would go to one place, or a result
+over what is read, nothing is written.
 
 apply, merge, record and get keep the text: blanks, the order of members, and the way in which numbers and
 strings are written; what is added follows its neighbours. With --indent, and by diff, the result is written
@@ -51,7 +53,11 @@ class _Failure(Exception):
 
 class _Parser(argparse.ArgumentParser):
     def error(self, message: str) -> NoReturn:
-        self.exit(USAGE, f"{self.prog}: {message} (see {self.prog} --help)\n")
+        raise _Failure(USAGE, f"{_visible(message)} (see {self.prog} --help)")
+
+    def _print_message(self, message: str, file: object = None) -> None:
+        """The help and the version: what is wrong is raised."""
+        _show(message.encode())
 
 
 def _parser() -> argparse.ArgumentParser:
@@ -111,7 +117,7 @@ def _add_levels(parser: argparse.ArgumentParser) -> None:
 
 def _add_limits(parser: argparse.ArgumentParser) -> None:
     _add_levels(parser)
-    copies = f"refuse a patch that copies more than N values and bytes of text ({MOST_COPIED})"
+    copies = f"refuse a patch that copies more than N values and bytes of text, or leaves a kept text of N bytes more than both ({MOST_COPIED})"
     parser.add_argument("--limit-copies", type=_copies, metavar="N", default=MOST_COPIED, help=copies)
 
 
@@ -137,8 +143,13 @@ def _spaces(text: str) -> int:
     return int(text)
 
 
+def _visible(text: str) -> str:
+    """The text in one line, and of characters that a terminal shows."""
+    return "".join(one if one.isprintable() else one.encode("unicode_escape").decode() for one in text)
+
+
 def _shown(name: str) -> str:
-    """A file's name in one line, and of characters that a terminal shows."""
+    """A file's name, as such a text."""
     if name == _files.STANDARD:
         return "standard input"
     return name if name.isprintable() else repr(name)
@@ -216,7 +227,7 @@ def _apply(asked: argparse.Namespace) -> None:
 
 
 def _merge(asked: argparse.Namespace) -> None:
-    _put(_kept(_merged, asked) if asked.indent is None else _written_anew(Document._merge_text, asked), asked)
+    _put(_kept(merged, asked) if asked.indent is None else _written_anew(Document._merge_text, asked), asked)
 
 
 def _applied(text: bytes, patch: bytes, limits: Limits) -> bytes:
@@ -286,11 +297,6 @@ _COMMANDS: Dict[str, Callable[[argparse.Namespace], None]] = {
 }
 
 
-def _is_same_file(first: str, second: str) -> bool:
-    there = os.path.exists(first) and os.path.exists(second)
-    return os.path.samefile(first, second) if there else os.path.realpath(first) == os.path.realpath(second)
-
-
 def _why_none(asked: argparse.Namespace) -> Optional[str]:
     """Why what is asked for can't be, or None."""
     has = vars(asked)
@@ -298,14 +304,44 @@ def _why_none(asked: argparse.Namespace) -> Optional[str]:
         return "DOCUMENT and PATCH can't both be standard input"
     if has.get("document") == _files.STANDARD and has.get("goal") == _files.STANDARD:
         return "FROM and TO can't both be standard input"
-    if has.get("in_place") and asked.document == _files.STANDARD:
+    if has.get("in_place") and (asked.document == _files.STANDARD or _files.is_no_file(asked.document)):
         return "--in-place needs a file for DOCUMENT"
     if has.get("backup") and not asked.in_place:
         return "--backup needs --in-place"
-    if "inverse" in has and asked.inverse == _files.STANDARD:
+    if has.get("backup") and _files.is_no_file(_files.backup_of(asked.document)):
+        return "DOCUMENT.orig is there, and isn't a file"
+    if has.get("inverse") == _files.STANDARD:
         return "INVERSE is the name of a file"
-    if "inverse" in has and any(_is_same_file(asked.inverse, name) for name in (asked.document, asked.patch)):
-        return "INVERSE can't be DOCUMENT or PATCH"
+    return _why_lost(_results(has), _sources(has))
+
+
+def _sources(has: Dict[str, Any]) -> Dict[str, _files.Place]:
+    """Where what the command reads comes from, under the names of the help."""
+    names = {"document": "FROM" if "goal" in has else "DOCUMENT", "patch": "PATCH", "goal": "TO"}
+    return {told: _files.source(has[name]) for name, told in names.items() if name in has}
+
+
+def _results(has: Dict[str, Any]) -> Dict[str, _files.Place]:
+    """Where what the command writes goes, but for DOCUMENT itself."""
+    made: Dict[str, _files.Place] = {}
+    if "inverse" in has:
+        made["INVERSE"] = has["inverse"]
+    if has.get("backup"):
+        made["DOCUMENT.orig"] = _files.backup_of(has["document"])
+    if not has.get("in_place") and has["command"] != "check":
+        made["standard output"] = _files.OUTPUT
+    return made
+
+
+def _why_lost(results: Dict[str, _files.Place], sources: Dict[str, _files.Place]) -> Optional[str]:
+    """Which text would be lost under another, or None."""
+    for result, place in results.items():
+        for source, given in sources.items():
+            if _files.overwrites(place, given):
+                return f"{result} can't be {source}"
+    for (first, place), (second, other) in combinations(results.items(), 2):
+        if _files.collide(place, other):
+            return f"{first} can't be {second}"
     return None
 
 
@@ -314,17 +350,24 @@ def main(arguments: Optional[List[str]] = None) -> int:
     # as a program that isn't Python's ends: at once, and without a word
     signal.signal(signal.SIGPIPE, signal.SIG_DFL)
     signal.signal(signal.SIGINT, signal.SIG_DFL)
-    parser = _parser()
-    asked = parser.parse_args(arguments)
-    why = _why_none(asked)
-    if why:
-        parser.error(why)
     try:
+        parser = _parser()
+        asked = parser.parse_args(arguments)
+        why = _why_none(asked)
+        if why:
+            parser.error(why)
         _COMMANDS[asked.command](asked)
     except _Failure as failure:
-        print(f"json-patch: {failure}", file=sys.stderr)
+        _tell(str(failure))
         return failure.status
     except MemoryError:
-        print("json-patch: out of memory", file=sys.stderr)
+        _tell("out of memory")
         return NO_MEMORY
     return 0
+
+
+def _tell(fault: str) -> None:
+    """A line on standard error, where that is open and takes it: the status tells, too."""
+    if sys.stderr is not None:
+        with suppress(OSError):
+            _files.write_to(_files.ERRORS, f"json-patch: {fault}\n".encode(sys.stderr.encoding, "backslashreplace"))

@@ -6,16 +6,78 @@ import signal
 import stat
 import tempfile
 from contextlib import contextmanager, suppress
-from typing import Iterator, Optional
+from typing import Iterator, Optional, Union
 
 STANDARD = "-"
+_INPUT, OUTPUT, ERRORS = 0, 1, 2
 _SIGNALS = {signal.SIGINT, signal.SIGTERM, signal.SIGHUP}
+# as many as the system follows
+_MOST_LINKS = 40
+# where a text comes from or goes: a file's name, or the number of one that is open
+Place = Union[str, int]
+
+
+def source(name: str) -> Place:
+    return _INPUT if name == STANDARD else name
 
 
 def read(name: str) -> bytes:
     """The bytes of a file, or of standard input for `-`."""
-    with open(0 if name == STANDARD else name, "rb", closefd=name != STANDARD) as file:
+    with open(source(name), "rb", closefd=name != STANDARD) as file:
         return file.read()
+
+
+def backup_of(name: str) -> str:
+    """Where the old content of a file is kept: beside the file itself, where the name is a link."""
+    return os.path.realpath(name) + ".orig"
+
+
+def _known(place: Place) -> Optional[os.stat_result]:
+    """What the system knows of what is there, or None."""
+    try:
+        return os.stat(place)
+    except OSError:
+        return None
+
+
+def _is_one(first: Place, second: Place) -> bool:
+    """Whether both are one file, terminal or pipe, or would be if there were one."""
+    there, other = _known(first), _known(second)
+    if there and other:
+        return os.path.samestat(there, other)
+    return isinstance(first, str) and isinstance(second, str) and os.path.realpath(first) == os.path.realpath(second)
+
+
+def overwrites(result: Place, given: Place) -> bool:
+    """Whether what is written to the one place would stand over what is read from the other. A terminal
+    and a pipe may be both."""
+    there = _known(given)
+    passes_on = there and not stat.S_ISREG(there.st_mode) and not stat.S_ISBLK(there.st_mode)
+    return not passes_on and _is_one(result, given)
+
+
+def collide(first: Place, second: Place) -> bool:
+    """Whether two results would go to one place, other than that which keeps nothing."""
+    return _is_one(first, second) and not _is_one(first, os.devnull)
+
+
+def is_no_file(name: str) -> bool:
+    """Whether something is there that a new file can't replace."""
+    there = _known(name)
+    return _descriptor(name) is not None or (there is not None and not stat.S_ISREG(there.st_mode))
+
+
+def _descriptor(name: str) -> Optional[int]:
+    """The number of the open file that the name stands for, as /dev/stdout and /dev/fd/3 do."""
+    own = os.path.realpath("/proc/self/fd")
+    for _ in range(_MOST_LINKS):
+        folder, last = os.path.split(name)
+        if last.isascii() and last.isdecimal() and os.path.realpath(folder) == own:
+            return int(last)
+        if not os.path.islink(name):
+            return None
+        name = os.path.join(folder, os.readlink(name))
+    return None
 
 
 def write_to(descriptor: int, content: bytes) -> None:
@@ -38,15 +100,19 @@ def _signals_wait() -> Iterator[None]:
 def replace(name: str, content: bytes, keeps_old: bool = False) -> None:
     """Gives a file another content, all or nothing, and keeps its owner and permissions: a new file is
     written beside it, and renamed over it. With `keeps_old` the old content is in a file NAME.orig
-    before. Of a link the file is replaced that it leads to, and what is no regular file is written to."""
-    name = os.path.realpath(name)
-    there = os.stat(name) if os.path.exists(name) else None
+    before. Of a link the file is replaced that it leads to. What is no regular file is written to, and so
+    is an open one, such as /dev/stdout, from where it stands."""
+    there, descriptor = _known(name), _descriptor(name)
+    if descriptor is not None:
+        write_to(descriptor, content)
+        return
     if there and not stat.S_ISREG(there.st_mode):
         _write_over(name, content)
         return
+    name = os.path.realpath(name)
     with _signals_wait():
         if keeps_old and there:
-            _renamed_over(name + ".orig", read(name), there)
+            _renamed_over(backup_of(name), read(name), there)
         _renamed_over(name, content, there)
         _settle(os.path.dirname(name))
 

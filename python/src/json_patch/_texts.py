@@ -78,4 +78,3 @@ def sorted_text(value: object) -> bytes:
     """The text of an object as the library would write it: names in byte order, which is that of their
     code points, and no character escaped that needn't be."""
     return json.dumps(value, separators=(",", ":"), ensure_ascii=False, sort_keys=True).encode()
-

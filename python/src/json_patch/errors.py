@@ -52,7 +52,7 @@ class TooDeep(JsonPatchException, ValueError):
 class OverLimit(JsonPatchException):
     """An operation of a patch is over the limits, and nothing is changed: it would put a value too deep
     (`kind` is TooDeep), or copy too much, with what was copied before, or in apply_text leave too long a
-    text (TooMuch)."""
+    text (TooMuch), as a merge would by merge_text, which has no operation."""
 
 
 class NothingToUndo(JsonPatchException, IndexError):

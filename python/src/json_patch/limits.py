@@ -5,7 +5,7 @@ from dataclasses import dataclass
 
 # the most levels that there may be, and the copies where no limit is given, as in json_patch.h
 MOST_LEVELS = 124
-MOST_COPIED = 67_108_864
+MOST_COPIED = 500_000
 
 
 @dataclass(frozen=True)
@@ -13,9 +13,10 @@ class Limits:
     """What a call keeps to, for patches of strangers: no document has more than `depth` levels, of which
     1 has none and [[1]] has two, and the copies of one patch add at most `copied`. There a value counts
     one for each value in it, itself included, and one for each byte of a string or a member's name.
+    Where a patch is recorded, what it moves counts as copied, too.
 
     >>> Limits(depth=10)
-    Limits(depth=10, copied=67108864)
+    Limits(depth=10, copied=500000)
 
     ValueError, where one is negative, or `depth` more than 124; TypeError, where one is no int.
     """

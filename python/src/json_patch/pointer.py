@@ -4,7 +4,7 @@ from __future__ import annotations
 import copy
 import re
 from collections.abc import Mapping, Sequence
-from typing import Any, Dict, Iterable, List, Optional, Tuple, Union
+from typing import Any, Dict, Iterable, List, Tuple, Union
 
 from ._depth import is_deep, shown
 from .errors import JsonPointerException, _PastTheEnd

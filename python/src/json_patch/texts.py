@@ -3,7 +3,7 @@ from __future__ import annotations
 
 from typing import Any, TypeVar
 
-from ._calls import called, found
+from ._calls import called, found, merged
 from ._library import LIBRARY
 from ._texts import as_bytes, merge_patch_text
 from .limits import DEFAULT, Limits
@@ -16,7 +16,8 @@ _Text = TypeVar("_Text", str, bytes)
 def apply_text(text: _Text, patch: Patch, *, limits: Limits = DEFAULT) -> _Text:
     """What a patch, as a list of operations, a JSON text or a JsonPatch, leaves of a JSON text. Blanks, the
     order of members and the way in which numbers and strings are written stay, and what is added follows
-    its neighbours. Numbers may be any, and are compared exactly.
+    its neighbours: blanks, or a colon with blanks, of at most 128 bytes are taken over. Numbers may be
+    any, and are compared exactly.
 
     >>> print(apply_text('''{
     ...   "price": 1.50,
@@ -41,12 +42,11 @@ def merge_text(text: _Text, patch: Any, *, limits: Limits = DEFAULT) -> _Text:
 
     >>> merge_text('{ "price": 1.50, "tags": ["new"], "old": 1 }', {"old": None, "tags": ["new"], "stock": 5})
     '{ "price": 1.50, "tags": ["new"], "stock": 5 }'
+
+    The limits are those of texts here too: where the text would be longer than both and `copied` bytes
+    together, OverLimit tells so, and no operation.
     """
-    return _like(text, _merged(as_bytes(text), merge_patch_text(patch), limits))
-
-
-def _merged(text: bytes, patch: bytes, limits: Limits) -> bytes:
-    return called(LIBRARY.json_patch_merge_text_within, text, patch, limits)
+    return _like(text, merged(as_bytes(text), merge_patch_text(patch), limits))
 
 
 def resolve_text(text: _Text, pointer: str) -> _Text:

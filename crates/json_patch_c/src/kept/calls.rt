@@ -11,7 +11,7 @@ ghost use Rattle.json_patch_bytes.specs.Failures.{IsFailure, IsTextOf};
 ghost use Rattle.json_patch_bytes.specs.Reasons.{of_open};
 ghost use Rattle.json_patch_bytes.specs.Texts.{IsShallowText};
 ghost use Rattle.json_patch_c.specs.Found.{IsLookup};
-ghost use Rattle.json_patch_c.specs.Reasons.{of_diff_to, of_memory, of_update, of_update_merged};
+ghost use Rattle.json_patch_c.specs.Reasons.{of_diff_to, of_memory, of_update, of_update_merged, of_update_recorded};
 ghost use Rattle.json_patch_c.specs.Updates.{MergesTo, RecordsTo, UpdatesTo};
 
 use crate::kept::Kept;
@@ -78,7 +78,7 @@ impl Kept {
         ensures changed { OnOk result (RecordsTo self.old.limits (view self.old.document) changes.now
             (view self.new.document) (operations_of self.new.inverse)) }
         ensures failure { IfErr result
-            (IsFailure (of_update self.old.limits (view self.old.document) changes.now)) }
+            (IsFailure (of_update_recorded self.old.limits (view self.old.document) changes.now)) }
         ensures limits { self.new.limits ≡ self.old.limits }
         ensures unchanged { OnErr result (view self.new.document ≡ view self.old.document) }
         ensures inverse_kept { OnErr result (self.new.inverse ≡ self.old.inverse) }
@@ -94,7 +94,8 @@ impl Kept {
         Ok(())
     }
 
-    /// Takes back the last change, if it was recorded and does something, in place: whether it did.
+    /// Takes back the last change in place, if it was recorded and does something, and returns
+    /// whether it did.
     pub(crate) fn undo(&mut self, alloc: Global) -> Result<bool, Failure>
         ensures undone { result ≡ Ok true → IsAccepted (view self.old.document)
             (operations_of self.old.inverse) (view self.new.document) }

@@ -16,7 +16,7 @@ pub(super) const OVER_BACK: &[u8] = b"[{\"a\":1},\
     [{\"op\":\"replace\",\"path\":\"/a\",\"value\":{\"c\":2}},\
     {\"op\":\"add\",\"path\":\"/a/b\",\"value\":1}]]\n";
 
-/// A move over a member of an item that moves down by one.
+/// A move over a member of an element whose index goes down by one.
 pub(super) const DOWN: &[u8] =
     b"[[9,{\"k\":0},{\"b\":1}],[{\"op\":\"move\",\"from\":\"/0\",\"path\":\"/1/b\"}]]";
 

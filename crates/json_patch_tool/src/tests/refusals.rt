@@ -76,7 +76,7 @@ fn refuses_patches(rt: HostRuntime) -> Result<(), Fail> {
     Ok(())
 }
 
-/// All items are read before the first command is done.
+/// All elements are read before the first command is done.
 #[test]
 fn refuses_lists_of_commands(rt: HostRuntime) -> Result<(), Fail> {
     let cases: [(&[u8], &str); 4] = [

@@ -9,12 +9,14 @@ use Rattle.json_text.specs.Cuts.{AllSuit, IsBlank, Piece, Suits, piece_text, pie
 use Rattle.json_text.specs.Listing.{IsTextOf}
 use Rattle.json_text.specs.Removed.{IsTightFront}
 use Rattle.json_text.specs.Rows.{Child, tree_in}
+use Rattle.json_text.specs.Styled.{blanks_like}
 use Rattle.json_lexemes.specs.Spelled.{spelled, Says}
 use Rattle.json_lexemes.proofs.Counted.{some_lexeme}
 use Rattle.json_text.proofs.Rows.Grows.{new_item}
 use Rattle.json_text.proofs.Rows.Leads.{comma_lead, leads, no_lead}
+use Rattle.json_text.proofs.Rows.Styles.{by_blanks}
 use Rattle.json_lexemes.proofs.Steps.{follows}
-use Rattle.json_pieces.specs.PieceLists.{blank_like, item_between, item_put, item_put_by, led}
+use Rattle.json_pieces.specs.PieceLists.{item_between, item_put, item_put_by, led, neighbour_blank}
 use Rattle.json_pieces.proofs.Rows.Parts.{hold_append, joined, no_cons, part_of, rest_text, row_split, suit_append, up_to}
 use Rattle.json_pieces.proofs.Rows.Says.{AllHold, Holds, all_hold, blank_lead, comma_lex, holds, more_lexes, opens_lex, others_to, piece_lexes, row_holds, tight_end, tight_front}
 use Rattle.json_pieces.proofs.Rows.Stands.{blank_nil}
@@ -56,7 +58,7 @@ item_front c p post s = label_front false c.0 p.name p.colons (p.value ++ (p.tra
 first_front : (blank : List ℕ) → IsBlank blank → lex between (up_to 91 [] ++ blank) ≡ token tokens.begin_array ∷ []
 first_front blank e = opens_lex false blank ∙ ap (λ l. token tokens.begin_array ∷ l) e.0
 
-before_style : (cs : List Child) (c : Child) (ds : List Child) (pre : List Piece) (p : Piece) (post : List Piece) → AllSuit false cs pre → Suits false c p → AllSuit false ds post → IsBeforeItem (up_to 91 pre ++ p.blank) (44 ∷ blank_like pre p post) (from_item p post)
+before_style : (cs : List Child) (c : Child) (ds : List Child) (pre : List Piece) (p : Piece) (post : List Piece) → AllSuit false cs pre → Suits false c p → AllSuit false ds post → IsBeforeItem (up_to 91 pre ++ p.blank) (44 ∷ blanks_like (neighbour_blank pre p post)) (from_item p post)
 before_style cs c [] [] p (q ∷ post) h s k = absurd k
 before_style cs c (d ∷ ds) [] p (q ∷ post) h s k =
     let second : HasSecond (from_item p (q ∷ post)) q.blank = record {
@@ -89,11 +91,11 @@ styled_before k (d ∷ cs) n c more front trail back e s = inr (refl, s)
 
 -- ---- the pieces
 
-like_blank : (c : Child) (ds : List Child) (pre : List Piece) (p : Piece) (post : List Piece) → Suits false c p → AllSuit false ds post → IsBlank (blank_like pre p post)
-like_blank c ds [] p [] s k = s.blank
-like_blank c [] [] p (q ∷ post) s k = absurd k
-like_blank c (d ∷ ds) [] p (q ∷ post) s k = k.0.blank
-like_blank c ds (o ∷ pre) p post s k = s.blank
+near_blank : (c : Child) (ds : List Child) (pre : List Piece) (p : Piece) (post : List Piece) → Suits false c p → AllSuit false ds post → IsBlank (neighbour_blank pre p post)
+near_blank c ds [] p [] s k = s.blank
+near_blank c [] [] p (q ∷ post) s k = absurd k
+near_blank c (d ∷ ds) [] p (q ∷ post) s k = k.0.blank
+near_blank c ds (o ∷ pre) p post s k = s.blank
 
 led_suits : {b : Bool} {c : Child} {p : Piece} (blank : List ℕ) → IsBlank blank → Suits b c p → Suits b c (led blank p)
 led_suits blank e s = record { blank = e; label = s.label; value = s.value; trail = s.trail }
@@ -101,21 +103,23 @@ led_suits blank e s = record { blank = e; label = s.label; value = s.value; trai
 pub item_before_suits : (s : List ℕ) (w : Json) (cs : List Child) (ps : List Piece) (n : ℕ) (c : Child) (more : List Child) → AllSuit false cs ps → drop n cs ≡ c ∷ more → IsTextOf s w → AllSuit false (take n cs ++ (([], w) ∷ drop n cs)) (item_put n s ps)
 item_before_suits s w cs ps n c more h e f =
     let r = part_of false cs ps n c more h e in
-    let like = blank_like (take n ps) r.piece r.rest in
+    let near = neighbour_blank (take n ps) r.piece r.rest in
+    let like = blanks_like near in
     subst (λ l. AllSuit false (take n cs ++ (([], w) ∷ l)) (item_put n s ps)) (sym e)
     (subst (λ l. AllSuit false (take n cs ++ (([], w) ∷ c ∷ more)) (item_put_by s (take n ps) l)) (sym r.is)
     (suit_append false (take n cs) (([], w) ∷ c ∷ more) (take n ps) (item_between r.piece.blank s [] ∷ led like r.piece ∷ r.rest) r.before
-    (item_suits r.piece.blank s [] w r.suits.blank blank_nil f, (led_suits like (like_blank c more (take n ps) r.piece r.rest r.suits r.behind) r.suits, r.behind))))
+    (item_suits r.piece.blank s [] w r.suits.blank blank_nil f, (led_suits like (by_blanks IsBlank near (near_blank c more (take n ps) r.piece r.rest r.suits r.behind) blank_nil) r.suits, r.behind))))
 
 -- ---- put in
 
 -- with any text of a value in the new piece
 before_says : (cs : List Child) (c : Child) (ds : List Child) (pre : List Piece) (p : Piece) (post : List Piece) (s : List ℕ) (w : Json) → AllSuit false cs pre → Suits false c p → AllSuit false ds post → Says s w
-    → Says ((up_to 91 pre ++ p.blank) ++ ([] ++ (s ++ ((44 ∷ blank_like pre p post) ++ from_item p post)))) (tree_in false (cs ++ (([], w) ∷ c ∷ ds)))
+    → Says ((up_to 91 pre ++ p.blank) ++ ([] ++ (s ++ ((44 ∷ blanks_like (neighbour_blank pre p post)) ++ from_item p post)))) (tree_in false (cs ++ (([], w) ∷ c ∷ ds)))
 before_says cs c ds pre p post s w h u k says =
-    let like = blank_like pre p post in
+    let near = neighbour_blank pre p post in
+    let like = blanks_like near in
     let item : Holds false ([], w) (item_between p.blank s []) = record { blank = u.blank; label = (refl, refl); value = says; trail = blank_nil } in
-    let old : Holds false c (led like p) = holds (led_suits like (like_blank c ds pre p post u k) u) in
+    let old : Holds false c (led like p) = holds (led_suits like (by_blanks IsBlank near (near_blank c ds pre p post u k) blank_nil) u) in
     subst (λ x. Says x (tree_in false (cs ++ (([], w) ∷ c ∷ ds)))) (new_text [] like s pre p post)
     (row_holds false [] (cs ++ (([], w) ∷ c ∷ ds)) (pre ++ (item_between p.blank s [] ∷ led like p ∷ post)) (hold_append false cs (([], w) ∷ c ∷ ds) pre (item_between p.blank s [] ∷ led like p ∷ post) (all_hold false cs pre h) (item, (old, all_hold false ds post k))) blank_nil)
 
@@ -125,7 +129,7 @@ item_before_into hollow hollow2 k put cs ps n c more h slot e =
     let r = part_of false cs ps n c more h e in
     let pre = take n ps in
     let p = r.piece in
-    let like = blank_like pre p r.rest in
+    let like = blanks_like (neighbour_blank pre p r.rest) in
     let is : item_put n put ps ≡ pre ++ (item_between p.blank put [] ∷ led like p ∷ r.rest) = ap (item_put_by put pre) r.is in
     record {
       front = up_to 91 pre ++ p.blank;

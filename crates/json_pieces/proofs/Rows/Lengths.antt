@@ -2,6 +2,7 @@
 use Rattle.std.proofs.Common.{◌≡◌, ℕ, zero, suc, ◌+◌, ◌<◌, ◌≤◌, Bool, true, false, List, [], ◌∷◌, ◌++◌, length, take, drop, get_or, refl, sym, ap, ap₂, ◌∙◌, subst, arith, length-append}
 use Rattle.std.specs.List.{remove}
 use Rattle.json_text.specs.Cuts.{Piece, row_text}
+use Rattle.json_text.specs.Styled.{blanks_like, colons_like}
 use Rattle.json_pieces.specs.Nodes.{piece_with, text_bytes, tree_text, view}
 use Rattle.json_pieces.specs.PieceLists.{item_between, item_pushed, item_put, item_put_by, led, member_like, member_pushed, taken, taken_by, trailed}
 use Rattle.json_pieces.specs.declared.node.Node.{Node}
@@ -177,7 +178,7 @@ module _ (b : Bool) (hollow : List ℕ) (ss : List Seam) (vs : List Node) (n : �
       subst (λ x. length (text_bytes t.blank) ≤ length (row_text b hollow x)) (sym (joined n (pieces_in ss vs) (piece_with t r.text) r.rest r.is)) (blank_fits b hollow (take n (pieces_in ss vs)) (piece_with t r.text) r.rest)
 
 pub push_member_size : (hollow hollow2 name u : List ℕ) (ss : List Seam) (vs : List Node) (m n : ℕ) (t : Seam) → m ≡ n + 1 → AreSoundIn ss vs → length vs ≡ m → t ≡ get_or ss n t
-    → length (row_text true hollow2 (member_pushed hollow name u (pieces_in ss vs))) ≡ length (row_text true hollow (pieces_in ss vs)) + (length (text_bytes t.blank) + length name + length (text_bytes t.colons) + length u + 1)
+    → length (row_text true hollow2 (member_pushed hollow name u (pieces_in ss vs))) ≡ length (row_text true hollow (pieces_in ss vs)) + (length (blanks_like (text_bytes t.blank)) + length name + length (colons_like (text_bytes t.colons)) + length u + 1)
 push_member_size hollow hollow2 name u ss vs m n t is h l e =
     let ps = pieces_in ss vs in
     let r = seam_at ss vs n t h (omega (arith, l, is)) e in
@@ -188,14 +189,14 @@ push_member_size hollow hollow2 name u ss vs m n t is h l e =
     omega (arith, size, ap (λ x. length (row_text true hollow x)) whole, ap (λ x. length (row_text true hollow2 x)) new)
 
 pub push_item_size : (hollow hollow2 u : List ℕ) (ss : List Seam) (vs : List Node) (m n : ℕ) (t : Seam) → m ≡ n + 1 → AreSoundIn ss vs → length vs ≡ m → t ≡ get_or ss n t
-    → length (row_text false hollow2 (item_pushed hollow u (pieces_in ss vs))) ≡ length (row_text false hollow (pieces_in ss vs)) + (length (text_bytes t.blank) + length u + 1)
+    → length (row_text false hollow2 (item_pushed hollow u (pieces_in ss vs))) ≡ length (row_text false hollow (pieces_in ss vs)) + (length (blanks_like (text_bytes t.blank)) + length u + 1)
 push_item_size hollow hollow2 u ss vs m n t is h l e =
     let ps = pieces_in ss vs in
     let r = seam_at ss vs n t h (omega (arith, l, is)) e in
     let o = piece_with t r.text in
     let whole : ps ≡ take n ps ++ (o ∷ []) = joined n ps o r.rest r.is ∙ ap (λ x. take n ps ++ (o ∷ x)) (last_rest ss vs n t h (l ∙ is) r) in
-    let new : item_pushed hollow u ps ≡ take n ps ++ (trailed [] o ∷ item_between o.blank u o.trail ∷ []) = ap (item_pushed hollow u) whole ∙ item_set hollow u (take n ps) o in
-    let size = pushed_size false hollow hollow2 (take n ps) o (item_between o.blank u o.trail) in
+    let new : item_pushed hollow u ps ≡ take n ps ++ (trailed [] o ∷ item_between (blanks_like o.blank) u o.trail ∷ []) = ap (item_pushed hollow u) whole ∙ item_set hollow u (take n ps) o in
+    let size = pushed_size false hollow hollow2 (take n ps) o (item_between (blanks_like o.blank) u o.trail) in
     omega (arith, size, ap (λ x. length (row_text false hollow x)) whole, ap (λ x. length (row_text false hollow2 x)) new)
 
 -- in an empty row
@@ -218,19 +219,19 @@ hollow_fits b hollow ss vs l =
 
 -- before an item
 pub put_own_size : (hollow hollow2 u : List ℕ) (ss : List Seam) (vs : List Node) (n : ℕ) (t : Seam) → AreSoundIn ss vs → n < length vs → (n ≡ 0 → length vs ≡ 1) → t ≡ get_or ss n t
-    → length (row_text false hollow2 (item_put n u (pieces_in ss vs))) ≡ length (row_text false hollow (pieces_in ss vs)) + (length (text_bytes t.blank) + length u + 1)
+    → length (row_text false hollow2 (item_put n u (pieces_in ss vs))) ≡ length (row_text false hollow (pieces_in ss vs)) + (length (blanks_like (text_bytes t.blank)) + length u + 1)
 put_own_size hollow hollow2 u ss vs n t h l one e =
     let ps = pieces_in ss vs in
     let r = seam_at ss vs n t h l e in
     let p = piece_with t r.text in
     let whole : ps ≡ take n ps ++ (p ∷ r.rest) = joined n ps p r.rest r.is in
-    let new : item_put n u ps ≡ take n ps ++ (item_between p.blank u [] ∷ led p.blank p ∷ r.rest) =
-    ap (item_put_by u (take n ps)) r.is ∙ ap (λ x. take n ps ++ (item_between p.blank u [] ∷ led x p ∷ r.rest)) (own_like ps n p r.rest r.is (λ z. pieces_are ss vs h ∙ one z)) in
-    let size = put_before_size false hollow hollow2 p.blank (take n ps) p (item_between p.blank u []) r.rest in
+    let new : item_put n u ps ≡ take n ps ++ (item_between p.blank u [] ∷ led (blanks_like p.blank) p ∷ r.rest) =
+    ap (item_put_by u (take n ps)) r.is ∙ ap (λ x. take n ps ++ (item_between p.blank u [] ∷ led (blanks_like x) p ∷ r.rest)) (own_like ps n p r.rest r.is (λ z. pieces_are ss vs h ∙ one z)) in
+    let size = put_before_size false hollow hollow2 (blanks_like p.blank) (take n ps) p (item_between p.blank u []) r.rest in
     omega (arith, size, ap (λ x. length (row_text false hollow x)) whole, ap (λ x. length (row_text false hollow2 x)) new)
 
 pub put_first_size : (hollow hollow2 u : List ℕ) (ss : List Seam) (vs : List Node) (o : Seam) → AreSoundIn ss vs → 1 < length vs → o ≡ get_or ss 1 o
-    → length (row_text false hollow2 (item_put 0 u (pieces_in ss vs))) ≡ length (row_text false hollow (pieces_in ss vs)) + (length (text_bytes o.blank) + length u + 1)
+    → length (row_text false hollow2 (item_put 0 u (pieces_in ss vs))) ≡ length (row_text false hollow (pieces_in ss vs)) + (length (blanks_like (text_bytes o.blank)) + length u + 1)
 put_first_size hollow hollow2 u [] [] o h l e = absurd (omega (arith, l))
 put_first_size hollow hollow2 u [] (w ∷ vs) o h l e = absurd h
 put_first_size hollow hollow2 u (a ∷ ss) [] o h l e = absurd h
@@ -238,6 +239,6 @@ put_first_size hollow hollow2 u (a ∷ ss) (w ∷ []) o h l e = absurd (omega (a
 put_first_size hollow hollow2 u (a ∷ []) (w ∷ z ∷ vs) o h l e = absurd h.1
 put_first_size hollow hollow2 u (a ∷ b ∷ ss) (w ∷ z ∷ vs) o h l e =
     let p = piece_with a (tree_text (view w)) in
-    let size = put_before_size false hollow hollow2 (text_bytes b.blank) [] p (item_between p.blank u []) (pieces_in (b ∷ ss) (z ∷ vs)) in
-    let same : length (text_bytes b.blank) ≡ length (text_bytes o.blank) = ap (λ x. length (text_bytes x.blank)) (sym e) in
+    let size = put_before_size false hollow hollow2 (blanks_like (text_bytes b.blank)) [] p (item_between p.blank u []) (pieces_in (b ∷ ss) (z ∷ vs)) in
+    let same : length (blanks_like (text_bytes b.blank)) ≡ length (blanks_like (text_bytes o.blank)) = ap (λ x. length (blanks_like (text_bytes x.blank))) (sym e) in
     omega (arith, size, same)

@@ -3,8 +3,9 @@ use Rattle.std.proofs.Common.{◌≡◌, ℕ, zero, suc, ◌+◌, ◌<◌, List,
 use Rattle.std.specs.List.{insert, remove}
 use Rattle.std.specs.Prelude.{slice_set}
 use Rattle.json_text.specs.Cuts.{Piece}
+use Rattle.json_text.specs.Styled.{blanks_like}
 use Rattle.json_pieces.specs.Nodes.{IsSound, piece_with, text_bytes, tree_text, view}
-use Rattle.json_pieces.specs.PieceLists.{blank_like, item_between, item_pushed, item_put, item_put_by, led, member_alone, member_like, member_pushed, taken, taken_by, trailed}
+use Rattle.json_pieces.specs.PieceLists.{item_between, item_pushed, item_put, item_put_by, led, member_alone, member_like, member_pushed, neighbour_blank, taken, taken_by, trailed}
 use Rattle.json_pieces.specs.declared.node.Node.{Node}
 use Rattle.json_pieces.specs.declared.seams.Seam.{Seam}
 use Rattle.json_pieces.proofs.Lists.{AreSoundIn, pieces_are, pieces_in}
@@ -128,7 +129,7 @@ abbrev pub IsMemberLike : Seam → List ℕ → Seam → Type 0
 IsMemberLike t name s = (x u : List ℕ) → piece_with s u ≡ member_like (piece_with t x) name u
 
 abbrev pub IsItemLike : Seam → Seam → Type 0
-IsItemLike t s = (u : List ℕ) → piece_with s u ≡ item_between (text_bytes t.blank) u (text_bytes t.trail)
+IsItemLike t s = (u : List ℕ) → piece_with s u ≡ item_between (blanks_like (text_bytes t.blank)) u (text_bytes t.trail)
 
 pub push_member_first : (ss : List Seam) (vs : List Node) (s : Seam) (v : Node) (hollow name : List ℕ) → AreSoundIn ss vs → length vs ≡ 0 → ((u : List ℕ) → piece_with s u ≡ member_alone hollow name u) → pieces_in (insert ss 0 s) (insert vs 0 v) ≡ member_pushed hollow name (tree_text (view v)) (pieces_in ss vs)
 push_member_first [] [] s v hollow name h l k = ap (λ x. x ∷ []) (k (tree_text (view v)))
@@ -170,7 +171,7 @@ item_more [] (w ∷ vs) n s t new v hollow h l e k m = absurd h
 item_more (a ∷ ss) [] n s t new v hollow h l e k m = absurd h
 item_more (a ∷ []) (w ∷ []) zero s t new v hollow h l e k m =
     ap₂ (λ x y. x ∷ y ∷ []) (k (tree_text (view w)) ∙ ap (λ x. trailed [] (piece_with x (tree_text (view w)))) e)
-    (m (tree_text (view v)) ∙ ap (λ x. item_between (text_bytes x.blank) (tree_text (view v)) (text_bytes x.trail)) e)
+    (m (tree_text (view v)) ∙ ap (λ x. item_between (blanks_like (text_bytes x.blank)) (tree_text (view v)) (text_bytes x.trail)) e)
 item_more (a ∷ b ∷ ss) (w ∷ []) n s t new v hollow h l e k m = absurd h.1
 item_more (a ∷ []) (w ∷ z ∷ vs) n s t new v hollow h l e k m = absurd h.1
 item_more (a ∷ ss) (w ∷ []) (suc n) s t new v hollow h l e k m = absurd (omega (arith, l))
@@ -221,26 +222,26 @@ one_there zero (p ∷ ps) h = record { first = p; rest = ps; is = refl }
 one_there (suc n) (p ∷ ps) h = let r = one_there n ps (omega (arith, h)) in record { first = r.first; rest = r.rest; is = r.is }
 
 -- not the first, or alone: its own blanks
-pub own_like : (ps : List Piece) (n : ℕ) (p : Piece) (rest : List Piece) → drop n ps ≡ p ∷ rest → (n ≡ 0 → length ps ≡ 1) → blank_like (take n ps) p rest ≡ p.blank
+pub own_like : (ps : List Piece) (n : ℕ) (p : Piece) (rest : List Piece) → drop n ps ≡ p ∷ rest → (n ≡ 0 → length ps ≡ 1) → neighbour_blank (take n ps) p rest ≡ p.blank
 own_like [] zero p rest e one = absurd (no_cons p rest e)
 own_like [] (suc n) p rest e one = absurd (no_cons p rest e)
 own_like (o ∷ ps) (suc n) p rest e one = refl
 own_like (o ∷ ps) zero p [] e one = refl
 own_like (o ∷ ps) zero p (q ∷ rest) e one = absurd (omega (arith, one refl, ap length e))
 
-pub put_item_own : (ss : List Seam) (vs : List Node) (n : ℕ) (s t new : Seam) (v : Node) → AreSoundIn ss vs → n < length vs → (n ≡ 0 → length vs ≡ 1) → t ≡ get_or ss n t → HasBlank (text_bytes t.blank) t new → IsItemBefore t s
+pub put_item_own : (ss : List Seam) (vs : List Node) (n : ℕ) (s t new : Seam) (v : Node) → AreSoundIn ss vs → n < length vs → (n ≡ 0 → length vs ≡ 1) → t ≡ get_or ss n t → HasBlank (blanks_like (text_bytes t.blank)) t new → IsItemBefore t s
     → pieces_in (insert (slice_set ss n new) n s) (insert vs n v) ≡ item_put n (tree_text (view v)) (pieces_in ss vs)
 put_item_own ss vs n s t new v h l one e k m =
     let ps = pieces_in ss vs in
     let u = tree_text (view v) in
     let count : length ps ≡ length vs = pieces_are ss vs h in
     let r = one_there n ps (omega (arith, l, count)) in
-    let like : text_bytes t.blank ≡ blank_like (take n ps) r.first r.rest = sym (blank_at ss vs n t r.first r.rest h e r.is) ∙ sym (own_like ps n r.first r.rest r.is (λ z. count ∙ one z)) in
-    put_shape ss vs n s t new v (text_bytes t.blank) r.first r.rest h e k m r.is
-    ∙ ap (λ x. take n ps ++ (item_between r.first.blank u [] ∷ led x r.first ∷ r.rest)) like ∙ sym (ap (item_put_by u (take n ps)) r.is)
+    let like : text_bytes t.blank ≡ neighbour_blank (take n ps) r.first r.rest = sym (blank_at ss vs n t r.first r.rest h e r.is) ∙ sym (own_like ps n r.first r.rest r.is (λ z. count ∙ one z)) in
+    put_shape ss vs n s t new v (blanks_like (text_bytes t.blank)) r.first r.rest h e k m r.is
+    ∙ ap (λ x. take n ps ++ (item_between r.first.blank u [] ∷ led (blanks_like x) r.first ∷ r.rest)) like ∙ sym (ap (item_put_by u (take n ps)) r.is)
 
 -- the first of several: the blanks of the second, which has the seam o
-pub put_item_first : (ss : List Seam) (vs : List Node) (s t o new : Seam) (v : Node) → AreSoundIn ss vs → 1 < length vs → t ≡ get_or ss 0 t → o ≡ get_or ss 1 o → HasBlank (text_bytes o.blank) t new → IsItemBefore t s
+pub put_item_first : (ss : List Seam) (vs : List Node) (s t o new : Seam) (v : Node) → AreSoundIn ss vs → 1 < length vs → t ≡ get_or ss 0 t → o ≡ get_or ss 1 o → HasBlank (blanks_like (text_bytes o.blank)) t new → IsItemBefore t s
     → pieces_in (insert (slice_set ss 0 new) 0 s) (insert vs 0 v) ≡ item_put 0 (tree_text (view v)) (pieces_in ss vs)
 put_item_first [] [] s t o new v h l e f k m = absurd (omega (arith, l))
 put_item_first [] (w ∷ vs) s t o new v h l e f k m = absurd h
@@ -250,5 +251,5 @@ put_item_first (a ∷ []) (w ∷ z ∷ vs) s t o new v h l e f k m = absurd h.1
 put_item_first (a ∷ b ∷ ss) (w ∷ z ∷ vs) s t o new v h l e f k m =
     let p = piece_with a (tree_text (view w)) in
     let rest = pieces_in (b ∷ ss) (z ∷ vs) in
-    put_shape (a ∷ b ∷ ss) (w ∷ z ∷ vs) 0 s t new v (text_bytes o.blank) p rest h e k m refl
-    ∙ ap (λ x. item_between p.blank (tree_text (view v)) [] ∷ led (text_bytes x.blank) p ∷ rest) f
+    put_shape (a ∷ b ∷ ss) (w ∷ z ∷ vs) 0 s t new v (blanks_like (text_bytes o.blank)) p rest h e k m refl
+    ∙ ap (λ x. item_between p.blank (tree_text (view v)) [] ∷ led (blanks_like (text_bytes x.blank)) p ∷ rest) f

@@ -14,10 +14,12 @@ use Rattle.json_text.specs.Listing.{IsTextOf}
 use Rattle.json_text.specs.Pointed.{child}
 use Rattle.json_text.specs.Removed.{IsTightEnd}
 use Rattle.json_text.specs.Rows.{Child, tree_in}
+use Rattle.json_text.specs.Styled.{blanks_like, colons_like}
 use Rattle.json_lexemes.specs.Spelled.{Says}
 use Rattle.json_text.proofs.Blanks.{name_between}
 use Rattle.json_text.proofs.Rows.Grows.{new_item, new_member}
 use Rattle.json_text.proofs.Rows.Leads.{quoted_lead}
+use Rattle.json_text.proofs.Rows.Styles.{by_blanks, by_colons}
 use Rattle.json_pieces.specs.PieceLists.{item_between, item_pushed, member_alone, member_like, member_pushed, trailed}
 use Rattle.json_pieces.proofs.Rows.Parts.{HasLast, has_last, hold_append, row_split, up_to}
 use Rattle.json_pieces.proofs.Rows.Says.{Holds, all_hold, holds, opens_end, row_holds, tight_end}
@@ -41,8 +43,14 @@ new_label k = quoted_label k (58 ∷ []) refl refl
 trail_off : {b : Bool} {c : Child} {p : Piece} → Suits b c p → Suits b c (trailed [] p)
 trail_off s = record { blank = s.blank; label = s.label; value = s.value; trail = blank_nil }
 
-like_suits : {c : Child} {p : Piece} (k s : List ℕ) (w : Json) → Suits true c p → IsTextOf s w → Suits true (k, w) (member_like p (quoted k) s)
-like_suits k s w h e = record { blank = h.blank; label = quoted_label k _ h.label.2 h.label.3; value = e; trail = h.trail }
+like_blank : {b : Bool} {c : Child} (p : Piece) → Suits b c p → IsBlank (blanks_like p.blank)
+like_blank p h = by_blanks IsBlank p.blank h.blank blank_nil
+
+like_label : {c : Child} (p : Piece) (k : List ℕ) → Suits true c p → IsLabel true k (quoted k) (colons_like p.colons)
+like_label p k h = by_colons (IsLabel true k (quoted k)) p.colons (quoted_label k p.colons h.label.2 h.label.3) (new_label k)
+
+like_suits : {c : Child} (p : Piece) (k s : List ℕ) (w : Json) → Suits true c p → IsTextOf s w → Suits true (k, w) (member_like p (quoted k) s)
+like_suits p k s w h e = record { blank = like_blank p h; label = like_label p k h; value = e; trail = h.trail }
 
 alone_suits : (k s hollow : List ℕ) (w : Json) → IsBlank hollow → IsTextOf s w → Suits true (k, w) (member_alone hollow (quoted k) s)
 alone_suits k s hollow w h e = record { blank = blank_nil; label = new_label k; value = e; trail = h }
@@ -54,7 +62,7 @@ pub member_suits : (hollow k s : List ℕ) (w : Json) (cs : List Child) (ps : Li
 member_suits hollow k s w [] [] h e f = (alone_suits k s hollow w e f, tt)
 member_suits hollow k s w [] (p ∷ ps) h e f = absurd h
 member_suits hollow k s w (c ∷ cs) [] h e f = absurd h
-member_suits hollow k s w (c ∷ []) (p ∷ []) h e f = (trail_off h.0, (like_suits k s w h.0 f, tt))
+member_suits hollow k s w (c ∷ []) (p ∷ []) h e f = (trail_off h.0, (like_suits p k s w h.0 f, tt))
 member_suits hollow k s w (c ∷ []) (p ∷ q ∷ ps) h e f = absurd h.1
 member_suits hollow k s w (c ∷ d ∷ cs) (p ∷ []) h e f = absurd h.1
 member_suits hollow k s w (c ∷ d ∷ cs) (p ∷ q ∷ ps) h e f = (h.0, member_suits hollow k s w (d ∷ cs) (q ∷ ps) h.1 e f)
@@ -63,7 +71,7 @@ pub item_behind_suits : (hollow s : List ℕ) (w : Json) (cs : List Child) (ps :
 item_behind_suits hollow s w [] [] h e f = (item_suits [] s hollow w blank_nil e f, tt)
 item_behind_suits hollow s w [] (p ∷ ps) h e f = absurd h
 item_behind_suits hollow s w (c ∷ cs) [] h e f = absurd h
-item_behind_suits hollow s w (c ∷ []) (p ∷ []) h e f = (trail_off h.0, (item_suits p.blank s p.trail w h.0.blank h.0.trail f, tt))
+item_behind_suits hollow s w (c ∷ []) (p ∷ []) h e f = (trail_off h.0, (item_suits (blanks_like p.blank) s p.trail w (like_blank p h.0) h.0.trail f, tt))
 item_behind_suits hollow s w (c ∷ []) (p ∷ q ∷ ps) h e f = absurd h.1
 item_behind_suits hollow s w (c ∷ d ∷ cs) (p ∷ []) h e f = absurd h.1
 item_behind_suits hollow s w (c ∷ d ∷ cs) (p ∷ q ∷ ps) h e f = (h.0, item_behind_suits hollow s w (d ∷ cs) (q ∷ ps) h.1 e f)
@@ -73,7 +81,7 @@ member_set hollow name s [] o = refl
 member_set hollow name s (q ∷ []) o = refl
 member_set hollow name s (q ∷ r ∷ front) o = ap (λ l. q ∷ l) (member_set hollow name s (r ∷ front) o)
 
-pub item_set : (hollow s : List ℕ) (front : List Piece) (o : Piece) → item_pushed hollow s (front ++ (o ∷ [])) ≡ front ++ (trailed [] o ∷ item_between o.blank s o.trail ∷ [])
+pub item_set : (hollow s : List ℕ) (front : List Piece) (o : Piece) → item_pushed hollow s (front ++ (o ∷ [])) ≡ front ++ (trailed [] o ∷ item_between (blanks_like o.blank) s o.trail ∷ [])
 item_set hollow s [] o = refl
 item_set hollow s (q ∷ []) o = refl
 item_set hollow s (q ∷ r ∷ front) o = ap (λ l. q ∷ l) (item_set hollow s (r ∷ front) o)
@@ -87,11 +95,11 @@ up_to_value b front o = up_to (opens b) front ++ (o.blank ++ (o.name ++ (o.colon
 old_text : (b : Bool) (hollow : List ℕ) (front : List Piece) (o : Piece) → row_text b hollow (front ++ (o ∷ [])) ≡ up_to_value b front o ++ (o.trail ++ (closes b ∷ []))
 old_text b hollow front o = row_split b hollow front o [] ∙ simp append_assoc
 
-member_text : (hollow name s : List ℕ) (front : List Piece) (o : Piece) → row_text true hollow (front ++ (trailed [] o ∷ member_like o name s ∷ [])) ≡ up_to_value true front o ++ ((44 ∷ (o.blank ++ (name ++ o.colons))) ++ (s ++ ([] ++ (o.trail ++ (125 ∷ [])))))
+member_text : (hollow name s : List ℕ) (front : List Piece) (o : Piece) → row_text true hollow (front ++ (trailed [] o ∷ member_like o name s ∷ [])) ≡ up_to_value true front o ++ ((44 ∷ (blanks_like o.blank ++ (name ++ colons_like o.colons))) ++ (s ++ ([] ++ (o.trail ++ (125 ∷ [])))))
 member_text hollow name s front o = row_split true hollow front (trailed [] o) (member_like o name s ∷ []) ∙ simp (append_assoc, append-nil)
 
-item_text : (hollow s : List ℕ) (front : List Piece) (o : Piece) → row_text false hollow (front ++ (trailed [] o ∷ item_between o.blank s o.trail ∷ [])) ≡ up_to_value false front o ++ ((44 ∷ o.blank) ++ (s ++ ([] ++ (o.trail ++ (93 ∷ [])))))
-item_text hollow s front o = row_split false hollow front (trailed [] o) (item_between o.blank s o.trail ∷ []) ∙ simp (append_assoc, append-nil)
+item_text : (hollow s : List ℕ) (front : List Piece) (o : Piece) → row_text false hollow (front ++ (trailed [] o ∷ item_between (blanks_like o.blank) s o.trail ∷ [])) ≡ up_to_value false front o ++ ((44 ∷ blanks_like o.blank) ++ (s ++ ([] ++ (o.trail ++ (93 ∷ [])))))
+item_text hollow s front o = row_split false hollow front (trailed [] o) (item_between (blanks_like o.blank) s o.trail ∷ []) ∙ simp (append_assoc, append-nil)
 
 pub mark_end : (b : Bool) (pre : List Piece) → IsTightEnd (up_to (opens b) pre)
 mark_end b [] = opens_end b
@@ -129,14 +137,14 @@ member_into hollow hollow2 k put cs d front o h u none =
       front = up_to_value true front o;
       back = o.trail ++ (125 ∷ []);
       whole = old_text true hollow front o;
-      ahead = 44 ∷ (o.blank ++ (quoted k ++ o.colons));
+      ahead = 44 ∷ (blanks_like o.blank ++ (quoted k ++ colons_like o.colons));
       trail = [];
-      styled = member_styled k cs d (up_to_value true front o) (44 ∷ (o.blank ++ (quoted k ++ o.colons))) [] (o.trail ++ (125 ∷ [])) (o.blank, o.colons, ends, refl, refl, last_behind true o.trail u.trail);
+      styled = member_styled k cs d (up_to_value true front o) (44 ∷ (blanks_like o.blank ++ (quoted k ++ colons_like o.colons))) [] (o.trail ++ (125 ∷ [])) (o.blank, o.colons, ends, refl, refl, last_behind true o.trail u.trail);
       put_in = member_text hollow2 (quoted k) put front o;
       alone = λ new w x. (
         tree_in true ((cs ++ (d ∷ [])) ++ ((k, w) ∷ [])),
         new_member k w (cs ++ (d ∷ [])) none,
-        pushed_says true cs d (k, w) front o (member_like o (quoted k) new) _ h u (record { blank = u.blank; label = quoted_label k o.colons u.label.2 u.label.3; value = x; trail = u.trail }) (member_text [] (quoted k) new front o),
+        pushed_says true cs d (k, w) front o (member_like o (quoted k) new) _ h u (record { blank = like_blank o u; label = like_label o k u; value = x; trail = u.trail }) (member_text [] (quoted k) new front o),
       );
     }
 
@@ -147,7 +155,7 @@ pub bare_item : (p : Piece) (s : List ℕ) → IsLabel false [] p.name p.colons 
 bare_item p s h = ap₂ (λ x y. x ++ (y ++ s)) h.0 h.1
 
 item_into : (hollow hollow2 k put : List ℕ) (cs : List Child) (d : Child) (front : List Piece) (o : Piece) → AllSuit false cs front → Suits false d o → slot_in k (length (cs ++ (d ∷ []))) ≡ Some (length (cs ++ (d ∷ [])))
-    → IsPutInto (row_text false hollow (front ++ (o ∷ []))) (tree_in false (cs ++ (d ∷ []))) k put (row_text false hollow2 (front ++ (trailed [] o ∷ item_between o.blank put o.trail ∷ [])))
+    → IsPutInto (row_text false hollow (front ++ (o ∷ []))) (tree_in false (cs ++ (d ∷ []))) k put (row_text false hollow2 (front ++ (trailed [] o ∷ item_between (blanks_like o.blank) put o.trail ∷ [])))
 item_into hollow hollow2 k put cs d front o h u slot =
     let ends : EndsWithItem (up_to_value false front o) o.blank = record {
       lead = up_to (opens false) front;
@@ -160,14 +168,14 @@ item_into hollow hollow2 k put cs d front o h u slot =
       front = up_to_value false front o;
       back = o.trail ++ (93 ∷ []);
       whole = old_text false hollow front o;
-      ahead = 44 ∷ o.blank;
+      ahead = 44 ∷ blanks_like o.blank;
       trail = [];
-      styled = item_styled k cs d (up_to_value false front o) (44 ∷ o.blank) [] (o.trail ++ (93 ∷ [])) (o.blank, ends, refl, refl, last_behind false o.trail u.trail);
+      styled = item_styled k cs d (up_to_value false front o) (44 ∷ blanks_like o.blank) [] (o.trail ++ (93 ∷ [])) (o.blank, ends, refl, refl, last_behind false o.trail u.trail);
       put_in = item_text hollow2 put front o;
       alone = λ new w x. (
         tree_in false ((cs ++ (d ∷ [])) ++ (([], w) ∷ [])),
         all_items k w (cs ++ (d ∷ [])) slot,
-        pushed_says false cs d ([], w) front o (item_between o.blank new o.trail) _ h u (record { blank = u.blank; label = (refl, refl); value = x; trail = u.trail }) (item_text [] new front o),
+        pushed_says false cs d ([], w) front o (item_between (blanks_like o.blank) new o.trail) _ h u (record { blank = like_blank o u; label = (refl, refl); value = x; trail = u.trail }) (item_text [] new front o),
       );
     }
 
@@ -238,7 +246,7 @@ item_put_into hollow hollow2 k put (c ∷ cs) (p ∷ ps) h e slot = by_last (has
     by_last : HasLast false (c ∷ cs) (p ∷ ps) → IsPutInto (row_text false hollow (p ∷ ps)) (tree_in false (c ∷ cs)) k put (row_text false hollow2 (item_pushed hollow put (p ∷ ps)))
     by_last r =
         let into = item_into hollow hollow2 k put r.children r.child r.front r.last r.before r.suits (subst (λ l. slot_in k (length l) ≡ Some (length l)) r.are slot) in
-        let new : item_pushed hollow put (p ∷ ps) ≡ r.front ++ (trailed [] r.last ∷ item_between r.last.blank put r.last.trail ∷ []) = ap (item_pushed hollow put) r.is ∙ item_set hollow put r.front r.last in
+        let new : item_pushed hollow put (p ∷ ps) ≡ r.front ++ (trailed [] r.last ∷ item_between (blanks_like r.last.blank) put r.last.trail ∷ []) = ap (item_pushed hollow put) r.is ∙ item_set hollow put r.front r.last in
         subst (λ l. IsPutInto (row_text false hollow l) (tree_in false (c ∷ cs)) k put (row_text false hollow2 (item_pushed hollow put (p ∷ ps)))) (sym r.is)
         (subst (λ l. IsPutInto (row_text false hollow (r.front ++ (r.last ∷ []))) (tree_in false l) k put (row_text false hollow2 (item_pushed hollow put (p ∷ ps)))) (sym r.are)
         (subst (λ l. IsPutInto (row_text false hollow (r.front ++ (r.last ∷ []))) (tree_in false (r.children ++ (r.child ∷ []))) k put (row_text false hollow2 l)) (sym new) into))

@@ -8,6 +8,7 @@ use Rattle.json.specs.Json.{Json}
 use Rattle.json.specs.Print.{quoted}
 use Rattle.json_text.specs.Cuts.{AllSuit, IsBlank, Piece, row_text}
 use Rattle.json_text.specs.Listing.{IsTextOf}
+use Rattle.json_text.specs.Styled.{blanks_like, colons_like}
 use Rattle.json_pieces.specs.Lengths.{HasGained, HasLost, seam_length}
 use Rattle.json_pieces.specs.Nodes.{IsSound, piece_with, text_bytes, tree_text, view}
 use Rattle.json_pieces.specs.PieceLists.{item_between, item_pushed, item_put, member_alone, member_like, member_pushed, with_value}
@@ -64,7 +65,7 @@ next_member_pieces ss ts vs m n s v trail hollow name is h l o k =
     ∙ push_member_more ss vs m n s o.seam _ (Closed v) hollow name is h l o.is (λ u. ap (λ y. record { blank = text_bytes o.seam.blank; name = text_bytes o.seam.name; colons = text_bytes o.seam.colons; value = u; trail = y }) o.empty) k
     ∙ ap (λ u. member_pushed hollow name u (pieces_in ss vs)) (closed_text v)
 
-pub next_item_pieces : (ss ts : List Seam) (vs : List Node) (m n : ℕ) (s : Seam) (v trail : Text) (hollow : List ℕ) → m ≡ n + 1 → AreSoundIn ss vs → length vs ≡ m → (o : HasLost ss n trail ts) → ((u : List ℕ) → piece_with s u ≡ item_between (text_bytes o.seam.blank) u (text_bytes o.seam.trail))
+pub next_item_pieces : (ss ts : List Seam) (vs : List Node) (m n : ℕ) (s : Seam) (v trail : Text) (hollow : List ℕ) → m ≡ n + 1 → AreSoundIn ss vs → length vs ≡ m → (o : HasLost ss n trail ts) → ((u : List ℕ) → piece_with s u ≡ item_between (blanks_like (text_bytes o.seam.blank)) u (text_bytes o.seam.trail))
     → pieces_in (insert ts m s) (insert vs m (Closed v)) ≡ item_pushed hollow (text_bytes v) (pieces_in ss vs)
 next_item_pieces ss ts vs m n s v trail hollow is h l o k =
     ap (λ y. pieces_in (insert y m s) (insert vs m (Closed v))) o.left
@@ -121,7 +122,7 @@ module _ (b d : Bool) (m i k : ℕ) (hollow hollow2 : List ℕ) (ss ss1 ss2 : Li
   next_member_put n at trail name is h l o f g q a =
       ap (λ y. pieces_in y vs2) g ∙ ap (λ y. pieces_in (insert ss1 at s) y) (q ∙ ap (λ y. insert y at (Closed v)) f) ∙ next_member_pieces ss ss1 vs at n s v trail hollow name is h.1 l o a
 
-  pub next_item_put : (n at : ℕ) (trail : Text) → at ≡ n + 1 → IsKept b m hollow ss vs → length vs ≡ at → (o : HasLost ss n trail ss1) → vs1 ≡ vs → ss2 ≡ insert ss1 at s → vs2 ≡ insert vs1 at (Closed v) → ((u : List ℕ) → piece_with s u ≡ item_between (text_bytes o.seam.blank) u (text_bytes o.seam.trail))
+  pub next_item_put : (n at : ℕ) (trail : Text) → at ≡ n + 1 → IsKept b m hollow ss vs → length vs ≡ at → (o : HasLost ss n trail ss1) → vs1 ≡ vs → ss2 ≡ insert ss1 at s → vs2 ≡ insert vs1 at (Closed v) → ((u : List ℕ) → piece_with s u ≡ item_between (blanks_like (text_bytes o.seam.blank)) u (text_bytes o.seam.trail))
       → pieces_in ss2 vs2 ≡ item_pushed hollow (text_bytes v) (pieces_in ss vs)
   next_item_put n at trail is h l o f g q a =
       ap (λ y. pieces_in y vs2) g ∙ ap (λ y. pieces_in (insert ss1 at s) y) (q ∙ ap (λ y. insert y at (Closed v)) f) ∙ next_item_pieces ss ss1 vs at n s v trail hollow is h.1 l o a
@@ -136,18 +137,18 @@ module _ (b d : Bool) (m i k : ℕ) (hollow hollow2 : List ℕ) (ss ss1 ss2 : Li
       let u = text_bytes v in
       let some : AreOfSome true (member_pushed hollow (quoted k2) u ps) = member_of_some hollow k2 u w ps (r.cs, subst (λ c. AllSuit c r.cs ps) y r.suit) r.blank text in
       let old : m ≡ length (row_text true hollow ps) = r.size ∙ ap (λ c. length (row_text c hollow ps)) y in
-      let long : seam_length s ≡ length (text_bytes o.seam.blank) + length (quoted k2) + length (text_bytes o.seam.colons) + length (text_bytes o.seam.trail) = omega (arith, ap (λ p. length p.blank) (a [] []), ap (λ p. length p.name) (a [] []), ap (λ p. length p.colons) (a [] []), ap (λ p. length p.trail) (a [] [])) in
+      let long : seam_length s ≡ length (blanks_like (text_bytes o.seam.blank)) + length (quoted k2) + length (colons_like (text_bytes o.seam.colons)) + length (text_bytes o.seam.trail) = omega (arith, ap (λ p. length p.blank) (a [] []), ap (λ p. length p.name) (a [] []), ap (λ p. length p.colons) (a [] []), ap (λ p. length p.trail) (a [] [])) in
       let new : k ≡ length (row_text true hollow2 (member_pushed hollow (quoted k2) u ps)) = omega (arith, grown, size, old, long, ap (λ x. length (text_bytes x)) o.trail_is, push_member_size hollow hollow2 (quoted k2) u ss vs at n o.seam is h l o.is) in
       subst (λ c. IsKept c k hollow2 ss2 vs2) (sym (z ∙ y)) (kept_pieces true k hollow2 ss2 vs2 (member_pushed hollow (quoted k2) u ps) some (next_member_put n at trail (quoted k2) is (r, h) l o f g q a) (next_sound n at trail h o f g q) blank new)
 
   pub next_item_kept : (n at : ℕ) (trail : Text) (w : Json) → b ≡ false → d ≡ b → at ≡ n + 1 → IsKept b m hollow ss vs → length vs ≡ at → (o : HasLost ss n trail ss1) → vs1 ≡ vs → ss2 ≡ insert ss1 at s → vs2 ≡ insert vs1 at (Closed v)
-      → ((u : List ℕ) → piece_with s u ≡ item_between (text_bytes o.seam.blank) u (text_bytes o.seam.trail)) → IsBlank hollow2 → IsTextOf (text_bytes v) w → i + length (text_bytes trail) ≡ m → Lengthens k i s (text_bytes v) 1 → IsKept d k hollow2 ss2 vs2
+      → ((u : List ℕ) → piece_with s u ≡ item_between (blanks_like (text_bytes o.seam.blank)) u (text_bytes o.seam.trail)) → IsBlank hollow2 → IsTextOf (text_bytes v) w → i + length (text_bytes trail) ≡ m → Lengthens k i s (text_bytes v) 1 → IsKept d k hollow2 ss2 vs2
   next_item_kept n at trail w y z is (r, h) l o f g q a blank text size grown =
       let ps = pieces_in ss vs in
       let u = text_bytes v in
       let some : AreOfSome false (item_pushed hollow u ps) = item_of_some hollow u w ps (r.cs, subst (λ c. AllSuit c r.cs ps) y r.suit) r.blank text in
       let old : m ≡ length (row_text false hollow ps) = r.size ∙ ap (λ c. length (row_text c hollow ps)) y in
-      let long : seam_length s ≡ length (text_bytes o.seam.blank) + length (text_bytes o.seam.trail) = omega (arith, ap (λ p. length p.blank) (a []), ap (λ p. length p.name) (a []), ap (λ p. length p.colons) (a []), ap (λ p. length p.trail) (a [])) in
+      let long : seam_length s ≡ length (blanks_like (text_bytes o.seam.blank)) + length (text_bytes o.seam.trail) = omega (arith, ap (λ p. length p.blank) (a []), ap (λ p. length p.name) (a []), ap (λ p. length p.colons) (a []), ap (λ p. length p.trail) (a [])) in
       let new : k ≡ length (row_text false hollow2 (item_pushed hollow u ps)) = omega (arith, grown, size, old, long, ap (λ x. length (text_bytes x)) o.trail_is, push_item_size hollow hollow2 u ss vs at n o.seam is h l o.is) in
       subst (λ c. IsKept c k hollow2 ss2 vs2) (sym (z ∙ y)) (kept_pieces false k hollow2 ss2 vs2 (item_pushed hollow u ps) some (next_item_put n at trail is (r, h) l o f g q a) (next_sound n at trail h o f g q) blank new)
 
@@ -162,11 +163,11 @@ piece_of_parts a c e u g = record { blank = a; name = c; colons = e; value = u; 
 same_piece : (a b c d e f g h u : List ℕ) → a ≡ b → c ≡ d → e ≡ f → g ≡ h → piece_of_parts a c e u g ≡ piece_of_parts b d f u h
 same_piece a b c d e f g h u i j k l = ap (λ x. piece_of_parts x c e u g) i ∙ ap (λ x. piece_of_parts b x e u g) j ∙ ap (λ x. piece_of_parts b d x u g) k ∙ ap (λ x. piece_of_parts b d f u x) l
 
-pub like_member : (s o t t2 : Seam) (name : List ℕ) → t ≡ o → t2 ≡ o → text_bytes s.blank ≡ text_bytes t.blank → text_bytes s.name ≡ name → text_bytes s.colons ≡ text_bytes t2.colons → s.trail ≡ o.trail → (x u : List ℕ) → piece_with s u ≡ member_like (piece_with o x) name u
-like_member s o t t2 name e f a b c d x u = same_piece (text_bytes s.blank) (text_bytes o.blank) (text_bytes s.name) name (text_bytes s.colons) (text_bytes o.colons) (text_bytes s.trail) (text_bytes o.trail) u (a ∙ ap (λ y. text_bytes y.blank) e) b (c ∙ ap (λ y. text_bytes y.colons) f) (ap text_bytes d)
+pub like_member : (s o t t2 : Seam) (name : List ℕ) → t ≡ o → t2 ≡ o → text_bytes s.blank ≡ blanks_like (text_bytes t.blank) → text_bytes s.name ≡ name → text_bytes s.colons ≡ colons_like (text_bytes t2.colons) → s.trail ≡ o.trail → (x u : List ℕ) → piece_with s u ≡ member_like (piece_with o x) name u
+like_member s o t t2 name e f a b c d x u = same_piece (text_bytes s.blank) (blanks_like (text_bytes o.blank)) (text_bytes s.name) name (text_bytes s.colons) (colons_like (text_bytes o.colons)) (text_bytes s.trail) (text_bytes o.trail) u (a ∙ ap (λ y. blanks_like (text_bytes y.blank)) e) b (c ∙ ap (λ y. colons_like (text_bytes y.colons)) f) (ap text_bytes d)
 
-pub like_item : (o t : Seam) (blank trail u : List ℕ) → t ≡ o → blank ≡ text_bytes t.blank → trail ≡ text_bytes o.trail → item_between blank u trail ≡ item_between (text_bytes o.blank) u (text_bytes o.trail)
-like_item o t blank trail u e a b = same_piece blank (text_bytes o.blank) [] [] [] [] trail (text_bytes o.trail) u (a ∙ ap (λ y. text_bytes y.blank) e) refl refl b
+pub like_item : (o t : Seam) (blank trail u : List ℕ) → t ≡ o → blank ≡ blanks_like (text_bytes t.blank) → trail ≡ text_bytes o.trail → item_between blank u trail ≡ item_between (blanks_like (text_bytes o.blank)) u (text_bytes o.trail)
+like_item o t blank trail u e a b = same_piece blank (blanks_like (text_bytes o.blank)) [] [] [] [] trail (text_bytes o.trail) u (a ∙ ap (λ y. blanks_like (text_bytes y.blank)) e) refl refl b
 
 pub lost_count : (ss : List Seam) (n : ℕ) (trail : Text) (ts : List Seam) → HasLost ss n trail ts → length ts ≡ length ss
 lost_count ss n trail ts o = ap length o.left ∙ set_count ss n _
@@ -196,9 +197,9 @@ pub record IsLike (ss : List Seam) (count n : ℕ) (like : ℕ) (x : Seam) : Typ
 module _ (b d : Bool) (m i k : ℕ) (hollow hollow2 : List ℕ) (ss ss1 ss2 : List Seam) (vs vs1 vs2 : List Node) (s : Seam) (v : Text) (n like : ℕ) (x : Seam) (old : Text) where
   -- what the pieces become, and how long they are
   abbrev Before : Type 0
-  Before = (pieces_in ss2 vs2 ≡ item_put n (text_bytes v) (pieces_in ss vs)) × (length (row_text false hollow2 (item_put n (text_bytes v) (pieces_in ss vs))) ≡ length (row_text false hollow (pieces_in ss vs)) + (length (text_bytes x.blank) + length (text_bytes v) + 1))
+  Before = (pieces_in ss2 vs2 ≡ item_put n (text_bytes v) (pieces_in ss vs)) × (length (row_text false hollow2 (item_put n (text_bytes v) (pieces_in ss vs))) ≡ length (row_text false hollow (pieces_in ss vs)) + (length (blanks_like (text_bytes x.blank)) + length (text_bytes v) + 1))
 
-  before_by : IsKept b m hollow ss vs → n < length vs → IsLike ss (length vs) n like x → (o : HasGained ss n (text_bytes x.blank) old ss1) → vs1 ≡ vs → ss2 ≡ insert ss1 n s → vs2 ≡ insert vs1 n (Closed v) → ((u : List ℕ) → piece_with s u ≡ item_between (text_bytes o.seam.blank) u []) → (n ≡ 0) ⊎ (n ≡ 0 → ⊥) → (length vs ≡ 1) ⊎ (length vs ≡ 1 → ⊥) → Before
+  before_by : IsKept b m hollow ss vs → n < length vs → IsLike ss (length vs) n like x → (o : HasGained ss n (blanks_like (text_bytes x.blank)) old ss1) → vs1 ≡ vs → ss2 ≡ insert ss1 n s → vs2 ≡ insert vs1 n (Closed v) → ((u : List ℕ) → piece_with s u ≡ item_between (text_bytes o.seam.blank) u []) → (n ≡ 0) ⊎ (n ≡ 0 → ⊥) → (length vs ≡ 1) ⊎ (length vs ≡ 1 → ⊥) → Before
   before_by (r, h) l z o f g q a c1 c2 = by_number c1 c2
     where
       there : n < length ss
@@ -210,7 +211,7 @@ module _ (b d : Bool) (m i k : ℕ) (hollow hollow2 : List ℕ) (ss ss1 ss2 : Li
       closed : item_put n (tree_text (view (Closed v))) (pieces_in ss vs) ≡ item_put n (text_bytes v) (pieces_in ss vs)
       closed = ap (λ u. item_put n u (pieces_in ss vs)) (closed_text v)
 
-      given : (bytes : List ℕ) → text_bytes x.blank ≡ bytes → HasBlank bytes o.seam (record { blank = o.given; name = o.seam.name; colons = o.seam.colons; trail = o.seam.trail })
+      given : (bytes : List ℕ) → blanks_like (text_bytes x.blank) ≡ bytes → HasBlank bytes o.seam (record { blank = o.given; name = o.seam.name; colons = o.seam.colons; trail = o.seam.trail })
       given bytes e u = ap (λ y. piece_of_parts y (text_bytes o.seam.name) (text_bytes o.seam.colons) u (text_bytes o.seam.trail)) (o.has ∙ e)
 
       own_case : (n ≡ 0 → length vs ≡ 1) → Before
@@ -218,8 +219,8 @@ module _ (b d : Bool) (m i k : ℕ) (hollow hollow2 : List ℕ) (ss ss1 ss2 : Li
           let at : like ≡ n = z.own one in
           let same : o.seam ≡ x = same_seam ss n x o.seam there (z.is ∙ ap (λ y. get_or ss y x) at) o.is in
           let blank : text_bytes x.blank ≡ text_bytes o.seam.blank = ap (λ y. text_bytes y.blank) (sym same) in (
-            outer ∙ put_item_own ss vs n s o.seam _ (Closed v) h l one o.is (given (text_bytes o.seam.blank) blank) a ∙ closed,
-            put_own_size hollow hollow2 (text_bytes v) ss vs n o.seam h l one o.is ∙ ap (λ y. length (row_text false hollow (pieces_in ss vs)) + (length y + length (text_bytes v) + 1)) (sym blank),
+            outer ∙ put_item_own ss vs n s o.seam _ (Closed v) h l one o.is (given (blanks_like (text_bytes o.seam.blank)) (ap blanks_like blank)) a ∙ closed,
+            put_own_size hollow hollow2 (text_bytes v) ss vs n o.seam h l one o.is ∙ ap (λ y. length (row_text false hollow (pieces_in ss vs)) + (length (blanks_like y) + length (text_bytes v) + 1)) (sym blank),
           )
 
       first_case : n ≡ 0 → 1 < length vs → Before
@@ -229,7 +230,7 @@ module _ (b d : Bool) (m i k : ℕ) (hollow hollow2 : List ℕ) (ss ss1 ss2 : Li
           let zero_seam : o.seam ≡ get_or ss 0 o.seam = o.is ∙ ap (λ y. get_or ss y o.seam) e in
           let moved : pieces_in (insert (slice_set ss n (record { blank = o.given; name = o.seam.name; colons = o.seam.colons; trail = o.seam.trail })) n s) (insert vs n (Closed v)) ≡ item_put n (tree_text (view (Closed v))) (pieces_in ss vs) =
           subst (λ y. pieces_in (insert (slice_set ss y (record { blank = o.given; name = o.seam.name; colons = o.seam.colons; trail = o.seam.trail })) y s) (insert vs y (Closed v)) ≡ item_put y (tree_text (view (Closed v))) (pieces_in ss vs)) (sym e)
-          (put_item_first ss vs s o.seam x _ (Closed v) h more zero_seam seat (given (text_bytes x.blank) refl) a) in (
+          (put_item_first ss vs s o.seam x _ (Closed v) h more zero_seam seat (given (blanks_like (text_bytes x.blank)) refl) a) in (
             outer ∙ moved ∙ closed,
             ap (λ y. length (row_text false hollow2 (item_put y (text_bytes v) (pieces_in ss vs)))) e ∙ put_first_size hollow hollow2 (text_bytes v) ss vs x h more seat,
           )
@@ -242,14 +243,14 @@ module _ (b d : Bool) (m i k : ℕ) (hollow hollow2 : List ℕ) (ss ss1 ss2 : Li
           several : (y : ℕ) → 0 < y → (y ≡ 1 → ⊥) → 1 < y
           several y p q = grind arith
 
-  before_put : IsKept b m hollow ss vs → n < length vs → IsLike ss (length vs) n like x → (o : HasGained ss n (text_bytes x.blank) old ss1) → vs1 ≡ vs → ss2 ≡ insert ss1 n s → vs2 ≡ insert vs1 n (Closed v) → ((u : List ℕ) → piece_with s u ≡ item_between (text_bytes o.seam.blank) u []) → Before
+  before_put : IsKept b m hollow ss vs → n < length vs → IsLike ss (length vs) n like x → (o : HasGained ss n (blanks_like (text_bytes x.blank)) old ss1) → vs1 ≡ vs → ss2 ≡ insert ss1 n s → vs2 ≡ insert vs1 n (Closed v) → ((u : List ℕ) → piece_with s u ≡ item_between (text_bytes o.seam.blank) u []) → Before
   before_put h l z o f g q a = before_by h l z o f g q a (cases_eq n 0) (cases_eq (length vs) 1)
 
-  pub item_before_put : IsKept b m hollow ss vs → n < length vs → IsLike ss (length vs) n like x → (o : HasGained ss n (text_bytes x.blank) old ss1) → vs1 ≡ vs → ss2 ≡ insert ss1 n s → vs2 ≡ insert vs1 n (Closed v) → ((u : List ℕ) → piece_with s u ≡ item_between (text_bytes o.seam.blank) u []) → pieces_in ss2 vs2 ≡ item_put n (text_bytes v) (pieces_in ss vs)
+  pub item_before_put : IsKept b m hollow ss vs → n < length vs → IsLike ss (length vs) n like x → (o : HasGained ss n (blanks_like (text_bytes x.blank)) old ss1) → vs1 ≡ vs → ss2 ≡ insert ss1 n s → vs2 ≡ insert vs1 n (Closed v) → ((u : List ℕ) → piece_with s u ≡ item_between (text_bytes o.seam.blank) u []) → pieces_in ss2 vs2 ≡ item_put n (text_bytes v) (pieces_in ss vs)
   item_before_put h l z o f g q a = (before_put h l z o f g q a).0
 
-  pub item_before_kept : (w : Json) → b ≡ false → d ≡ b → IsKept b m hollow ss vs → n < length vs → IsLike ss (length vs) n like x → (o : HasGained ss n (text_bytes x.blank) old ss1) → vs1 ≡ vs → ss2 ≡ insert ss1 n s → vs2 ≡ insert vs1 n (Closed v) → ((u : List ℕ) → piece_with s u ≡ item_between (text_bytes o.seam.blank) u [])
-      → IsBlank hollow2 → IsTextOf (text_bytes v) w → i + length (text_bytes old) ≡ m + length (text_bytes x.blank) → Lengthens k i s (text_bytes v) 1 → IsKept d k hollow2 ss2 vs2
+  pub item_before_kept : (w : Json) → b ≡ false → d ≡ b → IsKept b m hollow ss vs → n < length vs → IsLike ss (length vs) n like x → (o : HasGained ss n (blanks_like (text_bytes x.blank)) old ss1) → vs1 ≡ vs → ss2 ≡ insert ss1 n s → vs2 ≡ insert vs1 n (Closed v) → ((u : List ℕ) → piece_with s u ≡ item_between (text_bytes o.seam.blank) u [])
+      → IsBlank hollow2 → IsTextOf (text_bytes v) w → i + length (text_bytes old) ≡ m + length (blanks_like (text_bytes x.blank)) → Lengthens k i s (text_bytes v) 1 → IsKept d k hollow2 ss2 vs2
   item_before_kept w y e (r, h) l z o f g q a blank text size grown =
       let ps = pieces_in ss vs in
       let u = text_bytes v in

@@ -24,9 +24,10 @@ use Rattle.json_lexemes.proofs.Steps.{follows}
 use Rattle.json_text.proofs.Stretches.{two_parts}
 use Rattle.json_text.proofs.Rows.Cuts.{fronts, inside_there, no_comma}
 use Rattle.json_text.proofs.Rows.Grows.{items_count, new_item}
-use Rattle.json_text.proofs.Rows.Leads.{comma_lead, Lead, slice_lead, value_before}
+use Rattle.json_text.proofs.Rows.Leads.{comma_lead, Lead, no_lead, slice_lead, value_before}
 use Rattle.json_text.proofs.Rows.Reached.{behind_child}
 use Rattle.json_text.proofs.Rows.Splices.{before_slice, front_lexes, kept_front, ordered, slice_lexes, tight_behind, tight_end, tight_slice_end}
+use Rattle.json_text.proofs.Rows.Styles.{by_blanks}
 use Rattle.json_text.proofs.Rows.Trees.{spelled_in}
 
 -- ---- the slot
@@ -97,7 +98,7 @@ styled_before k (d ∷ cs) n c more front trail back e s = inr (refl, s)
 
 comma_of : (t trail : List ℕ) (r : Numbered) → (m : ℕ) (b : Bool) (cs : List Child) → IsNumbered t b cs m r → AreInOrder t r.part → IsComma t r.part.start trail → Lead trail (comma ∷ [])
 comma_of t trail r m b cs num o (i, gap, is) =
-    subst (λ x. Lead x (comma ∷ [])) (sym is) (comma_lead _ [] (slice_lead t i r.part.start [] gap.begins num.places.begins gap.left gap.order (omega (arith, o.named, o.value, o.fits))))
+    subst (λ x. Lead x (comma ∷ [])) (sym is) (comma_lead _ [] (by_blanks (λ x. Lead x []) (slice t i r.part.start) (slice_lead t i r.part.start [] gap.begins num.places.begins gap.left gap.order (omega (arith, o.named, o.value, o.fits))) no_lead))
 
 trail_lead : (t trail : List ℕ) (cs : List Child) (n from : ℕ) (r : Numbered) → IsNumbered t false cs n r → AreInOrder t r.part → IsInside t false cs from → IsTrail t from n r trail → Lead trail (comma ∷ [])
 trail_lead t trail cs n from r num o h x = by_case (x cs h)

@@ -20,9 +20,10 @@ use Rattle.json_lexemes.specs.declared.span.Span.{Span}
 use Rattle.json_lexemes.proofs.Steps.{follows}
 use Rattle.json_text.proofs.Stretches.{tight}
 use Rattle.json_text.proofs.Rows.Cuts.{alls, inside_positive, no_comma, others_follow}
-use Rattle.json_text.proofs.Rows.Leads.{colon_lead, comma_lead, Lead, leads, quoted_lead, slice_lead, value_before}
+use Rattle.json_text.proofs.Rows.Leads.{colon_lead, comma_lead, Lead, leads, no_lead, quoted_lead, slice_lead, value_before}
 use Rattle.json_text.proofs.Rows.Reached.{apart, behind_child, ends_solid}
 use Rattle.json_text.proofs.Rows.Splices.{before_slice, beside, kept_front, slice_lexes, tight_end}
+use Rattle.json_text.proofs.Rows.Styles.{by_blanks, by_colons}
 use Rattle.json_text.proofs.Rows.Trees.{spelled_in}
 
 -- ---- the tree
@@ -111,8 +112,8 @@ member_behind t k put ahead cs n r says none l o (i, e, gap, name, is) =
     let h = last_text t true cs n r l in
     let place = l.numbered.places in
     let wide : vs ≤ length t = omega (arith, o.value, o.fits) in
-    let blank_lead = slice_lead t i s [] gap.begins place.begins gap.left gap.order (omega (arith, o.named, wide)) in
-    let colon_led = slice_lead t e vs (colon ∷ []) name.begins place.cut.begins name.left name.order wide in
+    let blank_lead = by_blanks (λ x. Lead x []) (slice t i s) (slice_lead t i s [] gap.begins place.begins gap.left gap.order (omega (arith, o.named, wide))) no_lead in
+    let colon_led = by_colons (λ x. Lead x (colon ∷ [])) (slice t e vs) (slice_lead t e vs (colon ∷ []) name.begins place.cut.begins name.left name.order wide) colon_lead in
     let lead : Lead ahead (comma ∷ token (tokens.string k) ∷ colon ∷ []) =
     subst (λ x. Lead x (comma ∷ token (tokens.string k) ∷ colon ∷ [])) (sym is) (comma_lead _ _ (leads _ _ [] _ blank_lead (leads (quoted k) _ (token (tokens.string k) ∷ []) _ (quoted_lead k) colon_led))) in
     let blanks : lex between (slice t i s) ≡ [] = slice_lexes t i s [] (inl gap.begins) (inl place.begins) gap.left gap.order (omega (arith, o.named, wide)) in
@@ -188,7 +189,7 @@ item_behind t k put ahead cs n r says slot l o (i, gap, is) =
     let h = last_text t false cs n r l in
     let place = l.numbered.places in
     let wide : s ≤ length t = omega (arith, o.named, o.value, o.fits) in
-    let lead : Lead ahead (comma ∷ []) = subst (λ x. Lead x (comma ∷ [])) (sym is) (comma_lead _ [] (slice_lead t i s [] gap.begins place.begins gap.left gap.order wide)) in
+    let lead : Lead ahead (comma ∷ []) = subst (λ x. Lead x (comma ∷ [])) (sym is) (comma_lead _ [] (by_blanks (λ x. Lead x []) (slice t i s) (slice_lead t i s [] gap.begins place.begins gap.left gap.order wide) no_lead)) in
     let reach : s ≤ ve = omega (arith, o.named, o.value) in
     let cut : IsCut t (record { start = s; end = ve }) = record { begins = place.begins; ends = place.cut.ends; front = o.solid; back = inr (ends_solid t h.child.1 (others false []) r.part.value h.value h.behind place.cut) } in
     let value : lex between (slice t s ve) ≡ spelled h.child.1 = slice_lexes t s ve (spelled h.child.1) (inl place.begins) place.cut.ends (h.left ∙ ap (λ x. spelled h.child.1 ++ x) (sym h.behind)) reach o.fits in

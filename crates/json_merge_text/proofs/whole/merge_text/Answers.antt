@@ -4,10 +4,10 @@ use Rattle.json_merge_text.proofs.Unchanged.{nothing_changed}
 use Rattle.json_merge_text.proofs.whole.merge_text.Goals as goal
 
 pub returns-clause-merged : goal.returns-clause-merged
-returns-clause-merged c = says_merged c.args.text.now c.args.patch.now (string_bytes c.in_ok-merged.field-0) (search rules)
+returns-clause-merged c = says_merged c.args.text.now c.args.patch.now (string_bytes c.in_ok-to_text.field-0) (search rules)
 
 pub returns-clause-unchanged : goal.returns-clause-unchanged
-returns-clause-unchanged c = nothing_changed c.args.text.now c.args.patch.now (string_bytes c.in_ok-merged.field-0) (search rules)
+returns-clause-unchanged c = nothing_changed c.args.text.now c.args.patch.now (string_bytes c.in_ok-to_text.field-0) (search rules)
 
 pub returns-clause-depth : goal.returns-clause-depth
-returns-clause-depth c = as_deep c.args.text.now c.args.patch.now (string_bytes c.in_ok-merged.field-0) (search rules)
+returns-clause-depth c = as_deep c.args.text.now c.args.patch.now (string_bytes c.in_ok-to_text.field-0) (search rules)

@@ -1,7 +1,5 @@
-use Rattle.std.proofs.Common.{◌∙◌, [], subst, sym}
-use Rattle.std.proofs.lemmas.Result.{IfOk-weaker}
+use Rattle.std.proofs.Common.{◌∙◌, sym}
 use Rattle.json.specs.Value.{value_view}
-use Rattle.json_merge_text.specs.Merging.{IsChanged, MergesInto}
 use Rattle.json_merge_text.proofs.Built.{as_said}
 use Rattle.json_merge_text.proofs.Possible.{whole_shape, whole_stands, whole_there}
 use Rattle.json_pieces.specs.Whole.{text_of}
@@ -20,10 +18,7 @@ pub merge_into-requires-clause-shape : goal.merge_into-requires-clause-shape
 merge_into-requires-clause-shape c i stands =
     whole_shape c.as_str-2.result.now (text_of c.new-texts.result.document) c.new.result c.of-here.result i (c.new-texts.ensures.document ∙ sym c.as_str-2.ensures.text) c.new.ensures c.of-here.ensures stands
 
-pub returns : goal.returns
-returns c =
-    IfOk-weaker c.to_text.result _ _
-    (λ new is i p s t. subst (λ bytes. IsChanged (text_in c.args.text) bytes (MergesInto (text_in c.args.patch) [] i p)) (sym is)
-    (as_said (text_in c.args.text) (text_in c.args.patch) (value_view c.in-Ok.value) i p (text_of c.new-texts.result.document) (text_of c.new-texts.result.patch) (text_of c.merge_into-2.new.texts.document) c.new.result
-    (rw c.as_str.ensures.text at c.in-Ok.ensures.ok) c.new-texts.ensures.document c.new-texts.ensures.patch c.new.ensures c.in_ok-merge_into.ensures.made s t))
-    c.to_text.ensures
+pub returns-clause-changed : goal.returns-clause-changed
+returns-clause-changed c = λ i p s t.
+    as_said (text_in c.args.text) (text_in c.args.patch) (value_view c.in-Ok.value) i p (text_of c.new-texts.result.document) (text_of c.new-texts.result.patch) (text_of c.merge_into-2.new.texts.document) c.new.result
+    (rw c.as_str.ensures.text at c.in-Ok.ensures.ok) c.new-texts.ensures.document c.new-texts.ensures.patch c.new.ensures c.in_ok-merge_into.ensures.made s t

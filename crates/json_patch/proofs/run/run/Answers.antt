@@ -10,7 +10,7 @@ use Rattle.json_patch.proofs.ProgramRuns.{free_at, inverse_more, not_stopped, re
 use Rattle.json_patch.proofs.ProgramRuns.{state_more, whole_at}
 use Rattle.json_patch.proofs.Common.{◌≤◌, None, Some, operations}
 use Rattle.json_patch_limits.specs.OverLimitsComputed.{over_at, over_under}
-use Rattle.json_patch.specs.Logged.{Tells}
+use Rattle.json_patch.specs.Logged.{Tells, is_recorded}
 use Rattle.json_patch_edit.specs.Marked.{seen}
 use Rattle.json_patch_edit.specs.MarkedComputed.{marks}
 use Rattle.json_patch.proofs.run.run.Goals as goal
@@ -26,7 +26,7 @@ loop-number-init c =
       roomy = rw c.new-log.ensures tt;
       count = rw c.new-log.ensures (omega arith);
       leads = λ h. rw c.new-log.ensures refl;
-      within = rw (document_seen d c.requires.document) (rest_first c.args.limits d c.args.patch.now);
+      within = rw (document_seen d c.requires.document) (rest_first (is_recorded c.args.keep) c.args.limits d c.args.patch.now);
       tests = λ h less. c.new-log.ensures;
     }
 
@@ -58,23 +58,23 @@ returns-in-Err-step-clause-no_memory c = λ is none tests e end.
 
 pub returns-in-Err-clause-over : goal.returns-in-Err-clause-over
 returns-in-Err-clause-over c =
-    rest_over c.args.limits c.loop-number.limits (view c.args.doc.now) (seen (view c.loop-number.doc)) c.in-Err.kind c.args.patch.now c.loop-number.number c.index-patch-number.result c.loop-number-test.true c.index-patch-number.is c.loop-number.invariant.within c.in-Err.ensures
+    rest_over (is_recorded c.args.keep) c.args.limits c.loop-number.limits (view c.args.doc.now) (seen (view c.loop-number.doc)) c.in-Err.kind c.args.patch.now c.loop-number.number c.index-patch-number.result c.loop-number-test.true c.index-patch-number.is c.loop-number.invariant.within (rw c.is_recorded.ensures at c.in-Err.ensures)
 
 pub returns-in-Err-clause-no_memory : goal.returns-in-Err-clause-no_memory
 returns-in-Err-clause-no_memory c = λ is none tests e end.
-    let over : over_under c.args.limits (view c.args.doc.now) (operations c.args.patch.now) ≡ Some (over_at c.loop-number.number c.in-Err.kind) =
-    rest_over c.args.limits c.loop-number.limits (view c.args.doc.now) (seen (view c.loop-number.doc)) c.in-Err.kind c.args.patch.now c.loop-number.number c.index-patch-number.result c.loop-number-test.true c.index-patch-number.is c.loop-number.invariant.within c.in-Err.ensures in
-    let never : over_under c.args.limits (view c.args.doc.now) (operations c.args.patch.now) ≡ None = never_unlimited c.args.limits _ _ none in cc
+    let over : over_under (is_recorded c.args.keep) c.args.limits (view c.args.doc.now) (operations c.args.patch.now) ≡ Some (over_at c.loop-number.number c.in-Err.kind) =
+    rest_over (is_recorded c.args.keep) c.args.limits c.loop-number.limits (view c.args.doc.now) (seen (view c.loop-number.doc)) c.in-Err.kind c.args.patch.now c.loop-number.number c.index-patch-number.result c.loop-number-test.true c.index-patch-number.is c.loop-number.invariant.within (rw c.is_recorded.ensures at c.in-Err.ensures) in
+    let never : over_under (is_recorded c.args.keep) c.args.limits (view c.args.doc.now) (operations c.args.patch.now) ≡ None = never_unlimited (is_recorded c.args.keep) c.args.limits _ _ none in cc
 
 pub returns-in-Err-step-clause-never : goal.returns-in-Err-step-clause-never
 returns-in-Err-step-clause-never c =
-    reported_never (Vec PatchOperation Global) c.reported.result c.in-Err-step.fault c.args.limits c.loop-number.limits c.in-Ok.left (view c.args.doc.now) (seen (view c.loop-number.doc)) (seen (view c.step.new.doc)) c.args.patch.now c.loop-number.number c.index-patch-number.result
-    c.loop-number-test.true c.index-patch-number.is c.loop-number.invariant.within c.in-Ok.ensures c.in-Err-step.ensures.comes c.reported.ensures
+    reported_never (is_recorded c.args.keep) (Vec PatchOperation Global) c.reported.result c.in-Err-step.fault c.args.limits c.loop-number.limits c.in-Ok.left (view c.args.doc.now) (seen (view c.loop-number.doc)) (seen (view c.step.new.doc)) c.args.patch.now c.loop-number.number c.index-patch-number.result
+    c.loop-number-test.true c.index-patch-number.is c.loop-number.invariant.within (rw c.is_recorded.ensures at c.in-Ok.ensures) c.in-Err-step.ensures.comes c.reported.ensures
 
 pub returns-clause-never : goal.returns-clause-never
 returns-clause-never c =
     let ended : length c.args.patch.now ≤ c.loop-number.number = omega arith in
-    rest_end c.args.limits c.loop-number.limits (view c.args.doc.now) (seen (view c.loop-number.doc)) c.args.patch.now c.loop-number.number ended c.loop-number.invariant.within
+    rest_end (is_recorded c.args.keep) c.args.limits c.loop-number.limits (view c.args.doc.now) (seen (view c.loop-number.doc)) c.args.patch.now c.loop-number.number ended c.loop-number.invariant.within
 
 pub loop-number-preserved : goal.loop-number-preserved
 loop-number-preserved c =
@@ -92,6 +92,6 @@ loop-number-preserved c =
       leads = λ h. (let l = logs_kept (Ok c.in_default.field-0) c.at-kept.result c.loop-number.log c.step.new.self (view c.loop-number.doc) (view c.step.new.doc)
           (kept_open c.args.keep c.at-kept.result _ _ c.at-kept.ensures c.requires.kept (⊎_elim (λ (more : k + 1 < length os). inl (search (rules, arith, more))) (λ is. inr is) h)) c.in_default.ensures.logs in
           l.leads d (c.loop-number.invariant.leads (inl c.loop-number-test.true)));
-      within = rest_more c.args.limits c.loop-number.limits c.in-Ok.left d m (seen (view c.step.new.doc)) os k o c.loop-number-test.true c.index-patch-number.is c.loop-number.invariant.within c.in-Ok.ensures c.in_default.ensures.comes;
+      within = rest_more (is_recorded c.args.keep) c.args.limits c.loop-number.limits c.in-Ok.left d m (seen (view c.step.new.doc)) os k o c.loop-number-test.true c.index-patch-number.is c.loop-number.invariant.within (rw c.is_recorded.ensures at c.in-Ok.ensures) c.in_default.ensures.comes;
       tests = λ h less. c.in_default.ensures.rests (test_at os k o less c.index-patch-number.is h) ∙ c.loop-number.invariant.tests h c.loop-number-test.true;
     }

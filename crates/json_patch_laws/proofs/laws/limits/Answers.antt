@@ -1,5 +1,5 @@
 use Rattle.json_patch_laws.proofs.MergeDepths.{merged_depth}
-use Rattle.json_patch_laws.proofs.LimitedRuns.{over_ends, run_depth as depth_of_run, run_size as size_of_run}
+use Rattle.json_patch_laws.proofs.LimitedRuns.{inverse_size as size_of_inverse, over_ends, run_depth as depth_of_run, run_size as size_of_run}
 use Rattle.json_patch_limits.proofs.Depths.{deeper_exactly, step_depth as depth_of_step}
 use Rattle.json_patch_limits.proofs.Sizes.{step_size as size_of_step}
 use Rattle.json_patch_laws.proofs.InverseDepths.{inverse_shallow as shallow_of_inverse, written_depth as depth_of_written}
@@ -21,6 +21,9 @@ returns-clause-run_depth c = depth_of_run
 
 pub returns-clause-run_size : goal.returns-clause-run_size
 returns-clause-run_size c = size_of_run
+
+pub returns-clause-inverse_size : goal.returns-clause-inverse_size
+returns-clause-inverse_size c = size_of_inverse
 
 pub returns-clause-deeper_exactly : goal.returns-clause-deeper_exactly
 returns-clause-deeper_exactly c = deeper_exactly

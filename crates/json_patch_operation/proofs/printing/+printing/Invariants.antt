@@ -2,7 +2,7 @@ use Rattle.json_patch_operation.proofs.Common.{◌≡◌, ℕ, List, [], ◌++�
 use Rattle.json_patch_operation.proofs.Common.{printed_members, HasWritten, IsPlainFormatter, Utf8, shadow}
 use Rattle.json_patch_operation.proofs.printing.+printing.Given as goal
 
--- what is written, and the items that are left, are all the items
+-- what is written, and the elements that are left, are all the elements
 abbrev pub invariant-write_items-items : goal.invariant-write_items-items
 invariant-write_items-items g l =
     shadow (Utf8 l.comma)

@@ -2,7 +2,7 @@ use Rattle.json_patch_operation.proofs.Common.{◌≡◌, ℕ, List, ◌++◌, c
 use Rattle.json_patch_operation.proofs.Common.{IsPlainFormatter, chars_rest}
 use Rattle.json_patch_operation.proofs.printing.write_text.Given as goal
 
--- what is written, and the characters that are left, are the whole text
+-- what is written, and the characters that are left, are the whole string
 abbrev pub invariant-loop-character : goal.invariant-loop-character
 invariant-loop-character g l =
     IsUtf8 (chars_rest l.character-iterator)

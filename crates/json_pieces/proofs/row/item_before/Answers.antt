@@ -1,5 +1,6 @@
 use Rattle.std.proofs.Common.{◌≡◌, ◌+◌, ◌<◌, [], length, ap, sym, ◌∙◌, subst, arith}
 use Rattle.json_text.specs.Cuts.{IsBlank}
+use Rattle.json_text.specs.Styled.{blanks_like}
 use Rattle.json_pieces.specs.Lengths.{HasGained}
 use Rattle.json_pieces.specs.Nodes.{text_bytes}
 use Rattle.json_pieces.specs.PieceLists.{item_between}
@@ -35,7 +36,7 @@ returns-clause-pieces c =
       first = λ a m. c.like_number-like.ensures.first a (omega (arith, m, count));
       own = λ f. c.like_number-like.ensures.own (λ a. omega (arith, f a, count));
     } in
-    let o : HasGained r.seams.list.items n (text_bytes x.blank) c.in_ok-blank.blank h.seams.list.items = subst (λ y. HasGained r.seams.list.items n y c.in_ok-blank.blank h.seams.list.items) c.in_ok-behind.ensures c.in_ok-blank.ensures.blank in
+    let o : HasGained r.seams.list.items n (blanks_like (text_bytes x.blank)) c.in_ok-blank.blank h.seams.list.items = subst (λ y. HasGained r.seams.list.items n y c.in_ok-blank.blank h.seams.list.items) c.in_ok-behind.ensures c.in_ok-blank.ensures.blank in
     item_before_put r.named p.named r.length h.length p.length (text_bytes r.hollow) (text_bytes p.hollow) r.seams.list.items h.seams.list.items p.seams.list.items r.values.items h.values.items p.values.items c.around.result c.args.value n c.like_number-like.result x c.in_ok-blank.blank
     c.requires.sound within z o (ap (λ v. v.items) e.values) g.seams g.values (λ u. c.around.ensures.piece u ∙ ap (λ t. item_between (text_bytes t) u []) o.blank_is)
 
@@ -56,7 +57,7 @@ returns-clause-sound c =
       first = λ a m. c.like_number-like.ensures.first a (omega (arith, m, count));
       own = λ f. c.like_number-like.ensures.own (λ a. omega (arith, f a, count));
     } in
-    let o : HasGained r.seams.list.items n (text_bytes x.blank) c.in_ok-blank.blank h.seams.list.items = subst (λ y. HasGained r.seams.list.items n y c.in_ok-blank.blank h.seams.list.items) c.in_ok-behind.ensures c.in_ok-blank.ensures.blank in
+    let o : HasGained r.seams.list.items n (blanks_like (text_bytes x.blank)) c.in_ok-blank.blank h.seams.list.items = subst (λ y. HasGained r.seams.list.items n y c.in_ok-blank.blank h.seams.list.items) c.in_ok-behind.ensures c.in_ok-blank.ensures.blank in
     item_before_kept r.named p.named r.length h.length p.length (text_bytes r.hollow) (text_bytes p.hollow) r.seams.list.items h.seams.list.items p.seams.list.items r.values.items h.values.items p.values.items c.around.result c.args.value n c.like_number-like.result x c.in_ok-blank.blank
     c.requires.value.0 c.requires.list (g.named ∙ e.named)
     c.requires.sound within z o (ap (λ v. v.items) e.values) g.seams g.values (λ u. c.around.ensures.piece u ∙ ap (λ t. item_between (text_bytes t) u []) o.blank_is)

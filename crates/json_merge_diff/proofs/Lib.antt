@@ -1,0 +1,9 @@
+pub mod Both
+pub mod Changes
+pub mod Composing
+pub mod Existing
+pub mod Leading
+pub mod Resetting
+pub mod Results
+pub mod Sizes
+pub mod Walks

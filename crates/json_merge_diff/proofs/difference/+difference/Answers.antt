@@ -1,0 +1,82 @@
+use Rattle.json_patch_merge.proofs.Common.{rules, refl, sym, ◌∙◌, Some, None, members_view, view, string_bytes}
+use Rattle.json_patch_merge.proofs.MergeFills.{changes_nothing, next_document}
+use Rattle.json_patch_document.proofs.Members.{member_document}
+use Rattle.json_merge_diff.proofs.Walks.{starts, steps_at, inserted}
+use Rattle.serde_json.specs.Data.{null}
+use Rattle.json_merge_diff.specs.Least.{IsLeastMember, keeps, goes}
+use Rattle.json_merge_diff.proofs.Changes.{got, got_document, keeps_it, changes_it, wants_above, next_named}
+use Rattle.json_merge_diff.proofs.Changes.{olds_are, found_members, members_were, of_object, wants_here, nothing_here, another_here, changes_here, an_object_was, no_object_was}
+use Rattle.std.proofs.Common.{option_map}
+use Rattle.json_merge_diff.proofs.difference.+difference.Goals.{change_at-else-is_some-via-then-is_some+else-is_empty}
+use Rattle.json_merge_diff.proofs.difference.+difference.Goals.{change_at-else-is_some-via-else-is_some}
+use Rattle.json_merge_diff.proofs.difference.+difference.Goals as goal
+
+pub change_members-loop-name-init : goal.change_members-loop-name-init
+change_members-loop-name-init t c ho hn = starts (λ c. null) IsLeastMember keeps (λ c. goes) _ _ _ _ (search rules) hn (c.in_ok-changes.ensures ho)
+
+pub change_members-loop-name-preserved-in-Nothing : goal.change_members-loop-name-preserved-in-Nothing
+change_members-loop-name-preserved-in-Nothing t c ho hn =
+    let w = c.loop-name.invariant ho hn in
+    let name = string_bytes c.in-Some.name.now in
+    let found = got c.get.result c.as_str.result.now name c.args.olds.now.entries c.as_str.ensures.value c.get.ensures.value in
+    let step = c.in_ok-change_at.ensures (got_document c.get.result _ found (λ d is. member_document name d _ ho is)) (next_document _ _ (c.in-Some.name.now, c.in-Some.new.now) c.in-Some.ensures.steps w.members) in
+    steps_at (c.in-Some.name.now, c.in-Some.new.now) c.in-Some.ensures.steps w
+    (λ hq here absent. (
+      None,
+      rw absent at (changes_nothing name _ _ w.document refl),
+      keeps_it _ _ _ here (sym found ∙ (rw c.in-Nothing.is at step)),
+    ))
+
+pub change_members-loop-name-preserved : goal.change_members-loop-name-preserved
+change_members-loop-name-preserved t c ho hn =
+    let w = c.loop-name.invariant ho hn in
+    let name = string_bytes c.in-Some.name.now in
+    let found = got c.get.result c.as_str.result.now name c.args.olds.now.entries c.as_str.ensures.value c.get.ensures.value in
+    let step = c.in_ok-change_at.ensures (got_document c.get.result _ found (λ d is. member_document name d _ ho is)) (next_document _ _ (c.in-Some.name.now, c.in-Some.new.now) c.in-Some.ensures.steps w.members) in
+    let h = rw c.in-By.is at step in
+    steps_at (c.in-Some.name.now, c.in-Some.new.now) c.in-Some.ensures.steps w
+    (λ hq here absent. (
+      Some (view c.in-By.value),
+      inserted name c.loop-name.changes.entries c.insert.new.self.entries c.in_ok-clone-in-By.field-0 c.in-By.value (view c.in-By.value) (search rules) (search rules) refl w.document h.1,
+      changes_it _ _ _ _ _ here found h.0,
+    ))
+
+pub change_members-returns-in-Impossible : goal.change_members-returns-in-Impossible
+change_members-returns-in-Impossible t c ho hn =
+    let w = c.loop-name.invariant ho hn in
+    let name = string_bytes c.in-Some.name.now in
+    let found = got c.get.result c.as_str.result.now name c.args.olds.now.entries c.as_str.ensures.value c.get.ensures.value in
+    let step = c.in_ok-change_at.ensures (got_document c.get.result _ found (λ d is. member_document name d _ ho is)) (next_document _ _ (c.in-Some.name.now, c.in-Some.new.now) c.in-Some.ensures.steps w.members) in
+    wants_above name _ _ _ _ found (next_named (c.in-Some.name.now, c.in-Some.new.now) c.in-Some.ensures.steps w) (rw c.in-Impossible.is at step)
+
+pub change_at-returns-in_default-2 : goal.change_at-returns-in_default-2
+change_at-returns-in_default-2 t c ho hn =
+    let was = option_map (λ v. view v.now) c.args.old in
+    let ms = members_view c.unwrap_or.result.now.entries in
+    let from = olds_are c.and_then-olds.result _ c.unwrap_or.result was (found_members c.args.old c.and_then-olds.result c.and_then-olds.ensures) c.new-empty.ensures.empty c.unwrap_or.ensures in
+    let h = c.in_ok-changes.ensures (members_were c.args.old ms from ho) (of_object c.args.new.now c.in-Object.news c.in-Object.is hn) in
+    wants_here was c.args.new.now c.in-Object.news ms c.in-Object.is from (rw c.in_default-2.is at h)
+
+pub change_at-returns-then-is_empty : goal.change_at-returns-then-is_empty
+change_at-returns-then-is_empty t c ho hn =
+    let was = option_map (λ v. view v.now) c.args.old in
+    let ms = members_view c.unwrap_or.result.now.entries in
+    let found = found_members c.args.old c.and_then-olds.result c.and_then-olds.ensures in
+    let from = olds_are c.and_then-olds.result _ c.unwrap_or.result was found c.new-empty.ensures.empty c.unwrap_or.ensures in
+    let hm = members_were c.args.old ms from ho in
+    let hs = of_object c.args.new.now c.in-Object.news c.in-Object.is hn in
+    let h = c.in_ok-changes.ensures hm hs in
+    nothing_here was c.args.new.now c.in-Object.news c.in-Some.changes ms c.in-Object.is from (an_object_was c.and_then-olds.result was c.is_some.result found c.is_some.ensures c.if-is_some.true) hm hs (rw c.in-Some.is at h) (c.is_empty.ensures.0 c.if-is_empty.true)
+
+pub change_at-returns : goal.change_at-returns
+change_at-returns t c ho hn =
+    let was = option_map (λ v. view v.now) c.args.old in
+    let ms = members_view c.unwrap_or.result.now.entries in
+    let found = found_members c.args.old c.and_then-olds.result c.and_then-olds.ensures in
+    let from = olds_are c.and_then-olds.result _ c.unwrap_or.result was found c.new-empty.ensures.empty c.unwrap_or.ensures in
+    let h = rw c.in-Some.is at (c.in_ok-changes.ensures (members_were c.args.old ms from ho) (of_object c.args.new.now c.in-Object.news c.in-Object.is hn)) in
+    changes_here was c.args.new.now _ c.in-Object.news c.in-Some.changes ms c.in-Object.is refl from h
+    (elim c.else-is_some.branch [
+      | change_at-else-is_some-via-then-is_some+else-is_empty w ↦ another_here was c.in-Object.news c.in-Some.changes ms from h (λ none. let e = w.is_empty.ensures.1 none in let f = w.if-is_empty.false in cc)
+      | change_at-else-is_some-via-else-is_some w ↦ no_object_was c.and_then-olds.result was c.is_some.result _ found c.is_some.ensures w.if-is_some.false
+    ])

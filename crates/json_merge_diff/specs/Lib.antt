@@ -1,0 +1,3 @@
+pub mod Composed
+pub mod Leads
+pub mod Least

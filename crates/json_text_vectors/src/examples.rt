@@ -1,0 +1,180 @@
+//! The examples of the comments, each at a place that the row tells.
+
+use crate::places::{found, shape_name};
+use crate::rows::told;
+use crate::{merges, patches};
+use json_pieces::Pieces;
+use json_text::{
+    ChangeFault, CheckedText, TextFault, add, child_texts, is_deeper, remove, replace, string_of,
+    value_text,
+};
+use jsonptr::Pointer;
+use std::alloc::{AllocError, Global};
+
+/// The line of the example that a call has in its comment.
+pub(crate) fn answer(alloc: Global, call: &str, place: Pointer) -> Result<String, AllocError> {
+    match call {
+        "value_text" => told(alloc, list_in(alloc, place)),
+        "add" => told(alloc, added(alloc, place)),
+        "remove" => told(alloc, removed(alloc, place)),
+        "replace" => told(alloc, replaced(alloc, place)),
+        "is_deeper" => told(alloc, found(alloc, array_in_object().then_some("yes"))),
+        "child_texts" => told(alloc, texts_in_object(alloc)),
+        "string_of" => told(alloc, name_in_text(alloc)),
+        "patch_text" | "patch_text_within" => patches::shown(alloc, call),
+        "merge_text" | "merge_text_within" => merges::shown(alloc, call),
+        _ => of_checked(alloc, call, place),
+    }
+}
+
+fn of_checked(alloc: Global, call: &str, place: Pointer) -> Result<String, AllocError> {
+    match call {
+        "CheckedText::within" => told(alloc, found(alloc, is_of_two_levels().then_some("yes"))),
+        "CheckedText::value" => told(alloc, list_in_checked(alloc, place)),
+        "CheckedText::add" => told(alloc, added_to_checked(alloc, place)),
+        "CheckedText::remove" => told(alloc, removed_from_checked(alloc, place)),
+        "CheckedText::replace" => told(alloc, replaced_in_checked(alloc, place)),
+        "Pieces" => told(alloc, moved_out(alloc, place)),
+        "Pieces::value" => told(alloc, list_in_pieces(alloc, place)),
+        "Pieces::shape" => told(alloc, shape_in_pieces(alloc, place)),
+        "Pieces::add" => told(alloc, added_to_pieces(alloc, place)),
+        "Pieces::remove" => told(alloc, removed_from_pieces(alloc, place)),
+        "Pieces::replace" => told(alloc, replaced_in_pieces(alloc, place)),
+        _ => told(alloc, found(alloc, None)),
+    }
+}
+
+// ---- of the functions on texts
+
+fn list_in(alloc: Global, place: Pointer) -> Result<String, TextFault> {
+    let text = r#"{"name": "x", "list": [1.50, "\u0041"] }"#;
+    let list = value_text(alloc, text, place)?;
+    Ok(found(alloc, list)?)
+}
+
+fn replaced(alloc: Global, place: Pointer) -> Result<String, ChangeFault> {
+    let text = r#"{"name": "x", "list": [1.50, 2] }"#;
+    let new = replace(alloc, text, place, "7")?;
+    Ok(new)
+}
+
+fn removed(alloc: Global, place: Pointer) -> Result<String, ChangeFault> {
+    let text = r#"{"name": "x", "list": [1.50, 2] }"#;
+    let new = remove(alloc, text, place)?;
+    Ok(new)
+}
+
+fn added(alloc: Global, place: Pointer) -> Result<String, ChangeFault> {
+    let text = r#"{"name": "x", "list": [1.50, 2] }"#;
+    let new = add(alloc, text, place, "7")?;
+    Ok(new)
+}
+
+fn array_in_object() -> bool {
+    is_deeper(r#"{"a": [1]}"#, 1)
+}
+
+fn texts_in_object(alloc: Global) -> Result<String, AllocError> {
+    let found = child_texts(alloc, r#"{"a": 1.50, "b": [ ]}"#)?;
+    format!(in alloc; "{found:?}")
+}
+
+fn name_in_text(alloc: Global) -> Result<String, AllocError> {
+    let name = string_of(alloc, r#""caf\u00e9""#)?;
+    found(alloc, name.as_ref().map(|name| name.as_str()))
+}
+
+// ---- of a checked text
+
+fn is_of_two_levels() -> bool {
+    let text = CheckedText::within(r#"{"list": [1.50, 2] }"#, 2);
+    text.is_some()
+}
+
+fn list_in_checked(alloc: Global, place: Pointer) -> Result<String, TextFault> {
+    let text = CheckedText::new(alloc, r#"{"list": [1.50, 2] }"#)?;
+    let list = text.value(alloc, place)?;
+    Ok(found(alloc, list.map(|list| list.as_str()))?)
+}
+
+fn replaced_in_checked(alloc: Global, place: Pointer) -> Result<String, TextFault> {
+    let text = CheckedText::new(alloc, r#"{"list": [1.50, 2] }"#)?;
+    let value = CheckedText::new(alloc, "7")?;
+    let new = text.replace(alloc, place, value)?;
+    Ok(left(alloc, new)?)
+}
+
+fn removed_from_checked(alloc: Global, place: Pointer) -> Result<String, TextFault> {
+    let text = CheckedText::new(alloc, r#"{"list": [1.50, 2] }"#)?;
+    let new = text.remove(alloc, place)?;
+    Ok(left(alloc, new)?)
+}
+
+fn added_to_checked(alloc: Global, place: Pointer) -> Result<String, TextFault> {
+    let text = CheckedText::new(alloc, r#"{"list": [1.50, 2] }"#)?;
+    let value = CheckedText::new(alloc, "7")?;
+    let new = text.add(alloc, place, value)?;
+    Ok(left(alloc, new)?)
+}
+
+/// The text that a change leaves, or `nothing` where there is no such place.
+fn left(alloc: Global, new: Option<String>) -> Result<String, AllocError> {
+    match new {
+        Some(new) => Ok(new),
+        None => found(alloc, None),
+    }
+}
+
+// ---- of pieces
+
+fn list_in_pieces(alloc: Global, place: Pointer) -> Result<String, TextFault> {
+    let text = CheckedText::new(alloc, r#"{"list": [1.50, 2] }"#)?;
+    let mut pieces = Pieces::new(text);
+    let list = pieces.value(alloc, place)?;
+    Ok(left(alloc, list)?)
+}
+
+fn shape_in_pieces(alloc: Global, place: Pointer) -> Result<String, TextFault> {
+    let text = CheckedText::new(alloc, r#"{"list": [1.50, 2] }"#)?;
+    let mut pieces = Pieces::new(text);
+    let shape = pieces.shape(alloc, place)?;
+    Ok(String::from_str(alloc, shape_name(shape))?)
+}
+
+fn replaced_in_pieces(alloc: Global, place: Pointer) -> Result<String, TextFault> {
+    let text = CheckedText::new(alloc, r#"{"list": [1.50, 2] }"#)?;
+    let value = CheckedText::new(alloc, "7")?;
+    let mut pieces = Pieces::new(text);
+    let done = pieces.replace(alloc, place, value)?;
+    let new = pieces.to_text(alloc)?;
+    Ok(left(alloc, done.then_some(new))?)
+}
+
+fn removed_from_pieces(alloc: Global, place: Pointer) -> Result<String, TextFault> {
+    let text = CheckedText::new(alloc, r#"{"list": [1.50, 2] }"#)?;
+    let mut pieces = Pieces::new(text);
+    let done = pieces.remove(alloc, place)?;
+    let new = pieces.to_text(alloc)?;
+    Ok(left(alloc, done.then_some(new))?)
+}
+
+fn added_to_pieces(alloc: Global, place: Pointer) -> Result<String, TextFault> {
+    let text = CheckedText::new(alloc, r#"{"list": [1.50, 2] }"#)?;
+    let value = CheckedText::new(alloc, "7")?;
+    let mut pieces = Pieces::new(text);
+    let done = pieces.add(alloc, place, value)?;
+    let new = pieces.to_text(alloc)?;
+    Ok(left(alloc, done.then_some(new))?)
+}
+
+/// What stands there is read and then taken out: both texts, a line each.
+fn moved_out(alloc: Global, place: Pointer) -> Result<String, TextFault> {
+    let text = CheckedText::new(alloc, r#"{"list": [1.50, 2] }"#)?;
+    let mut pieces = Pieces::new(text);
+    let first = pieces.value(alloc, place)?;
+    let done = pieces.remove(alloc, place)?;
+    let new = pieces.to_text(alloc)?;
+    let first = left(alloc, first)?;
+    let new = left(alloc, done.then_some(new))?;
+    Ok(format!(in alloc; "{first}\n{new}")?)
+}
