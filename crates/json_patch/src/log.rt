@@ -1,10 +1,9 @@
 //! Operations that are made on a document with marks, and what a run keeps of them.
 
-ghost use Rattle.std.specs.Prelude.{◌≡◌, ◌≤◌, ◌↔◌, [], IfErr, IfOk, IsTrue, OnErr, OnOk, Some};
+ghost use Rattle.std.specs.Prelude.{◌≡◌, ◌≤◌, [], IfErr, IfOk, OnErr, OnOk, Some};
 ghost use Rattle.serde_json.specs.Data.{Data};
 ghost use Rattle.serde_json.specs.View.{view};
 ghost use Rattle.jsonptr.specs.Pointers.{tokens_of};
-ghost use Rattle.jsonptr.specs.Text.{IsProperPrefix};
 ghost use Rattle.json_patch_edit.specs.Attempt.{ComesTo, Excuses, FailsAs};
 ghost use Rattle.json_patch_document.specs.ChangeComputed.{pointee};
 ghost use Rattle.json_patch_document.specs.Document.{IsDocument};
@@ -28,7 +27,7 @@ use json_patch_edit::equality::shows;
 use json_patch_edit::error::StepFault;
 use json_patch_edit::marks::mark;
 use json_patch_edit::seen::{copy_seen, count_shown, find_shown};
-use json_patch_operation::{PatchErrorKind, PatchOperation};
+use json_patch_operation::{PatchErrorKind, PatchOperation, is_inside};
 use jsonptr::{Pointer, PointerBuf};
 use serde_json::Value;
 use std::alloc::{AllocError, Global};
@@ -314,16 +313,6 @@ pub(crate) fn put_back(names: &mut Names, doc: &mut Value, from: Pointer<'_>, mu
 {
     if make(names, doc, from, Edit::Undo(Found::Taken), &mut value).is_err() {
         unreachable!();
-    }
-}
-
-/// Whether something follows in `path` after all of `from`.
-fn is_inside(path: Pointer<'_>, from: Pointer<'_>) -> bool
-    ensures { IsTrue result ↔ IsProperPrefix (tokens_of from.entry) (tokens_of path.entry) }
-{
-    match path.strip_prefix(from) {
-        Some(rest) => !rest.is_root(),
-        None => false,
     }
 }
 

@@ -30,10 +30,6 @@ undo_add_in d P F t is = search (rules, no_last, split_is)
 
 -- ---- a move
 
-pub inside : (b : Bool) (F P R : Pointer) → P ≡ F ++ R → (IsTrue b ↔ (R ≡ [])) → IsTrue (not b) ↔ IsProperPrefix F P
-inside false F P (t ∷ R) is h = (λ yes. (t, R, is), λ p. refl)
-inside b F P R is h = search (rules, append_cancel_left)
-
 pub move_inside : (d : Data) (F P : Pointer) → IsProperPrefix F P → after_step d (move F P) ≡ Err CannotMoveInsideItself
 move_inside d F P h = rw (prefix_begins F P h)
 

@@ -23,3 +23,4 @@ pub use operation::{
 pub use parsing::{document_from_slice, document_from_str};
 pub use printing::pretty;
 pub use read_error::{ReadError, ReadFault, ReadKind};
+pub use within::is_inside;

@@ -7,7 +7,7 @@ ghost use Rattle.json_patch_operation.specs.Operation.{operation_of, operations,
 ghost use Rattle.json_patch_operation.specs.Shared.{AreWithin, IsWithin};
 
 use crate::operation::{Patch, PatchOperation};
-use jsonptr::{Pointer, PointerBuf};
+use jsonptr::Pointer;
 
 impl PatchOperation {
     /// Whether the operation's `path`, and its `from` where it has one, leads to somewhere below the
@@ -17,8 +17,10 @@ impl PatchOperation {
     {
         let parts = self.parts();
         match parts.from {
-            Some(from) => is_below(from, section) && is_below(parts.path, section),
-            None => is_below(parts.path, section),
+            Some(from) => {
+                is_inside(from.as_pointer(), section) && is_inside(parts.path.as_pointer(), section)
+            }
+            None => is_inside(parts.path.as_pointer(), section),
         }
     }
 }
@@ -45,11 +47,16 @@ impl Patch {
     }
 }
 
-/// Whether the path is the section's tokens and at least one more.
-fn is_below(path: &PointerBuf, section: Pointer<'_>) -> bool
-    ensures { IsTrue result ↔ IsProperPrefix (tokens_of section.entry) path.now }
+/// Whether `path` is `from` and at least one more token: whether `from` is a proper prefix of it
+/// (RFC 6902, section 4.4).
+///
+/// ```rust
+/// is_inside(Pointer::parse("/a/b")?, Pointer::parse("/a")?) // true; of "/a" and "/a" it isn't
+/// ```
+pub fn is_inside(path: Pointer<'_>, from: Pointer<'_>) -> bool
+    ensures { IsTrue result ↔ IsProperPrefix (tokens_of from.entry) (tokens_of path.entry) }
 {
-    match path.as_pointer().strip_prefix(section) {
+    match path.strip_prefix(from) {
         Some(rest) => !rest.is_root(),
         None => false,
     }

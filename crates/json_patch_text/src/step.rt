@@ -4,7 +4,6 @@ ghost use Rattle.std.specs.Prelude.{◌≡◌, ◌<◌, ◌+◌, ◌↔◌, leng
 ghost use Rattle.std.specs.Bool.{Decides};
 ghost use Rattle.json.specs.Json.{Json};
 ghost use Rattle.jsonptr.specs.Pointers.{tokens_of};
-ghost use Rattle.jsonptr.specs.Text.{IsProperPrefix};
 ghost use Rattle.json_patch_text.specs.Drafts.{IsDraft, draft_text};
 ghost use Rattle.json_patch_text.specs.Made.{IsCopied, IsLeft, IsMadeIn, IsMoved, IsNoDeeper, IsNotMade, IsStepped, IsStopped};
 ghost use Rattle.json_patch_text.specs.Operations.{TreeOperation, copy as copy_of, move as move_of, test as test_of};
@@ -23,7 +22,7 @@ use crate::fault::StepFault;
 use crate::operation::TextOperation;
 use json::{Scratch, Value};
 use json_patch_limits::measure::count_tokens;
-use json_patch_operation::PatchErrorKind;
+use json_patch_operation::{PatchErrorKind, is_inside};
 use json_reading::same_tree;
 use json_text::{CheckedText, is_deeper, string_of};
 use jsonptr::Pointer;
@@ -189,16 +188,6 @@ fn copied(
     };
     let value = CheckedText::known(copy.as_str());
     added(alloc, draft, path, value, levels)
-}
-
-/// Whether `path` is below `from`.
-fn is_inside(path: Pointer, from: Pointer) -> bool
-    ensures { IsTrue result ↔ IsProperPrefix (tokens_of from.entry) (tokens_of path.entry) }
-{
-    match path.strip_prefix(from) {
-        Some(rest) => !rest.is_root(),
-        None => false,
-    }
 }
 
 /// What stands at `from` put at `path` in its place (RFC 6902, section 4.4), and whether the text may
