@@ -232,6 +232,20 @@ json_patch_status json_patch_merge_text_within(const char *document, size_t docu
                                                const json_patch_limits *limits, char *out,
                                                size_t out_length, json_patch_report *report);
 
+/* Writes the patch that leads from what the text `from` says to what the text `to` says: the text that
+   json_patch_apply_text makes of `from`, within the same depth, says the same as `to`. It adds, removes and
+   replaces alone, and is [] exactly where both say the same. Its numbers are written as in `to`, and the
+   members of an object that it puts are in byte order of their names. JSON_PATCH_NO_DOCUMENT, where `from`
+   is no JSON text, and JSON_PATCH_NO_PATCH, where `to` is none. Of the limits `depth` alone counts. Never
+   JSON_PATCH_REFUSED or JSON_PATCH_OVER. */
+json_patch_status json_patch_diff_text(const char *from, size_t from_length, const char *to,
+                                       size_t to_length, char *out, size_t out_length,
+                                       json_patch_report *report);
+
+json_patch_status json_patch_diff_text_within(const char *from, size_t from_length, const char *to,
+                                              size_t to_length, const json_patch_limits *limits,
+                                              char *out, size_t out_length, json_patch_report *report);
+
 /* Writes the text of the value where the pointer leads, as it stands in the document's text, without the
    whitespace around it. JSON_PATCH_OK, JSON_PATCH_NO_DOCUMENT, JSON_PATCH_NO_MEMORY,
    JSON_PATCH_NO_ROOM, JSON_PATCH_NO_POINTER, and then the document isn't looked at, or

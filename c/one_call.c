@@ -4,9 +4,9 @@
  *
  *     one_call CALL DOCUMENT TEXT
  *
- * CALL is apply, record, merge, diff, check, apply_text, merge_text or value_text, or of a document that
+ * CALL is apply, record, merge, diff, check, apply_text, merge_text, diff_text or value_text, or of a document that
  * is kept open, open, update, update_recorded, update_merged, undo, text, text_at, diff_to or inverse; and
- * apply, record, merge, diff, apply_text, merge_text and open with _within behind, whose limits are those
+ * apply, record, merge, diff, apply_text, merge_text, diff_text and open with _within behind, whose limits are those
  * of the calls that are given none. It prints what the call answers with ample memory: the status and the report, what was
  * written, and then the text of the document that is kept; and, in a last line, how many requests there
  * were. Whether a request was refused is told by the functions below that stand in for malloc and
@@ -109,6 +109,10 @@ static json_patch_status called(const input *it, json_patch_document *kept, char
         return json_patch_merge_text(document, size, text, length, out, ROOM, report);
     if (strcmp(name, "merge_text_within") == 0)
         return json_patch_merge_text_within(document, size, text, length, &usual, out, ROOM, report);
+    if (strcmp(name, "diff_text") == 0)
+        return json_patch_diff_text(document, size, text, length, out, ROOM, report);
+    if (strcmp(name, "diff_text_within") == 0)
+        return json_patch_diff_text_within(document, size, text, length, &usual, out, ROOM, report);
     if (strcmp(name, "value_text") == 0)
         return json_patch_value_text(document, size, text, length, out, ROOM, report);
     if (strcmp(name, "diff_to") == 0)

@@ -85,6 +85,30 @@ static void expect_merges(void) {
     }
 }
 
+/* The patch between two texts: numbers are compared by what they say, and written as the second has them. */
+static void expect_differences(void) {
+    static const struct {
+        const char *from, *to, *written;
+    } differences[] = {
+        {LAYOUT, "{\"b\":[],\"a\":10e399}", "[]"},
+        {"{\"a\":1,\"a\":2.50}", " {\"a\" : 25e-1} ", "[]"},
+        {"{\"a\":1.5,\"b\":1}", "{\"a\":1.50,\"b\":2.5e3}",
+         "[{\"op\":\"replace\",\"path\":\"/b\",\"value\":2.5e3}]"},
+        {LAYOUT, "{\"a\":1e400,\"b\":[-0.0]}", "[{\"op\":\"add\",\"path\":\"/b/0\",\"value\":-0.0}]"},
+        {"{\"text\":\"some longer text\",\"b\":1e9,\"a/b\":1.50}", "{\"text\":\"some longer text\",\"b\":1e9}",
+         "[{\"op\":\"remove\",\"path\":\"/a~1b\"}]"},
+        {"1.51", "1.50", "[{\"op\":\"replace\",\"path\":\"\",\"value\":1.50}]"},
+    };
+    for (size_t i = 0; i < sizeof differences / sizeof *differences; i++) {
+        const row row = {json_patch_diff_text,
+                         {(char *)differences[i].from, strlen(differences[i].from)},
+                         {(char *)differences[i].to, strlen(differences[i].to)},
+                         0, 0, 0,
+                         {(char *)differences[i].written, strlen(differences[i].written)}};
+        expect_at_each_length(&row);
+    }
+}
+
 /* ---- why none is written */
 
 #define DEPTH_9 "[[[[[[[[["
@@ -126,6 +150,11 @@ static void expect_refusals(void) {
         {json_patch_merge_text, TEXT("{}"), TEXT("{\"a\":"), 3, 0, JSON_PATCH_NOT_JSON, TEXT("")},
         {json_patch_merge_text, TEXT("{}"), TEXT("\"\xff\""), 3, 0, JSON_PATCH_NOT_JSON, TEXT("")},
         {json_patch_merge_text, TEXT("{}"), TEXT(DEPTH_126), 3, 0, JSON_PATCH_TOO_DEEP, TEXT("")},
+        {json_patch_diff_text, TEXT("{"), TEXT("{"), 2, 0, JSON_PATCH_NOT_JSON, TEXT("")},
+        {json_patch_diff_text, TEXT("{"), TEXT(DEPTH_126), 2, 0, JSON_PATCH_NOT_JSON, TEXT("")},
+        {json_patch_diff_text, TEXT(DEPTH_126), TEXT("1"), 2, 0, JSON_PATCH_TOO_DEEP, TEXT("")},
+        {json_patch_diff_text, TEXT("1.5"), TEXT("[1.5,]"), 3, 0, JSON_PATCH_NOT_JSON, TEXT("")},
+        {json_patch_diff_text, TEXT("1.5"), TEXT(DEPTH_126), 3, 0, JSON_PATCH_TOO_DEEP, TEXT("")},
     };
     for (size_t i = 0; i < sizeof rows / sizeof *rows; i++)
         expect_at_each_length(&rows[i]);
@@ -348,11 +377,28 @@ static void expect_same(const row *row) {
     statuses[status]++;
 }
 
+/* A row with the patch between two documents: that between their texts leads there, too. */
+static void expect_led(const row *row) {
+    static char patch[ROOM], out[ROOM], wanted[ROOM];
+    json_patch_report report, made;
+    if (row->make != json_patch_diff || row->status != JSON_PATCH_OK)
+        return;
+    calls += 3;
+    if (json_patch_diff_text(row->document.bytes, row->document.length, row->patch.bytes, row->patch.length,
+                             patch, ROOM, &report) ||
+        json_patch_apply(row->document.bytes, row->document.length, patch, report.size, out, ROOM, &made) ||
+        json_patch_apply(row->patch.bytes, row->patch.length, "[]", 2, wanted, ROOM, &report))
+        fail("no patch that leads from %s to %s", row->document.bytes, row->patch.bytes);
+    if (made.size != report.size || memcmp(out, wanted, made.size) != 0)
+        fail("%.*s and not %s", (int)made.size, out, row->patch.bytes);
+}
+
 int main(int count, char **words) {
     if (count != 2)
         fail("test_text CASES");
     expect_changes();
     expect_merges();
+    expect_differences();
     expect_refusals();
     expect_values();
     expect_found();
@@ -362,6 +408,7 @@ int main(int count, char **words) {
     expect_bytes();
     expect_most();
     for_each_row(words[1], expect_same);
+    for_each_row(words[1], expect_led);
     for (int status = 0; status <= JSON_PATCH_OVER; status++)
         if (statuses[status] == 0 && status != JSON_PATCH_NO_MEMORY && status != JSON_PATCH_CLOSED)
             fail("no call returned status %d", status);

@@ -78,6 +78,7 @@ UNUSED_TEXTS(json_patch_merge)
 UNUSED_TEXTS(json_patch_diff)
 UNUSED_TEXTS(json_patch_apply_text)
 UNUSED_TEXTS(json_patch_merge_text)
+UNUSED_TEXTS(json_patch_diff_text)
 UNUSED_TEXTS(json_patch_value_text)
 
 json_patch_status json_patch_check(const char *patch, size_t patch_length,
@@ -132,6 +133,7 @@ WITHIN(json_patch_merge)
 WITHIN(json_patch_diff)
 WITHIN(json_patch_apply_text)
 WITHIN(json_patch_merge_text)
+WITHIN(json_patch_diff_text)
 
 json_patch_status json_patch_open_within(json_patch_document *document, const char *text,
                                          size_t length, const json_patch_limits *limits,

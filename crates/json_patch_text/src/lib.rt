@@ -22,4 +22,4 @@ mod run;
 mod step;
 
 pub use fault::{PatchTextFault, TextLimitFault};
-pub use patch::{patch_text, patch_text_within};
+pub use patch::{check_patch, patch_text, patch_text_within};

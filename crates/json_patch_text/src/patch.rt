@@ -1,7 +1,8 @@
 //! A JSON text patched by the text of a patch (RFC 6902).
 
-ghost use Rattle.std.specs.Prelude.{◌≡◌, IfErr, IfOk, IfSome};
+ghost use Rattle.std.specs.Prelude.{◌≡◌, IfErr, IfOk, IfSome, List};
 ghost use Rattle.std.specs.String.{string_bytes};
+ghost use Rattle.json_patch_text.specs.Operations.{SaysOperations, TreeOperation};
 ghost use Rattle.json_patch_text.specs.Patched.{AcceptsPatch, HasTexts, IsPatchTextFault, IsPatchedText};
 ghost use Rattle.json_patch_text.specs.Stopped.{IsNoDocument, IsUnread, as_document, as_patch};
 ghost use Rattle.json_patch_text.specs.Within.{IsPatchedWithin, IsTextLimitFault, IsTextWithin, most_bytes};
@@ -74,6 +75,20 @@ fn operations_in<'a>(
         Err(ReadFault::Refused(error)) => Err(PatchTextFault::Unreadable(error)),
         Err(ReadFault::Memory(failed)) => Err(PatchTextFault::Memory(failed)),
     }
+}
+
+/// Reads a patch's text (RFC 6902, sections 3 and 4) as [`patch_text`] does, and does nothing else.
+///
+/// ```rust
+/// check_patch(alloc, r#"[{"op": "add", "path": "/a", "value": 1.50}]"#)?;
+/// // of r#"[{"op": "add", "path": "/a"}]"# it is `Unreadable`: the member "value" is missing
+/// ```
+pub fn check_patch(alloc: Global, patch: &str) -> Result<(), PatchTextFault>
+    ensures read { IfOk result (λ none. (ops : List TreeOperation) × SaysOperations patch.now ops) }
+    ensures fault { IfErr result (IsUnread patch.now) }
+{
+    let _operations = operations_in(alloc, patch)?;
+    Ok(())
 }
 
 /// The text with the patch applied, and every byte kept that no operation changes.

@@ -12,14 +12,16 @@ use Rattle.json_patch.specs.LimitKind.TheVariants.{TooMuch}
 use Rattle.json_patch.specs.Limits.{Limits}
 use Rattle.json_patch_text.specs.Patched.{AcceptsPatch, IsPatchedText}
 use Rattle.json_patch_text.specs.Within.{IsPatchedWithin, IsTextLimitFault, IsTextWithin, most_bytes}
+use Rattle.json_patch_text.specs.Stopped.{IsUnread}
+use Rattle.json_patch_text.specs.declared.fault.PatchTextFault.{PatchTextFault}
 use Rattle.json_patch_text.specs.declared.fault.PatchTextFault.TheVariants as run
 use Rattle.json_patch_text.specs.declared.fault.TextLimitFault.{TextLimitFault}
 use Rattle.json_patch_text.specs.declared.fault.TextLimitFault.TheVariants as within
 use Rattle.json_patch_bytes.specs.Failures.{IsFailure}
 use Rattle.json_patch_bytes.specs.declared.failure.Failure.{Failure}
 use Rattle.json_patch_bytes.specs.declared.failure.Failure.TheVariants as failure
-use Rattle.json_patch_text_bytes.specs.Failures.{IsOfText, IsTold, of_fault}
-use Rattle.json_patch_text_bytes.specs.Reasons.{of_patch, of_text}
+use Rattle.json_patch_text_bytes.specs.Failures.{IsOfText, IsTold, of_fault, of_reading}
+use Rattle.json_patch_text_bytes.specs.Reasons.{of_check, of_patch, of_text}
 use Rattle.json_patch_text_bytes.specs.Texts.{IsJsonText, IsMergedInto, IsMergedOver, IsPatched}
 
 -- the failure of the document's text is one of the call's
@@ -44,7 +46,20 @@ run_failure l document patch (within.Patch (run.Refused e)) few is utf8 fits why
 run_failure l document patch (within.Patch (run.TooDeep k)) few is utf8 fits why = absurd (omega (arith, few, why.0))
 run_failure l document patch (within.Patch (run.Memory m)) few is utf8 fits why = tt
 
+check_failure : (patch : List ℕ) (fault : PatchTextFault) → IsUtf8 patch → nesting patch ≤ 127 → IsUnread patch fault → IsFailure (of_check patch) (of_reading fault)
+check_failure patch (run.Document f) utf8 fits why = absurd why
+check_failure patch (run.Patch text.NotJson) utf8 fits why = inl (refl, inr (refl, λ u. (fits, why)))
+check_failure patch (run.Patch text.TooDeep) utf8 fits why = absurd (omega (arith, fits, why))
+check_failure patch (run.Patch (text.Memory m)) utf8 fits why = tt
+check_failure patch (run.Unreadable e) utf8 fits why = inr (e.operation, e.kind, utf8, why, refl, refl)
+check_failure patch (run.Refused e) utf8 fits why = absurd why
+check_failure patch (run.TooDeep k) utf8 fits why = absurd why
+check_failure patch (run.Memory m) utf8 fits why = tt
+
 -- ---- the texts d and p, which the bytes are
+
+pub is_unread : (patch p : List ℕ) (fault : PatchTextFault) → p ≡ patch → IsUtf8 patch → nesting patch ≤ 127 → IsUnread p fault → IsFailure (of_check patch) (of_reading fault)
+is_unread patch p fault same utf8 fits why = check_failure patch fault utf8 fits (subst (λ s. IsUnread s fault) same why)
 
 -- the text that is patched within limits is within them itself
 flat_at_first : (l : Limits) (text patch new : List ℕ) → IsPatchedWithin l text patch new → nesting text ≤ l.depth

@@ -1,10 +1,13 @@
 -- For private clauses: the failure for a fault, and why a pointer leads to no value's text.
 use Rattle.std.specs.Prelude.{◌≡◌, ◌⊎◌, ℕ, List, unwrap_or, ⊤}
+use Rattle.json_diff_text.specs.declared.fault.DiffTextFault.{DiffTextFault}
+use Rattle.json_diff_text.specs.declared.fault.DiffTextFault.TheVariants as diff
 use Rattle.json_merge_text.specs.declared.fault.MergeTextFault.{MergeTextFault}
 use Rattle.json_merge_text.specs.declared.fault.MergeTextFault.TheVariants as merge
 use Rattle.json_patch.specs.LimitKind.TheVariants as limit
 use Rattle.json_text.specs.declared.fault.TextFault.{TextFault}
 use Rattle.json_text.specs.declared.fault.TextFault.TheVariants as text
+use Rattle.json_patch_text.specs.declared.fault.PatchTextFault.{PatchTextFault}
 use Rattle.json_patch_text.specs.declared.fault.PatchTextFault.TheVariants as run
 use Rattle.json_patch_text.specs.declared.fault.TextLimitFault.{TextLimitFault}
 use Rattle.json_patch_text.specs.declared.fault.TextLimitFault.TheVariants as within
@@ -32,21 +35,31 @@ as_patch text.NotJson = NoPatch 0 1
 as_patch text.TooDeep = NoPatch 0 7
 as_patch (text.Memory m) = Memory
 
+-- for that of a run, or of reading its patch
+abbrev pub of_reading : PatchTextFault → Failure
+of_reading (run.Document f) = as_document f
+of_reading (run.Patch f) = as_patch f
+of_reading (run.Unreadable e) = NoPatch (unwrap_or e.operation 0) (reading_kind e.kind)
+of_reading (run.Refused e) = Refused e
+of_reading (run.TooDeep k) = Over (record { operation = k; kind = limit.TooDeep })
+of_reading (run.Memory m) = Memory
+
 -- for that of a run within limits
 abbrev pub of_fault : TextLimitFault → Failure
 of_fault (within.Over e) = Over e
-of_fault (within.Patch (run.Document f)) = as_document f
-of_fault (within.Patch (run.Patch f)) = as_patch f
-of_fault (within.Patch (run.Unreadable e)) = NoPatch (unwrap_or e.operation 0) (reading_kind e.kind)
-of_fault (within.Patch (run.Refused e)) = Refused e
-of_fault (within.Patch (run.TooDeep k)) = Over (record { operation = k; kind = limit.TooDeep })
-of_fault (within.Patch (run.Memory m)) = Memory
+of_fault (within.Patch f) = of_reading f
 
 -- for that of a merge
 abbrev pub of_merge_fault : MergeTextFault → Failure
 of_merge_fault (merge.Document f) = as_document f
 of_merge_fault (merge.Patch f) = as_patch f
 of_merge_fault (merge.Memory m) = Memory
+
+-- for that of a difference
+abbrev pub of_diff_fault : DiffTextFault → Failure
+of_diff_fault (diff.From f) = as_document f
+of_diff_fault (diff.To f) = as_patch f
+of_diff_fault (diff.Memory m) = Memory
 
 -- ---- what is told
 

@@ -9,6 +9,10 @@ use Rattle.json_patch_text_bytes.specs.Texts.{IsJsonText, IsMergedOver, IsNoJson
 abbrev pub of_text : ℕ → List ℕ → Reasons
 of_text levels document = record { no_document = IsNoJsonText levels document; no_patch = λ operation kind. ⊥; refused = λ e. ⊥; over = λ e. ⊥ }
 
+-- of a patch's text that is read
+abbrev pub of_check : List ℕ → Reasons
+of_check patch = record { no_document = λ kind. ⊥; no_patch = IsNoTextPatch patch; refused = λ e. ⊥; over = λ e. ⊥ }
+
 -- of a document's text that is patched in place: the patch is looked at where that is JSON
 abbrev pub of_patch : Limits → List ℕ → List ℕ → Reasons
 of_patch l document patch = record {
@@ -18,11 +22,20 @@ of_patch l document patch = record {
   over = NamesFirstOver l document patch;
 }
 
+-- of a document's text and a second, which has to be JSON, too: what is wrong with that is told as of a patch
+abbrev pub of_two : ℕ → List ℕ → List ℕ → Reasons
+of_two levels document second = record {
+  no_document = IsNoJsonText levels document;
+  no_patch = λ operation kind. IsJsonText levels document × (operation ≡ 0) × IsNoJsonText levels second kind;
+  refused = λ e. ⊥;
+  over = λ e. ⊥;
+}
+
 -- of a document's text into which a merge patch's is merged
 abbrev pub of_merge : Limits → List ℕ → List ℕ → Reasons
 of_merge l document patch = record {
   no_document = IsNoJsonText l.depth document;
-  no_patch = λ operation kind. IsJsonText l.depth document × (operation ≡ 0) × IsNoJsonText l.depth patch kind;
+  no_patch = (of_two l.depth document patch).no_patch;
   refused = λ e. ⊥;
   over = IsMergedOver l document patch;
 }

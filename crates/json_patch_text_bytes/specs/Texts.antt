@@ -1,10 +1,11 @@
 -- What bytes say as a JSON text, whatever its numbers, and what a call makes of it.
-use Rattle.std.specs.Prelude.{◌≡◌, ◌≤◌, ◌<◌, ◌⊎◌, ℕ, List, Option, None, IsUtf8, length, unwrap_or}
+use Rattle.std.specs.Prelude.{◌≡◌, ◌≤◌, ◌<◌, ◌⊎◌, ◌↔◌, [], ℕ, List, Option, None, IsUtf8, length, unwrap_or}
 use Rattle.json.specs.Json.{Json}
 use Rattle.jsonptr.specs.Text.{Pointer}
 use Rattle.json_lexemes.specs.Skipped.{nesting}
 use Rattle.json_text.specs.Pointed.{IsWrittenAt, tree_at}
 use Rattle.json_lexemes.specs.Spelled.{Says}
+use Rattle.json_diff_text.specs.Differences.{IsPlainPatch, SaySame}
 use Rattle.json_merge_text.specs.Merged.{IsMergeOver, IsMergedAlready, IsMergedText, SaysMerged, most_bytes}
 use Rattle.json_patch.specs.LimitError.{LimitError}
 use Rattle.json_patch.specs.LimitKind.TheVariants.{TooMuch}
@@ -36,6 +37,10 @@ abbrev pub IsNoTextPatch : List ℕ → ℕ → ℕ → Type 0
 IsNoTextPatch text operation kind = ((operation ≡ 0) × IsNoJsonText 127 text kind)
     ⊎ ((k : Option ℕ) × (why : ReadKind) × IsUtf8 text × SaysNoOperations text k why × (operation ≡ unwrap_or k 0) × (kind ≡ reading_kind why))
 
+-- the bytes say a patch, whatever its numbers
+abbrev pub IsTextPatch : List ℕ → Type 0
+IsTextPatch text = IsJsonText 127 text × ((ops : List TreeOperation) × SaysOperations text ops)
+
 -- new is the document's text patched, every byte kept that no operation changes, with each text on the way within the limits
 pub record IsPatched (l : Limits) (document patch new : List ℕ) : Type 0 where
   pub text : IsJsonText l.depth document
@@ -65,6 +70,17 @@ pub record IsMergedInto (l : Limits) (document patch new : List ℕ) : Type 0 wh
 -- the merge would leave a longer text than the limits let it
 abbrev pub IsMergedOver : Limits → List ℕ → List ℕ → LimitError → Type 0
 IsMergedOver l document patch e = IsJsonText l.depth document × (e ≡ record { operation = 0; kind = TooMuch }) × IsMergeOver l.copied document patch
+
+-- the patch leads from what the one text says to what the other says, both of at most so many levels
+pub record IsDifference (l : Limits) (from to patch : List ℕ) : Type 0 where
+  pub first : IsJsonText l.depth from
+  pub second : IsJsonText l.depth to
+  pub leads : AcceptsPatch from patch to
+  pub plain : IsPlainPatch from patch
+  -- it has no operation exactly where both say the same
+  pub nothing : SaysOperations patch [] ↔ SaySame from to
+  -- so it can be handed in as a patch
+  pub again : IsJsonText 126 patch
 
 -- s is the value's text in the document's where the pointer leads
 abbrev pub IsValueAt : ℕ → List ℕ → List ℕ → List ℕ → Type 0

@@ -3,17 +3,19 @@
 ghost use Rattle.std.specs.Prelude.{◌≤◌, IfErr, IfOk, string_bytes};
 ghost use Rattle.json_patch_bytes.specs.Failures.{IsFailure};
 ghost use Rattle.json_patch_text_bytes.specs.Failures.{IsLookupFault};
-ghost use Rattle.json_patch_text_bytes.specs.Reasons.{of_merge, of_patch};
-ghost use Rattle.json_patch_text_bytes.specs.Texts.{IsMergedInto, IsPatched, IsValueAt};
+ghost use Rattle.json_patch_text_bytes.specs.Reasons.{of_check, of_merge, of_patch, of_two};
+ghost use Rattle.json_patch_text_bytes.specs.Texts.{IsDifference, IsMergedInto, IsPatched, IsTextPatch, IsValueAt};
 
-use crate::failures::{of_merge, of_run};
+use crate::failures::{of_difference, of_merge, of_reading, of_run};
 use crate::lookup::LookupFault;
-use crate::texts::{checked_text, flat_text, told};
+use crate::texts::{checked_text, flat_text, told, two_texts};
+use json_diff_text::diff_text;
 use json_merge_text::merge_text_within;
 use json_patch::{LimitError, LimitKind, Limits};
 use json_patch_bytes::failure::{Failure, NOT_JSON};
-use json_patch_text::patch_text_within;
+use json_patch_text::{check_patch, patch_text_within};
 use jsonptr::Pointer;
+use simdutf8::compat::from_utf8;
 use std::alloc::Global;
 
 /// The most levels of a patch's text, as of one whose values are documents.
@@ -40,7 +42,7 @@ pub fn patched(
     ensures text { IfOk result (λ s. IsPatched limits document.now patch.now (string_bytes s)) }
     ensures failure { IfErr result (IsFailure (of_patch limits document.now patch.now)) }
 {
-    let Ok(text) = str::from_utf8(document) else {
+    let Ok(text) = from_utf8(document) else {
         return Err(Failure::NoDocument(NOT_JSON));
     };
     let patch = match flat_text(patch, MOST_OF_PATCH) {
@@ -51,6 +53,21 @@ pub fn patched(
     match patch_text_within(alloc, text, patch, limits) {
         Ok(new) => Ok(new),
         Err(fault) => Err(told(alloc, document, limits.depth, of_run(fault))),
+    }
+}
+
+/// Reads a patch as [`patched`] does, and does nothing else: `NoPatch` where its bytes say none.
+pub fn read(alloc: Global, patch: &[u8]) -> Result<(), Failure>
+    ensures read { IfOk result (λ none. IsTextPatch patch.now) }
+    ensures failure { IfErr result (IsFailure (of_check patch.now)) }
+{
+    let patch = match flat_text(patch, MOST_OF_PATCH) {
+        Ok(patch) => patch,
+        Err(kind) => return Err(Failure::NoPatch(0, kind)),
+    };
+    match check_patch(alloc, patch) {
+        Ok(_) => Ok(()),
+        Err(fault) => Err(of_reading(fault)),
     }
 }
 
@@ -70,22 +87,36 @@ pub fn merged(
     ensures text { IfOk result (λ s. IsMergedInto limits document.now patch.now (string_bytes s)) }
     ensures failure { IfErr result (IsFailure (of_merge limits document.now patch.now)) }
 {
-    let levels = limits.depth;
-    let text = match flat_text(document, levels) {
-        Ok(text) => text,
-        Err(kind) => return Err(Failure::NoDocument(kind)),
-    };
-    let patch = match flat_text(patch, levels) {
-        Ok(patch) => patch,
-        Err(kind) => return Err(told(alloc, document, levels, Failure::NoPatch(0, kind))),
-    };
-    let made = match merge_text_within(alloc, text, patch, limits.copied) {
+    let (text, second) = two_texts(alloc, document, patch, limits.depth)?;
+    let made = match merge_text_within(alloc, text, second, limits.copied) {
         Ok(made) => made,
-        Err(fault) => return Err(told(alloc, document, levels, of_merge(fault))),
+        Err(fault) => return Err(told(alloc, document, limits.depth, of_merge(fault))),
     };
     match made {
         Some(new) => Ok(new),
         None => Err(Failure::Over(TOO_LONG)),
+    }
+}
+
+/// The patch that leads from what one text says to what another says (RFC 6902), whatever numbers both
+/// have: applied to the one within the same levels it leaves the other.
+///
+/// `NoDocument` where the first's bytes are no UTF-8 or no JSON, for the kind 1, or nest deeper than the
+/// limit, for 7; then `NoPatch` where the second's are such. Of the limits `depth` alone counts.
+pub fn differing(
+    alloc: Global,
+    from: &[u8],
+    to: &[u8],
+    limits: Limits,
+) -> Result<String, Failure>
+    requires { limits.depth ≤ 124 }
+    ensures text { IfOk result (λ s. IsDifference limits from.now to.now (string_bytes s)) }
+    ensures failure { IfErr result (IsFailure (of_two limits.depth from.now to.now)) }
+{
+    let (first, second) = two_texts(alloc, from, to, limits.depth)?;
+    match diff_text(alloc, first, second) {
+        Ok(patch) => Ok(patch),
+        Err(fault) => Err(told(alloc, from, limits.depth, of_difference(fault))),
     }
 }
 

@@ -1,8 +1,9 @@
 //! The failure for a fault of a text.
 
 ghost use Rattle.std.specs.Prelude.{◌≡◌};
-ghost use Rattle.json_patch_text_bytes.specs.Failures.{as_document, as_patch, of_fault, of_merge_fault};
+ghost use Rattle.json_patch_text_bytes.specs.Failures.{as_document, as_patch, of_diff_fault, of_fault, of_merge_fault, of_reading};
 
+use json_diff_text::DiffTextFault;
 use json_merge_text::MergeTextFault;
 use json_patch::{LimitError, LimitKind};
 use json_patch_bytes::failure::{Failure, NOT_JSON, TOO_DEEP, kind_of_reading};
@@ -31,14 +32,10 @@ fn of_patch(fault: TextFault) -> Failure
     }
 }
 
-/// That of a run within limits.
-pub(crate) fn of_run(fault: TextLimitFault) -> Failure
-    ensures { result ≡ of_fault fault }
+/// That of a run, or of reading its patch.
+pub(crate) fn of_reading(fault: PatchTextFault) -> Failure
+    ensures { result ≡ of_reading fault }
 {
-    let fault = match fault {
-        TextLimitFault::Over(error) => return Failure::Over(error),
-        TextLimitFault::Patch(fault) => fault,
-    };
     match fault {
         PatchTextFault::Document(fault) => of_document(fault),
         PatchTextFault::Patch(fault) => of_patch(fault),
@@ -56,6 +53,16 @@ pub(crate) fn of_run(fault: TextLimitFault) -> Failure
     }
 }
 
+/// That of a run within limits.
+pub(crate) fn of_run(fault: TextLimitFault) -> Failure
+    ensures { result ≡ of_fault fault }
+{
+    match fault {
+        TextLimitFault::Over(error) => Failure::Over(error),
+        TextLimitFault::Patch(fault) => of_reading(fault),
+    }
+}
+
 /// That of a merge.
 pub(crate) fn of_merge(fault: MergeTextFault) -> Failure
     ensures { result ≡ of_merge_fault fault }
@@ -64,5 +71,16 @@ pub(crate) fn of_merge(fault: MergeTextFault) -> Failure
         MergeTextFault::Document(fault) => of_document(fault),
         MergeTextFault::Patch(fault) => of_patch(fault),
         MergeTextFault::Memory(_) => Failure::Memory,
+    }
+}
+
+/// That of a difference.
+pub(crate) fn of_difference(fault: DiffTextFault) -> Failure
+    ensures { result ≡ of_diff_fault fault }
+{
+    match fault {
+        DiffTextFault::From(fault) => of_document(fault),
+        DiffTextFault::To(fault) => of_patch(fault),
+        DiffTextFault::Memory(_) => Failure::Memory,
     }
 }

@@ -4,13 +4,14 @@ ghost use Rattle.std.specs.Prelude.{◌≡◌, ◌≤◌, IfErr, IfOk, IsUtf8};
 ghost use Rattle.json_lexemes.specs.Skipped.{nesting};
 ghost use Rattle.json_patch_bytes.specs.Failures.{IsFailure};
 ghost use Rattle.json_patch_text_bytes.specs.Failures.{IsTold};
-ghost use Rattle.json_patch_text_bytes.specs.Reasons.{of_text};
+ghost use Rattle.json_patch_text_bytes.specs.Reasons.{of_text, of_two};
 ghost use Rattle.json_patch_text_bytes.specs.Texts.{IsJsonText, IsNoFlatText};
 ghost use Rattle.json_text.specs.Checked.{text_in};
 
 use crate::failures::of_document;
 use json_patch_bytes::failure::{Failure, NOT_JSON, TOO_DEEP};
 use json_text::{CheckedText, is_deeper};
+use simdutf8::compat::from_utf8;
 use std::alloc::Global;
 
 /// The text that the bytes are, of at most so many levels, or the kind of what is wrong with them.
@@ -20,13 +21,38 @@ pub(crate) fn flat_text(bytes: &[u8], levels: usize) -> Result<&str, u8>
         × (nesting bytes.now ≤ levels)) }
     ensures kind { IfErr result (IsNoFlatText levels bytes.now) }
 {
-    let Ok(text) = str::from_utf8(bytes) else {
+    let Ok(text) = from_utf8(bytes) else {
         return Err(NOT_JSON);
     };
     if is_deeper(text, levels) {
         return Err(TOO_DEEP);
     }
     Ok(text)
+}
+
+/// The texts that the bytes of a document and of a second text are, or what is wrong with one, the
+/// document's first. Whether the second is JSON isn't looked at.
+pub(crate) fn two_texts<'a>(
+    alloc: Global,
+    document: &'a [u8],
+    second: &'a [u8],
+    levels: usize,
+) -> Result<(&'a str, &'a str), Failure>
+    requires { levels ≤ 124 }
+    ensures document { IfOk result (λ two. (two.0.now ≡ document.now) × IsUtf8 document.now
+        × (nesting document.now ≤ levels)) }
+    ensures second { IfOk result (λ two. (two.1.now ≡ second.now) × IsUtf8 second.now
+        × (nesting second.now ≤ levels)) }
+    ensures failure { IfErr result (IsFailure (of_two levels document.now second.now)) }
+{
+    let text = match flat_text(document, levels) {
+        Ok(text) => text,
+        Err(kind) => return Err(Failure::NoDocument(kind)),
+    };
+    match flat_text(second, levels) {
+        Ok(second) => Ok((text, second)),
+        Err(kind) => Err(told(alloc, document, levels, Failure::NoPatch(0, kind))),
+    }
 }
 
 /// The JSON text that the bytes are, of at most so many levels, and else why they are none.
@@ -40,7 +66,7 @@ pub(crate) fn checked_text(
     ensures failure { IfErr result (IsFailure (of_text levels bytes.now)) }
 {
     // One pass checks the text and how deep it nests, where nothing is wrong with it.
-    if let Ok(text) = str::from_utf8(bytes) {
+    if let Ok(text) = from_utf8(bytes) {
         if let Some(checked) = CheckedText::within(text, levels) {
             return Ok(checked);
         }
