@@ -77,12 +77,8 @@ fn operations_in<'a>(
     }
 }
 
-/// Reads a patch's text (RFC 6902, sections 3 and 4) as [`patch_text`] does, and does nothing else.
-///
-/// ```rust
-/// check_patch(alloc, r#"[{"op": "add", "path": "/a", "value": 1.50}]"#)?;
-/// // of r#"[{"op": "add", "path": "/a"}]"# it is `Unreadable`: the member "value" is missing
-/// ```
+/// Reads a patch's text (RFC 6902, sections 3 and 4) as [`patch_text`] does, and does nothing else. So of
+/// `[{"op": "add", "path": "/a"}]` the fault is `Unreadable`: the member "value" is missing in operation 0.
 pub fn check_patch(alloc: Global, patch: &str) -> Result<(), PatchTextFault>
     ensures read { IfOk result (λ none. (ops : List TreeOperation) × SaysOperations patch.now ops) }
     ensures fault { IfErr result (IsUnread patch.now) }

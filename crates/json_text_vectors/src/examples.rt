@@ -2,7 +2,7 @@
 
 use crate::places::{found, shape_name};
 use crate::rows::told;
-use crate::{merges, patches};
+use crate::{differences, merges, patches};
 use json_pieces::Pieces;
 use json_text::{
     ChangeFault, CheckedText, TextFault, add, child_texts, is_deeper, remove, replace, string_of,
@@ -23,6 +23,7 @@ pub(crate) fn answer(alloc: Global, call: &str, place: Pointer) -> Result<String
         "string_of" => told(alloc, name_in_text(alloc)),
         "patch_text" | "patch_text_within" => patches::shown(alloc, call),
         "merge_text" | "merge_text_within" => merges::shown(alloc, call),
+        "diff_text" => differences::shown(alloc),
         _ => of_checked(alloc, call, place),
     }
 }

@@ -53,6 +53,7 @@ fn on_two(alloc: Global, call: &str, text: &str, second: &str) -> Result<String,
             let checked = CheckedText::within(text, number(second));
             yes_or_no(alloc, checked.is_some())
         }
+        "diff_text" => told(alloc, json_diff_text::diff_text(alloc, text, second)),
         "is_deeper" => yes_or_no(alloc, json_text::is_deeper(text, number(second))),
         "merge_text" => told(alloc, json_merge_text::merge_text(alloc, text, second)),
         "patch_text" => told(alloc, json_patch_text::patch_text(alloc, text, second)),

@@ -1,0 +1,6 @@
+pub mod Between
+pub mod Coded
+pub mod Levels
+pub mod Renumbering
+pub mod Shown
+pub mod Standing

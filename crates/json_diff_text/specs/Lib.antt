@@ -1,0 +1,4 @@
+pub mod Differences
+pub mod Numerals
+pub mod Renumbered
+pub mod Tables

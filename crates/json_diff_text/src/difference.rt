@@ -1,0 +1,88 @@
+//! The patch between two texts.
+
+ghost use Rattle.std.specs.Prelude.{◌≡◌, ◌↔◌, ◌≤◌, [], IfErr, IfOk, max};
+ghost use Rattle.std.specs.String.{string_bytes};
+ghost use Rattle.json.specs.Json.{max_depth};
+ghost use Rattle.json.specs.Tree.{HasNumbers, depth};
+ghost use Rattle.json.specs.Value.{value_view};
+ghost use Rattle.json_lexemes.specs.Skipped.{nesting};
+ghost use Rattle.json_diff_text.specs.Differences.{IsDiffTextFault, IsFewBetween, IsNeverTooDeep, IsPlainPatch, IsTreePatch, KeepsWithin, SaySame, most_levels};
+ghost use Rattle.json_patch_text.specs.Patched.{AcceptsPatch};
+ghost use Rattle.json_patch_text.specs.Operations.{SaysOperations};
+
+use crate::coding::coded;
+use crate::fault::DiffTextFault;
+use crate::numerals::Numerals;
+use crate::writing::written;
+use json::{Error, MAX_DEPTH, Scratch, Value};
+use json_patch_diff::diff;
+use json_reading::same_tree;
+use json_text::{TextFault, is_deeper};
+use std::alloc::{AllocError, Global};
+
+/// How many brackets of the second text may be open at once. The patch's text has two levels more, and
+/// can be read with 128.
+pub const MOST_LEVELS: usize = 126;
+
+/// The patch between what two texts say.
+fn between(alloc: Global, from: &Value, to: &Value) -> Result<String, AllocError>
+    requires from { HasNumbers (value_view from.now) }
+    requires to { HasNumbers (value_view to.now) }
+    requires shallow { depth (value_view to.now) ≤ most_levels }
+    ensures { IfOk result
+        (λ s. IsTreePatch (value_view from.now) (value_view to.now) (string_bytes s)) }
+{
+    if same_tree(alloc, from, to)? {
+        return String::from_str(alloc, "[]");
+    }
+    let mut numerals = Numerals::new(alloc);
+    let new = coded(alloc, to, &mut numerals)?;
+    let old = coded(alloc, from, &mut numerals)?;
+    let patch = diff(alloc, &old, &new)?;
+    written(alloc, &patch, numerals.texts())
+}
+
+/// The patch, as text, that leads from what one text says to what another says: `patch_text` makes of
+/// the first a text that says the same as the second, whatever numbers both have. It has no operation
+/// exactly where they say the same, and else `add`, `remove` and `replace` alone.
+///
+/// ```rust
+/// let patch = diff_text(alloc, r#"{"a": 1.5, "b": 1}"#, r#"{"a": 1.50, "b": 2.5e3}"#)?;
+/// // [{"op":"replace","path":"/b","value":2.5e3}]
+/// ```
+///
+/// A number is written as the second text writes it where it first stands. Of several members of one
+/// name the last counts.
+pub fn diff_text(alloc: Global, from: &str, to: &str) -> Result<String, DiffTextFault>
+    ensures leads { IfOk result (λ patch. AcceptsPatch from.now (string_bytes patch) to.now) }
+    ensures plain { IfOk result (λ patch. IsPlainPatch from.now (string_bytes patch)) }
+    ensures nothing { IfOk result
+        (λ patch. SaysOperations (string_bytes patch) [] ↔ SaySame from.now to.now) }
+    ensures few { IfOk result (λ patch. IsFewBetween from.now to.now (string_bytes patch)) }
+    ensures readable { IfOk result (λ patch. nesting (string_bytes patch) ≤ max_depth) }
+    ensures shallow { IfOk result (λ patch. KeepsWithin (max (nesting from.now) (nesting to.now))
+        from.now (string_bytes patch)) }
+    ensures never { IfOk result (λ patch. IsNeverTooDeep (max (nesting from.now) (nesting to.now))
+        from.now (string_bytes patch)) }
+    ensures fault { IfErr result (IsDiffTextFault from.now to.now) }
+{
+    if is_deeper(from, MAX_DEPTH) {
+        return Err(DiffTextFault::From(TextFault::TooDeep));
+    }
+    if is_deeper(to, MOST_LEVELS) {
+        return Err(DiffTextFault::To(TextFault::TooDeep));
+    }
+    let mut old = Scratch::new(alloc);
+    let start = match Value::parse(alloc, from, &mut old) {
+        Ok(value) => value,
+        Err(Error::Invalid) => return Err(DiffTextFault::From(TextFault::NotJson)),
+        Err(_) => return Err(DiffTextFault::Memory(AllocError)),
+    };
+    let mut new = Scratch::new(alloc);
+    let goal = match Value::parse(alloc, to, &mut new) {
+        Ok(value) => value,
+        Err(Error::Invalid) => return Err(DiffTextFault::To(TextFault::NotJson)),
+        Err(_) => return Err(DiffTextFault::Memory(AllocError)),
+    };
+    Ok(between(alloc, &start, &goal)?)
+}
