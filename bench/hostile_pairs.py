@@ -4,7 +4,9 @@
     bench/hostile_pairs.py --ours PROGRAM
 
 PROGRAM is that of diff/differences.rt.txt, as diff/differences.py says. Each pair is handed in as one line,
-once for each of `diff`, `guarded_diff`, `moving_diff` and `merge_diff`; reading and writing are counted."""
+once for each of `diff`, `guarded_diff` and `moving_diff`. Those for `merge_diff` and `merge_both` come in
+several sizes, so that twice the size shows to take twice the time, and the least of three times is told.
+Reading and writing are counted, and the merge with what was made."""
 import argparse
 import json
 import random
@@ -31,8 +33,8 @@ def rows(numbers):
     return [{"row": number, "text": "x" * 20} for number in numbers]
 
 
-def members(letter, value):
-    return {f"{letter}{number}": value(number) for number in range(LARGE)}
+def members(letter, value, count=LARGE):
+    return {f"{letter}{number}": value(number) for number in range(count)}
 
 
 def pairs(chance):
@@ -54,21 +56,42 @@ def pairs(chance):
     yield "120 levels of lists, the bottom differs", (nested(120, [*range(10_000)]), nested(120, [*range(9_999), 1]))
 
 
-def spent(program, mode, line):
+def merge_pairs():
+    """Pairs for `merge` and `both`, each with how what is said of it begins."""
+    for count in (LARGE // 2, LARGE, 2 * LARGE):
+        numbers = members("a", lambda i: i, count)
+        yield f"two objects of {count:,} members, all different", (numbers, members("b", lambda i: -i, count)), "ok "
+        yield f"two objects of {count:,} members, one more in one", (numbers, numbers | {"b": 1}), "ok "
+        yield f"two lists of {count:,} numbers, the last differs", ([*range(count)], [*range(count - 1), "x"]), "ok "
+    for levels in (30, 60, 120):
+        what = f"{levels} levels of objects, of 100 members each"
+        yield f"{what}, the bottom differs", tuple(nested_objects(levels, bottom) for bottom in (1, 2)), "ok "
+        # no merge patch makes a null, and none makes an object anew where a number was set
+        yield f"{what}, and none serves", tuple(nested_objects(levels, bottom) for bottom in (1, {"x": None})), "none"
+
+
+def spent(program, mode, line, begins="ok "):
     begun = time.perf_counter()
     said = subprocess.run([program, mode], input=line, capture_output=True, check=True).stdout
-    assert said.startswith(b"ok "), "the patch doesn't lead to the second document"
+    assert said.startswith(begins.encode()), f"{mode} says {said[:20]}"
     return time.perf_counter() - begun
+
+
+def tell(program, modes, rounds, name, pair, begins="ok "):
+    line = (json.dumps(pair) + "\n").encode()
+    least = lambda mode: min(spent(program, mode, line, begins) for _ in range(rounds))
+    times = ", ".join(f"{mode} {least(mode):.2f} s" for mode in modes)
+    print(f"{name}, {len(line):,} bytes: {times}", flush=True)
 
 
 def main():
     words = argparse.ArgumentParser(description=__doc__, formatter_class=argparse.RawDescriptionHelpFormatter)
     words.add_argument("--ours", required=True)
     program = words.parse_args().ours
-    for name, pair in pairs(random.Random(5)):
-        line = (json.dumps(pair) + "\n").encode()
-        times = ", ".join(f"{mode} {spent(program, mode, line):.2f} s" for mode in ("diff", "guarded", "moving", "merge"))
-        print(f"{name}, {len(line):,} bytes: {times}", flush=True)
+    for case in pairs(random.Random(5)):
+        tell(program, ("diff", "guarded", "moving"), 1, *case)
+    for case in merge_pairs():
+        tell(program, ("merge", "both"), 3, *case)
 
 
 if __name__ == "__main__":

@@ -601,6 +601,53 @@ def diff_calls():
             yield Call(f"{call}: {name}", [call, *texts], left(printed_patch(changes), texts[0]), short)
 
 
+NO_PATCH = "none"
+
+# two documents and the merge patch between them, or two merge patches and the one that does both
+MADE = {
+    "merge_diff": {
+        "an article": (ARTICLE, ARTICLE_MERGED, compact(ARTICLE_MERGE)),
+        "equal objects": ({"a": [ROW], "b": {"c": None}}, {"a": [ROW], "b": {"c": None}}, "{}"),
+        "a list for an object": ({"a": 1}, [ROW, {"b": None}], compact([ROW, {"b": None}])),
+        "null for an object": ({"a": 1}, None, "null"),
+        "an object for a list": ([1], {"a": {"b": ROW}}, compact({"a": {"b": ROW}})),
+        "objects at two depths": (
+            {"a": {"b": 1, "c": ROW, "d": {"e": ROW}}, "f": ROW, "z": [1]},
+            {"a": {"b": {"m": ROW}, "d": {"e": 2}}, "f": [1], "g": {"h": 3}, "z": [1]},
+            compact({"a": {"b": {"m": ROW}, "c": None, "d": {"e": 2}}, "f": [1], "g": {"h": 3}}),
+        ),
+        "a null that is wanted, behind what changes": (
+            {"a": {"b": 1, "z": 2}, "c": 3, "d": 4}, {"a": {"b": ROW, "c": {"d": None}}}, NO_PATCH,
+        ),
+    },
+    "merge_both": {
+        "an article, and an author": (
+            ARTICLE_MERGE,
+            {"author": {"familyName": ROW, "email": None}, "title": None},
+            compact({**ARTICLE_MERGE, "author": {"familyName": ROW, "email": None}, "title": None}),
+        ),
+        "objects at two depths": (
+            {"a": {"b": ROW, "c": {"d": None}}, "e": {"f": [ROW]}, "g": None},
+            {"a": {"b": None, "c": {"h": ROW}}, "g": [None], "i": {"j": None}},
+            compact({"a": {"b": None, "c": {"d": None, "h": ROW}}, "e": {"f": [ROW]}, "g": [None], "i": {"j": None}}),
+        ),
+        "a list that replaces": ({"a": 1}, [ROW], compact([ROW])),
+        "two empty objects": ({}, {}, "{}"),
+        "an object behind what was removed": (
+            {"a": {"b": ROW}, "c": None, "d": ROW}, {"a": {"b": 1}, "c": {"e": ROW}}, NO_PATCH,
+        ),
+    },
+}
+
+
+def made_calls():
+    for call, made in MADE.items():
+        for name, (first, second, answer) in made.items():
+            texts = [compact(first), compact(second)]
+            short = [left(MEMORY, texts[0])]
+            yield Call(f"{call}: {name}", [call, *texts], left(answer, texts[0]), short)
+
+
 TEXT = '{"name": "x", "list": [1.50, 2] }'
 NO_PLACE = "no such place"
 

@@ -6,11 +6,12 @@ use Rattle.std.specs.Borrow.{Bor}
 use Rattle.std.specs.Prelude.{MatchOption}
 use Rattle.serde_json.specs.Find.{as_object}
 use Rattle.json_patch_document.specs.Document.{Segment, look}
-use Rattle.json_patch_document.proofs.Members.{found_first}
+use Rattle.json_patch_document.proofs.Members.{found_first, member_document}
 use Rattle.json_patch_document.proofs.Children.{one_level}
 use Rattle.json_merge_diff.specs.Leads.{WantsNull, under}
 use Rattle.json_merge_diff.specs.Least.{IsLeast, IsLeastMember, AreLeast, replaces, by_key, keeps, goes, changes, seen, WantsNullAt}
 use Rattle.json_merge_diff.proofs.Leading.{as_members, are_members, same_children, null_seen}
+use Rattle.json_patch_merge.proofs.MergeFills.{next_document}
 use Rattle.json_merge_diff.proofs.Walks.{Walks}
 use Rattle.json_patch_merge.proofs.Common.{BTreeMap, String, Global, Object, lookup, view-lookup, view-Object}
 use Rattle.serde_json.proofs.Views.{view_of_ref}
@@ -59,10 +60,10 @@ wants_below was ns w = (w.0 ∷ w.1, w.2, λ h. w.3 (sym (seen_at was w.0 (under
 
 -- ---- what is found at a name
 
-pub got : (r : Option (Bor Value)) (t name : List ℕ) (es : List Entry) → t ≡ name → option_map (λ v. v.now) r ≡ lookup (is_named t) es → option_map (λ v. view v.now) r ≡ get_member name (members_view es)
+got : (r : Option (Bor Value)) (t name : List ℕ) (es : List Entry) → t ≡ name → option_map (λ v. v.now) r ≡ lookup (is_named t) es → option_map (λ v. view v.now) r ≡ get_member name (members_view es)
 got r t name es named is = view_of_ref r ∙ ap (option_map view) is ∙ view-lookup t es ∙ ap (λ k. get_member k (members_view es)) named
 
-pub got_document : (r : Option (Bor Value)) (g : Option Data) → option_map (λ v. view v.now) r ≡ g → ((d : Data) → g ≡ Some d → IsDocument d) → IfSome r (λ v. IsDocument (view v.now))
+got_document : (r : Option (Bor Value)) (g : Option Data) → option_map (λ v. view v.now) r ≡ g → ((d : Data) → g ≡ Some d → IsDocument d) → IfSome r (λ v. IsDocument (view v.now))
 got_document None g is h = tt
 got_document (Some x) g is h = h (view x.now) (sym is)
 
@@ -107,6 +108,15 @@ pub wanted_whole : (d : Data) (to : Value) (n : BTreeMap (String Global) Value) 
 wanted_whole d to n ms is from w = rw (is, view-Object n) (w.0, w.1, w.2, λ h. w.3 (ap (λ x. look (object x) (key w.0 ∷ under w.1)) from ∙ sym (seen_at (Some d) w.0 (under w.1)) ∙ h))
 
 -- ---- the next member of the walk
+
+-- what is found among these entries at its name, and what a call of both says
+pub told : {T : Type 0} {P : List ℕ → Option Data → Type 0} {all now : Members} {items rest : List Entry} (e : Entry) (r : Option (Bor Value)) (t : List ℕ) (es : List Entry)
+    → items ≡ e ∷ rest → Walks P all now (members_view items) → AreMembers (members_view es) → t ≡ string_bytes e.0 → option_map (λ v. v.now) r ≡ lookup (is_named t) es
+    → (IfSome r (λ v. IsDocument (view v.now)) → IsDocument (view e.1) → T) → (option_map (λ v. view v.now) r ≡ get_member (string_bytes e.0) (members_view es)) × T
+told {items = items} {rest = rest} e r t es next w hm named is says =
+    let name = string_bytes e.0 in
+    let found = got r t name es named is in
+    (found, says (got_document r _ found (λ d h. member_document name d _ hm h)) (next_document items rest e next w.members))
 
 pub next_named : {P : List ℕ → Option Data → Type 0} {all now : Members} {items rest : List Entry} (e : Entry) → items ≡ e ∷ rest → Walks P all now (members_view items) → get_member (string_bytes e.0) all ≡ Some (view e.1)
 next_named {P} {all} {now} {items} {rest} e is h = let w = subst (λ es. Walks P all now (members_view es)) is h in w.named (string_bytes e.0) (view e.1) (found_first (string_bytes e.0) (view e.1) (members_view rest))

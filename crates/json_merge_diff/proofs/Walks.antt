@@ -2,10 +2,11 @@
 use Rattle.json_patch_merge.proofs.Common.{◌≡◌, ◌≢◌, ℕ, List, ◌∷◌, ⊎_elim, Option, Some, None, string_bytes, refl, sym, ap, ◌∙◌, subst, rules}
 use Rattle.json_patch_merge.proofs.Common.{Data, Members, member, put, get_member, view, members_view, Value, Entry, IsDocument, AreMembers}
 use Rattle.json_patch_merge.proofs.Common.{String, Global, lookup, insert_entry, members_view-insert_entry, view-lookup, is_some, Bool, true, false}
-use Rattle.std.proofs.Common.{string_cmp}
+use Rattle.std.proofs.Common.{string_cmp, option_map, unwrap_or, IfSome}
+use Rattle.std.specs.Borrow.{Bor}
 use Rattle.json_patch_document.proofs.Writes.{is_named}
 use Rattle.json_merge_diff.specs.Least.{AreOfFirst, IsOfFirst}
-use Rattle.json_patch_merge.proofs.MergeFills.{ChangesAt, changes_put}
+use Rattle.json_patch_merge.proofs.MergeFills.{ChangesAt, changes_put, changes_nothing}
 use Rattle.json_patch_merge.proofs.Merges.{name_cases}
 use Rattle.json_patch_document.proofs.Members.{below_absent, found_first, skips}
 
@@ -34,7 +35,7 @@ module _ (P : List ℕ → Option Data → Type 0) (all now new ps : Members) (l
   }
 
 -- the entry e is next
-pub steps_at : {P : List ℕ → Option Data → Type 0} {all now new : Members} {items rest : List Entry} (e : Entry)
+steps_at : {P : List ℕ → Option Data → Type 0} {all now new : Members} {items rest : List Entry} (e : Entry)
     → items ≡ e ∷ rest → Walks P all now (members_view items)
     → (IsDocument (view e.1) → get_member (string_bytes e.0) all ≡ Some (view e.1) → get_member (string_bytes e.0) now ≡ None → (o : Option Data) × ChangesAt (string_bytes e.0) now new o × P (string_bytes e.0) o)
     → Walks P all new (members_view rest)
@@ -46,20 +47,37 @@ steps_at {P} {all} {now} {new} {items} {rest} e is_next before step =
     let s = step h.members.1 (h.named l q found) (h.waiting l q found) in
     steps P all now new (members_view rest) l q s.0 h s.1 s.2
 
--- ---- one member more
+-- the next entry gives the patch a member
+pub adds : {P : List ℕ → Option Data → Type 0} {all : Members} {items rest : List Entry} (e : Entry) (es new : List Entry) (k : String Global) (v : Value)
+    → items ≡ e ∷ rest → Walks P all (members_view es) (members_view items) → string_bytes k ≡ string_bytes e.0 → new ≡ insert_entry string_cmp es k v
+    → (IsDocument (view e.1) → IsDocument (view v)) → (get_member (string_bytes e.0) all ≡ Some (view e.1) → P (string_bytes e.0) (Some (view v)))
+    → Walks P all (members_view new) (members_view rest)
+adds e es new k v next w named is hv fits =
+    let put_in = ap members_view is ∙ members_view-insert_entry es k v ∙ ap (λ x. put x (view v) (members_view es)) named in
+    steps_at e next w (λ hq here absent. (Some (view v), changes_put (string_bytes e.0) (view v) (members_view es) (members_view new) w.document (hv hq) put_in, fits here))
 
-pub inserted : (t : List ℕ) (es new : List Entry) (k : String Global) (w : Value) (q : Data) → string_bytes k ≡ t → new ≡ insert_entry string_cmp es k w → view w ≡ q → AreMembers (members_view es) → IsDocument q
-    → ChangesAt t (members_view es) (members_view new) (Some q)
-inserted t es new k w q named is same h hq =
-    changes_put t q (members_view es) (members_view new) h hq (ap members_view is ∙ members_view-insert_entry es k w ∙ ap (λ x. put x (view w) (members_view es)) named ∙ ap (λ d. put t d (members_view es)) same)
+-- it gives none
+pub goes_on : {P : List ℕ → Option Data → Type 0} {all now : Members} {items rest : List Entry} (e : Entry)
+    → items ≡ e ∷ rest → Walks P all now (members_view items) → (get_member (string_bytes e.0) all ≡ Some (view e.1) → P (string_bytes e.0) None)
+    → Walks P all now (members_view rest)
+goes_on {now = now} e next w fits =
+    steps_at e next w (λ hq here absent. (None, rw absent at (changes_nothing (string_bytes e.0) now now w.document refl), fits here))
 
--- ---- removals
+-- ---- what the first alone has
+
+pub either : (o : Option (Bor Value)) (x r : Bor Value) (q : Data) → r ≡ unwrap_or o x → q ≡ view r.now → q ≡ unwrap_or (option_map (λ v. view v.now) o) (view x.now)
+either None x r q is same = rw (same, is) refl
+either (Some y) x r q is same = rw (same, is) refl
+
+pub either_document : (o : Option (Bor Value)) (x : Bor Value) (q : Data) → q ≡ unwrap_or (option_map (λ v. view v.now) o) (view x.now) → IfSome o (λ v. IsDocument (view v.now)) → IsDocument (view x.now) → IsDocument q
+either_document None x q is ho hx = rw is hx
+either_document (Some y) x q is ho hx = rw is ho
 
 pub missing : (t name : List ℕ) (es : List Entry) (b : Bool) → t ≡ name → b ≡ is_some (lookup (is_named t) es) → b ≡ false → get_member name (members_view es) ≡ None
 missing t name es b named tested is = sym (ap (λ k. get_member k (members_view es)) named) ∙ search (rules, view-lookup t es)
 
-pub has_it : (f : Data → Data) (was now : Option Data) (q : Data) → was ≡ Some q → now ≡ None → IsOfFirst f was now (Some (f q))
-has_it f was now q is none = rw (is, none) refl
+pub has_it : (f : Data → Data) (was now : Option Data) (q p : Data) → p ≡ f q → was ≡ Some q → now ≡ None → IsOfFirst f was now (Some p)
+has_it f was now q p same is none = rw (is, none, same) refl
 
 pub lacks_it : (f : Data → Data) (t name : List ℕ) (es : List Entry) (b : Bool) (was : Option Data) (q : Data) → t ≡ name → b ≡ is_some (lookup (is_named t) es) → b ≡ true → was ≡ Some q → IsOfFirst f was (get_member name (members_view es)) None
 lacks_it f t name es b was q named tested is found = search (rules, view-lookup)

@@ -6,8 +6,8 @@ ghost use Rattle.serde_json.specs.View.{members_view, view};
 ghost use Rattle.json_patch_document.specs.Document.{AreMembers, IsDocument};
 ghost use Rattle.json_merge_diff.specs.Leads.{DoesBoth, Resets};
 ghost use Rattle.json_merge_diff.specs.Composed.{AreComposed, IsComposedAt, IsComposedOrNone};
-ghost use Rattle.json_merge_diff.specs.Least.{AreOfFirst};
 
+use crate::alone::first_alone;
 use serde_json::{Map, Value};
 use std::alloc::{AllocError, Global};
 
@@ -60,7 +60,7 @@ fn composed_members(
         → AreMembers (members_view then_members.now.entries)
         → AreComposed (members_view first_members.now.entries) (members_view then_members.now.entries) o) }
 {
-    let mut changes = first_alone(alloc, first_members, then_members)?;
+    let mut changes = first_alone(alloc, first_members, then_members, None)?;
     for (name, next) in then_members {
         let Some(value) = composed_at(alloc, next, first_members.get(name.as_str()))? else {
             return Ok(None);
@@ -85,23 +85,4 @@ fn composed_at(
         Some(first) => composed(alloc, next, first),
         None => Ok(Some(next.clone()?)),
     }
-}
-
-/// The members of the first whose names the second lacks.
-fn first_alone(
-    alloc: Global,
-    first_members: &Map<String, Value>,
-    then_members: &Map<String, Value>,
-) -> Result<Map<String, Value>, AllocError>
-    ensures { IfOk result (λ m. AreMembers (members_view first_members.now.entries)
-        → AreOfFirst (λ c. c) (members_view first_members.now.entries) (members_view then_members.now.entries)
-        (members_view m.entries)) }
-{
-    let mut changes = Map::new(alloc);
-    for (name, first) in first_members {
-        if !then_members.contains_key(name.as_str()) {
-            drop(changes.insert(name.clone()?, first.clone()?)?);
-        }
-    }
-    Ok(changes)
 }

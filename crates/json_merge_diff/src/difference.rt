@@ -1,16 +1,17 @@
 //! The merge patch that leads from one document to another (RFC 7396).
 
 ghost use Rattle.std.specs.Prelude.{◌≡◌, ◌≢◌, ◌↔◌, ◌≤◌, IfOk, IfSome, None, option_map};
-ghost use Rattle.serde_json.specs.Data.{Data, Members, no_members, null, object};
+ghost use Rattle.serde_json.specs.Data.{Data, Members, no_members, object};
 ghost use Rattle.serde_json.specs.View.{members_view, view};
 ghost use Rattle.json_patch_document.specs.Document.{AreMembers, IsDocument, sight_of};
 ghost use Rattle.json_patch_document.specs.Sight.{Sight};
 ghost use Rattle.json_patch_merge.specs.Merged.{IsMerged};
 ghost use Rattle.json_patch_merge.specs.MergedComputed.{members_of};
 ghost use Rattle.json_merge_diff.specs.Leads.{IsPartOf, WantsNull};
-ghost use Rattle.json_merge_diff.specs.Least.{AreLeast, AreOfFirst, IsChange, IsLeastOrNone};
+ghost use Rattle.json_merge_diff.specs.Least.{AreLeast, IsChange, IsLeastOrNone};
 ghost use Rattle.json_patch_limits.specs.OverLimits.{size};
 
+use crate::alone::first_alone;
 use json_patch_document::same;
 use serde_json::{Map, Value};
 use std::alloc::{AllocError, Global};
@@ -83,7 +84,7 @@ fn change_members(
         → AreMembers (members_view news.now.entries)
         → AreLeast (members_view olds.now.entries) (members_view news.now.entries) o) }
 {
-    let mut changes = removals(alloc, olds, news)?;
+    let mut changes = first_alone(alloc, olds, news, Some(&Value::Null))?;
     for (name, new) in news {
         match change_at(alloc, new, olds.get(name.as_str()))? {
             Change::Nothing => {}
@@ -92,24 +93,6 @@ fn change_members(
         }
     }
     Ok(Some(changes))
-}
-
-/// A null for each old member that has no new one.
-fn removals(
-    alloc: Global,
-    olds: &Map<String, Value>,
-    news: &Map<String, Value>,
-) -> Result<Map<String, Value>, AllocError>
-    ensures { IfOk result (λ m. AreMembers (members_view olds.now.entries) → AreOfFirst (λ c. null)
-        (members_view olds.now.entries) (members_view news.now.entries) (members_view m.entries)) }
-{
-    let mut changes = Map::new(alloc);
-    for (name, _old) in olds {
-        if !news.contains_key(name.as_str()) {
-            drop(changes.insert(name.clone()?, Value::Null)?);
-        }
-    }
-    Ok(changes)
 }
 
 /// What changes at one name.

@@ -1,6 +1,7 @@
 //! Merge patches (RFC 7396) made from two documents, and from two merge patches.
 #![tactic(auto)]
 
+mod alone;
 mod composition;
 mod difference;
 pub mod laws;

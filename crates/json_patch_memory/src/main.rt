@@ -81,6 +81,8 @@ fn on_two(rt: &HostRuntime, call: &str, first: &str, second: &str) -> io::Result
         "diff" => runs::diff(rt, first, second),
         "guarded_diff" => runs::guarded_diff(rt, first, second),
         "moving_diff" => runs::moving_diff(rt, first, second),
+        "merge_diff" => runs::merge_diff(rt, first, second),
+        "merge_both" => runs::merge_both(rt, first, second),
         "remove_from_text" => texts::remove(rt, first, second),
         "respond" => texts::respond(rt, first, second),
         "from_value" => kinds::from_value(rt, first, second),

@@ -8,6 +8,7 @@ ghost use Rattle.json_patch.specs.Operation.{AreWhole, operations_of};
 use crate::counted::{counted, line};
 use json_patch::{Patch, PatchFault, document_from_str};
 use serde_json::Value;
+use std::alloc::AllocError;
 use std::io;
 use std::io::ErrorKind;
 
@@ -69,6 +70,32 @@ pub(crate) fn moving_diff(rt: &HostRuntime, from: &str, to: &str) -> io::Result<
     let to = document_of(rt, to)?;
     let answer = counted!(rt; json_patch_moves::moving_diff(rt.alloc(), &from, &to));
     line(rt, &answer.map_err(PatchFault::Memory), &from)
+}
+
+pub(crate) fn merge_diff(rt: &HostRuntime, from: &str, to: &str) -> io::Result<String> {
+    let from = document_of(rt, from)?;
+    let to = document_of(rt, to)?;
+    let answer = counted!(rt; json_merge_diff::merge_diff(rt.alloc(), &from, &to));
+    made(rt, answer, &from)
+}
+
+pub(crate) fn merge_both(rt: &HostRuntime, first: &str, then: &str) -> io::Result<String> {
+    let first = document_of(rt, first)?;
+    let then = document_of(rt, then)?;
+    let answer = counted!(rt; json_merge_diff::merge_both(rt.alloc(), &first, &then));
+    made(rt, answer, &first)
+}
+
+/// The line of a merge patch, or of `none` where there is none.
+fn made(
+    rt: &HostRuntime,
+    answer: Result<Option<Value>, AllocError>,
+    left: &Value,
+) -> io::Result<String> {
+    match answer.transpose() {
+        Some(answer) => line(rt, &answer.map_err(PatchFault::Memory), left),
+        None => line(rt, &Ok::<&str, PatchFault>("none"), left),
+    }
 }
 
 pub(crate) fn pretty(rt: &HostRuntime, document: &str) -> io::Result<String> {

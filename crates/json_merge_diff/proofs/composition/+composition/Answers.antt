@@ -1,9 +1,8 @@
-use Rattle.json_patch_merge.proofs.Common.{rules, refl, Some, view, string_bytes}
-use Rattle.json_patch_merge.proofs.MergeFills.{next_document, other_value}
-use Rattle.json_patch_document.proofs.Members.{member_document}
+use Rattle.json_patch_merge.proofs.Common.{rules, refl}
+use Rattle.json_patch_merge.proofs.MergeFills.{other_value}
 use Rattle.json_merge_diff.specs.Composed.{IsComposedMember, first}
-use Rattle.json_merge_diff.proofs.Walks.{starts, steps_at, inserted}
-use Rattle.json_merge_diff.proofs.Changes.{got, got_document, next_named, of_object}
+use Rattle.json_merge_diff.proofs.Walks.{starts, adds}
+use Rattle.json_merge_diff.proofs.Changes.{told, next_named, of_object}
 use Rattle.json_merge_diff.proofs.Both.{composed_other, composed_objects, resets_below, composed_at}
 use Rattle.json_merge_diff.proofs.composition.+composition.Goals as goal
 
@@ -16,28 +15,17 @@ composed-returns-in-Some t c hf ht =
     composed_objects c.args.first.now c.args.then.now _ c.in-Object-first.first_members c.in-Object.then_members c.in-Some.changes c.in-Object-first.is c.in-Object.is refl (rw c.in-Some.is at h)
 
 pub composed_members-loop-name-init : goal.composed_members-loop-name-init
-composed_members-loop-name-init t c ho hn = starts (λ c. c) IsComposedMember first (λ c. first) _ _ _ _ (search rules) hn (c.in_ok-changes.ensures ho)
+composed_members-loop-name-init t c ho hn = starts (λ c. c) IsComposedMember first (λ c. first) _ _ _ _ (search rules) hn (c.in_ok-changes.ensures ho tt)
 
 pub composed_members-returns-in_default : goal.composed_members-returns-in_default
 composed_members-returns-in_default t c ho hn =
     let w = c.loop-name.invariant ho hn in
-    let name = string_bytes c.in-Some.name.now in
-    let found = got c.get.result c.as_str.result.now name c.args.first_members.now.entries c.as_str.ensures.value c.get.ensures.value in
-    let step = c.in_ok-value.ensures (got_document c.get.result _ found (λ d is. member_document name d _ ho is)) (next_document _ _ (c.in-Some.name.now, c.in-Some.next.now) c.in-Some.ensures.steps w.members) in
-    resets_below name _ _ _ _ found (next_named (c.in-Some.name.now, c.in-Some.next.now) c.in-Some.ensures.steps w) (rw c.in_default.is at step)
+    let h = told (c.in-Some.name.now, c.in-Some.next.now) c.get.result c.as_str.result.now c.args.first_members.now.entries c.in-Some.ensures.steps w ho c.as_str.ensures.value c.get.ensures.value c.in_ok-value.ensures in
+    resets_below _ _ _ _ _ h.0 (next_named (c.in-Some.name.now, c.in-Some.next.now) c.in-Some.ensures.steps w) (rw c.in_default.is at h.1)
 
 pub composed_members-loop-name-preserved : goal.composed_members-loop-name-preserved
 composed_members-loop-name-preserved t c ho hn =
     let w = c.loop-name.invariant ho hn in
-    let name = string_bytes c.in-Some.name.now in
-    let found = got c.get.result c.as_str.result.now name c.args.first_members.now.entries c.as_str.ensures.value c.get.ensures.value in
-    let step = c.in_ok-value.ensures (got_document c.get.result _ found (λ d is. member_document name d _ ho is)) (next_document _ _ (c.in-Some.name.now, c.in-Some.next.now) c.in-Some.ensures.steps w.members) in
-    let value = c.in-Some-2.value in
-    steps_at (c.in-Some.name.now, c.in-Some.next.now) c.in-Some.ensures.steps w
-    (λ hq here absent. (
-    let h = composed_at _ _ _ _ value here found (rw c.in-Some-2.is at step) in (
-      Some (view value),
-      inserted name c.loop-name.changes.entries c.insert.new.self.entries c.in_ok-clone.field-0 value (view value) (search rules) (search rules) refl w.document h.1,
-      h.0,
-    )
-    ))
+    let h = told (c.in-Some.name.now, c.in-Some.next.now) c.get.result c.as_str.result.now c.args.first_members.now.entries c.in-Some.ensures.steps w ho c.as_str.ensures.value c.get.ensures.value c.in_ok-value.ensures in
+    let is = rw c.in-Some-2.is at h.1 in
+    adds (c.in-Some.name.now, c.in-Some.next.now) c.loop-name.changes.entries c.insert.new.self.entries c.in_ok-clone.field-0 c.in-Some-2.value c.in-Some.ensures.steps w (search rules) (search rules) (λ hq. (composed_at _ _ _ _ c.in-Some-2.value refl h.0 is).1) (λ here. (composed_at _ _ _ _ c.in-Some-2.value here h.0 is).0)

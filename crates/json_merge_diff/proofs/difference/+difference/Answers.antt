@@ -1,53 +1,38 @@
-use Rattle.json_patch_merge.proofs.Common.{rules, refl, sym, ◌∙◌, Some, None, members_view, view, string_bytes}
-use Rattle.json_patch_merge.proofs.MergeFills.{changes_nothing, next_document}
-use Rattle.json_patch_document.proofs.Members.{member_document}
-use Rattle.json_merge_diff.proofs.Walks.{starts, steps_at, inserted}
-use Rattle.serde_json.specs.Data.{null}
+use Rattle.json_patch_merge.proofs.Common.{rules, null, refl, sym, ◌≡◌, ◌∙◌, members_view, view}
+use Rattle.serde_json.specs.declared.value.Value.{Null, the_lemmas}
+use Rattle.json_merge_diff.proofs.Walks.{starts, adds, goes_on}
 use Rattle.json_merge_diff.specs.Least.{IsLeastMember, keeps, goes}
-use Rattle.json_merge_diff.proofs.Changes.{got, got_document, keeps_it, changes_it, wants_above, next_named}
+use Rattle.json_merge_diff.proofs.Changes.{told, keeps_it, changes_it, wants_above, next_named}
 use Rattle.json_merge_diff.proofs.Changes.{olds_are, found_members, members_were, of_object, wants_here, nothing_here, another_here, changes_here, an_object_was, no_object_was}
 use Rattle.std.proofs.Common.{option_map}
 use Rattle.json_merge_diff.proofs.difference.+difference.Goals.{change_at-else-is_some-via-then-is_some+else-is_empty}
 use Rattle.json_merge_diff.proofs.difference.+difference.Goals.{change_at-else-is_some-via-else-is_some}
 use Rattle.json_merge_diff.proofs.difference.+difference.Goals as goal
 
+null_is : view Null ≡ null
+null_is = search (rules, the_lemmas)
+
 pub change_members-loop-name-init : goal.change_members-loop-name-init
-change_members-loop-name-init t c ho hn = starts (λ c. null) IsLeastMember keeps (λ c. goes) _ _ _ _ (search rules) hn (c.in_ok-changes.ensures ho)
+change_members-loop-name-init t c ho hn = starts (λ c. view Null) IsLeastMember keeps (λ c. rw null_is goes) _ _ _ _ (search rules) hn (c.in_ok-changes.ensures ho (rw null_is tt))
 
 pub change_members-loop-name-preserved-in-Nothing : goal.change_members-loop-name-preserved-in-Nothing
 change_members-loop-name-preserved-in-Nothing t c ho hn =
     let w = c.loop-name.invariant ho hn in
-    let name = string_bytes c.in-Some.name.now in
-    let found = got c.get.result c.as_str.result.now name c.args.olds.now.entries c.as_str.ensures.value c.get.ensures.value in
-    let step = c.in_ok-change_at.ensures (got_document c.get.result _ found (λ d is. member_document name d _ ho is)) (next_document _ _ (c.in-Some.name.now, c.in-Some.new.now) c.in-Some.ensures.steps w.members) in
-    steps_at (c.in-Some.name.now, c.in-Some.new.now) c.in-Some.ensures.steps w
-    (λ hq here absent. (
-      None,
-      rw absent at (changes_nothing name _ _ w.document refl),
-      keeps_it _ _ _ here (sym found ∙ (rw c.in-Nothing.is at step)),
-    ))
+    let h = told (c.in-Some.name.now, c.in-Some.new.now) c.get.result c.as_str.result.now c.args.olds.now.entries c.in-Some.ensures.steps w ho c.as_str.ensures.value c.get.ensures.value c.in_ok-change_at.ensures in
+    goes_on (c.in-Some.name.now, c.in-Some.new.now) c.in-Some.ensures.steps w (λ here. keeps_it _ _ _ here (sym h.0 ∙ (rw c.in-Nothing.is at h.1)))
 
 pub change_members-loop-name-preserved : goal.change_members-loop-name-preserved
 change_members-loop-name-preserved t c ho hn =
     let w = c.loop-name.invariant ho hn in
-    let name = string_bytes c.in-Some.name.now in
-    let found = got c.get.result c.as_str.result.now name c.args.olds.now.entries c.as_str.ensures.value c.get.ensures.value in
-    let step = c.in_ok-change_at.ensures (got_document c.get.result _ found (λ d is. member_document name d _ ho is)) (next_document _ _ (c.in-Some.name.now, c.in-Some.new.now) c.in-Some.ensures.steps w.members) in
-    let h = rw c.in-By.is at step in
-    steps_at (c.in-Some.name.now, c.in-Some.new.now) c.in-Some.ensures.steps w
-    (λ hq here absent. (
-      Some (view c.in-By.value),
-      inserted name c.loop-name.changes.entries c.insert.new.self.entries c.in_ok-clone-in-By.field-0 c.in-By.value (view c.in-By.value) (search rules) (search rules) refl w.document h.1,
-      changes_it _ _ _ _ _ here found h.0,
-    ))
+    let h = told (c.in-Some.name.now, c.in-Some.new.now) c.get.result c.as_str.result.now c.args.olds.now.entries c.in-Some.ensures.steps w ho c.as_str.ensures.value c.get.ensures.value c.in_ok-change_at.ensures in
+    let is = rw c.in-By.is at h.1 in
+    adds (c.in-Some.name.now, c.in-Some.new.now) c.loop-name.changes.entries c.insert.new.self.entries c.in_ok-clone-in-By.field-0 c.in-By.value c.in-Some.ensures.steps w (search rules) (search rules) (λ hq. is.1) (λ here. changes_it _ _ _ _ _ here h.0 is.0)
 
 pub change_members-returns-in-Impossible : goal.change_members-returns-in-Impossible
 change_members-returns-in-Impossible t c ho hn =
     let w = c.loop-name.invariant ho hn in
-    let name = string_bytes c.in-Some.name.now in
-    let found = got c.get.result c.as_str.result.now name c.args.olds.now.entries c.as_str.ensures.value c.get.ensures.value in
-    let step = c.in_ok-change_at.ensures (got_document c.get.result _ found (λ d is. member_document name d _ ho is)) (next_document _ _ (c.in-Some.name.now, c.in-Some.new.now) c.in-Some.ensures.steps w.members) in
-    wants_above name _ _ _ _ found (next_named (c.in-Some.name.now, c.in-Some.new.now) c.in-Some.ensures.steps w) (rw c.in-Impossible.is at step)
+    let h = told (c.in-Some.name.now, c.in-Some.new.now) c.get.result c.as_str.result.now c.args.olds.now.entries c.in-Some.ensures.steps w ho c.as_str.ensures.value c.get.ensures.value c.in_ok-change_at.ensures in
+    wants_above _ _ _ _ _ h.0 (next_named (c.in-Some.name.now, c.in-Some.new.now) c.in-Some.ensures.steps w) (rw c.in-Impossible.is at h.1)
 
 pub change_at-returns-in_default-2 : goal.change_at-returns-in_default-2
 change_at-returns-in_default-2 t c ho hn =
