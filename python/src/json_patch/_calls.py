@@ -2,8 +2,6 @@
 from __future__ import annotations
 
 import ctypes
-import json
-from typing import Any, Callable, Dict, Optional
 
 from ._library import (
     CLOSED, LIBRARY, NO_DOCUMENT, NO_MEMORY, NO_PATCH, NO_POINTER, NO_ROOM, NOTHING, OK, OVER, REFUSED, Report, bounds,
@@ -13,6 +11,10 @@ from .errors import (
 )
 from .limits import Limits
 
+TYPE_CHECKING = False
+if TYPE_CHECKING:
+    from typing import Any, Callable, Dict, Optional
+
 
 def _of_document(kind: str, error: type) -> Exception:
     made = next((named for named in (NumberNotWhole, TooDeep) if issubclass(error, named)), JsonPatchException)
@@ -21,6 +23,8 @@ def _of_document(kind: str, error: type) -> Exception:
 
 def _operation(patch: bytes, number: int) -> Dict[str, Any]:
     """The operation of this number. Its numbers may be any, and stay as they are written."""
+    import json
+
     operation: Dict[str, Any] = json.loads(patch, parse_int=str, parse_float=str)[number]
     return operation
 

@@ -1,73 +1,308 @@
-"""Changing a list or a dict itself, and those in it, to what the library made of it."""
+"""The operations of RFC 6902, made on Python's lists and dicts themselves, all or nothing. No proof covers
+this: tests hold it against the library.
+
+Nothing here goes by recursion, and the object is never looked through: the time goes with the patch, with what
+it copies and compares, and with what Python takes to put an item into a list."""
 from __future__ import annotations
 
-import json
-from typing import Any, Dict, List
+from ._calls import expect_patch, fault
+from ._depth import CONTAINERS, is_deeper
+from ._library import OVER, REFUSED, Report
+from ._texts import as_bytes, patch_text, pointer_path, value_of
+from .errors import INSIDE_ITSELF, NOWHERE, NO_SOURCE, TEST_FAILED, TOO_DEEP, TOO_MUCH, JsonPointerException
+from .limits import Limits
+from .pointer import JsonPointer, is_index
 
-from ._depth import is_tree
-from ._texts import sorted_text, value_of
-from .pointer import JsonPointer, copied
+TYPE_CHECKING = False
+if TYPE_CHECKING:
+    from typing import Any, Dict, List, Tuple
 
+    # an operation, the names and indexes of its path, and its value, or those of where that comes from
+    _Operation = Tuple[str, List[str], Any]
 
-def changed(obj: Any, patch: bytes, made: bytes) -> Any:
-    """Changes an object to what the library made of it by a patch. The operations are made anew, so
-    that a list or dict inside stays itself, and is moved where it moves. Where one list stands at two
-    places, or keys are no str, that might leave other content, and nest or copy more than the library
-    did, which kept to the limits: there, and where the content is another, the object is filled with
-    the library's."""
-    wanted = value_of(made)
-    if is_tree(obj):
-        try:
-            left = _made_anew(obj, json.loads(patch))
-            if left is obj and sorted_text(left) == made:
-                return obj
-        except Exception:  # what can't be made on these objects is left to the library's answer
-            pass
-    return _filled(obj, wanted)
+# Stands in a dict where a member was removed, until the end: so it can come back to its place.
+_GONE = object()
+_ARRAYS = (list, tuple)
+_ATOMS = (str, int, float, type(None))
+_OTHER_MEMBER = {"add": "value", "remove": None, "replace": "value", "move": "from", "copy": "from", "test": "value"}
+_PLAIN, _PLAIN_LEVELS = 2**63, 10
 
 
-def _made_anew(obj: Any, operations: List[Dict[str, Any]]) -> Any:
-    for operation in operations:
-        obj = _step(obj, operation)
-    return obj
+class _Refused(Exception):
+    """An operation isn't made: the library's kind and status for that."""
+
+    def __init__(self, kind: int, status: int = REFUSED) -> None:
+        super().__init__(kind)
+        self.kind, self.status = kind, status
 
 
-def _step(obj: Any, operation: Dict[str, Any]) -> Any:
-    op, pointer = operation["op"], JsonPointer(operation["path"])
-    if op == "test":
-        return obj
-    value = operation.get("value")
-    if op in ("copy", "move"):
-        source = JsonPointer(operation["from"])
-        value = source.resolve(obj)
-        if op == "copy":
-            value = copied(value)
-        else:
-            _take(obj, source)
-    if op == "remove":
-        _take(obj, pointer)
-        return obj
-    if not pointer.parts:
+class _NotPlain(Exception):
+    """The library has to say whether this is a patch."""
+
+
+def changed(obj: Any, patch: Any, limits: Limits) -> Any:
+    """The object itself, changed by a patch within limits. Where the patch makes another document of it that
+    it can't hold, it returns that."""
+    run, operations = _Run(obj, limits), _operations(patch)
+    made = 0
+    try:
+        for operation in operations:
+            run.make(*operation)
+            made += 1
+    except _Refused as refused:
+        run.undo()
+        raise _fault(refused, made, patch) from None
+    except BaseException:
+        run.undo()
+        raise
+    run.clear()
+    return _filled(obj, run.root)
+
+
+def _fault(refused: _Refused, operation: int, patch: Any) -> Exception:
+    text = patch_text(patch)
+    return fault(refused.status, Report(0, operation, refused.kind), value_of(text)[operation]["path"], text)
+
+
+def _operations(patch: Any) -> List[_Operation]:
+    """The operations of a patch, their values copied. To ask the library takes longer than to make a few."""
+    try:
+        return [_read(operation, expects_no_more=True) for operation in _plain(patch, _PLAIN_LEVELS)]
+    except (_NotPlain, KeyError, TypeError, JsonPointerException):
+        text = patch_text(patch)
+        expect_patch(text)
+        return [_read(operation) for operation in value_of(text)]
+
+
+def _plain(value: Any, levels: int) -> Any:
+    """A copy of what is JSON for everyone, and has few levels. A TypeError, too, says that it isn't."""
+    kind = type(value)
+    if kind is str and value.isascii() or kind is bool or value is None or kind is int and -_PLAIN < value < _PLAIN:
         return value
-    _put(obj, pointer, value, op == "replace")
-    return obj
+    if kind is list and levels:
+        return [_plain(item, levels - 1) for item in value]
+    if kind is dict and levels and "".join(value).isascii():
+        return {name: _plain(member, levels - 1) for name, member in value.items()}
+    raise _NotPlain
 
 
-def _take(obj: Any, pointer: JsonPointer) -> None:
-    parent, part = pointer.to_last(obj)
-    del parent[part]
+def _read(operation: Dict[str, Any], expects_no_more: bool = False) -> _Operation:
+    op = operation["op"]
+    other = _OTHER_MEMBER[op]
+    if expects_no_more and len(operation) != 2 + bool(other):
+        raise _NotPlain
+    value = operation[other] if other else None
+    return op, JsonPointer(operation["path"]).parts, JsonPointer(value).parts if other == "from" else value
 
 
-def _put(obj: Any, pointer: JsonPointer, value: Any, replaces: bool) -> None:
-    parent, part = pointer.to_last(obj)
-    if isinstance(parent, list) and not replaces:
-        parent.insert(len(parent) if part == "-" else part, value)
-    else:
-        parent[part] = value
+class _Run:
+    """A patch on its way: the document, what takes each change back, where the marks are, and how much may
+    still be copied."""
+
+    def __init__(self, root: Any, limits: Limits) -> None:
+        self.root = root
+        self._depth, self._copied = limits.depth, limits.copied
+        self._log: List[Tuple[Any, ...]] = []
+        self._marks: List[Tuple[Dict[str, Any], str]] = []
+
+    def undo(self) -> None:
+        for change, *arguments in reversed(self._log):
+            change(*arguments)
+
+    def clear(self) -> None:
+        for members, name in self._marks:
+            if members.get(name) is _GONE:
+                del members[name]
+
+    def make(self, op: str, path: List[str], other: Any) -> None:
+        """`other` is the value, or where it comes from."""
+        if op == "remove":
+            self._take(path)
+        elif op == "test":
+            if not _are_same(self._at(path), other, has_marks=bool(self._marks)):
+                raise _Refused(TEST_FAILED)
+        elif op == "copy":
+            self._put(path, self._copy(other, path))
+        elif op == "move":
+            self._move(other, path)
+        else:
+            self._expect_depth(other, path)
+            (self._put if op == "add" else self._replace)(path, other)
+
+    def _expect_depth(self, value: Any, path: List[str]) -> None:
+        if is_deeper(value, self._depth - len(path)):
+            raise _Refused(TOO_DEEP, OVER)
+
+    def _copy(self, source: List[str], path: List[str]) -> Any:
+        value = self._at(source, NO_SOURCE)
+        self._expect_depth(value, path)
+        made, size = _copied(value, self._copied)
+        self._copied -= size
+        return made
+
+    def _move(self, source: List[str], path: List[str]) -> None:
+        """One that is over the limits is so before it is refused, but where there is nothing to move."""
+        is_inside = len(source) < len(path) and path[: len(source)] == source
+        value = self._at(source, INSIDE_ITSELF if is_inside else NO_SOURCE)
+        if len(source) < len(path):
+            self._expect_depth(value, path)
+        if is_inside or not source:
+            raise _Refused(INSIDE_ITSELF if is_inside else NO_SOURCE)
+        self._take(source)
+        self._put(path, value)
+
+    def _at(self, path: List[str], kind: int = NOWHERE) -> Any:
+        value = self.root
+        for token in path:
+            value = _child(value, token, kind)
+        return value
+
+    def _held(self, path: List[str]) -> Tuple[Any, Any, Any]:
+        """What holds the value there and is to be changed, its key or index, and the value."""
+        holder, last = self._at(path[:-1]), path[-1]
+        value = _child(holder, last)
+        return (holder, last, value) if isinstance(holder, dict) else (_list(holder), int(last), value)
+
+    def _take(self, path: List[str]) -> None:
+        if not path:
+            raise _Refused(NOWHERE)
+        holder, key, value = self._held(path)
+        if isinstance(holder, dict):
+            holder[key] = _GONE
+            self._marks.append((holder, key))
+            self._log.append((holder.__setitem__, key, value))
+        else:
+            del holder[key]
+            self._log.append((holder.insert, key, value))
+
+    def _replace(self, path: List[str], value: Any) -> None:
+        if not path:
+            return self._become(value)
+        holder, key, old = self._held(path)
+        holder[key] = value
+        self._log.append((holder.__setitem__, key, old))
+
+    def _put(self, path: List[str], value: Any) -> None:
+        if not path:
+            return self._become(value)
+        holder, last = self._at(path[:-1]), path[-1]
+        if isinstance(holder, dict):
+            back = (holder.__setitem__, last, holder[last]) if last in holder else (holder.__delitem__, last)
+            holder[last] = value
+        else:
+            place = _place(holder, last)
+            back = (holder.__delitem__, place)
+            holder.insert(place, value)
+        self._log.append(back)
+
+    def _become(self, value: Any) -> None:
+        self._log.append((setattr, self, "root", self.root))
+        self.root = value
+
+
+def _child(holder: Any, token: str, kind: int = NOWHERE) -> Any:
+    """The member or item of this name or index."""
+    found = _GONE
+    if isinstance(holder, dict):
+        found = holder.get(token, _GONE)
+    elif isinstance(holder, _ARRAYS) and is_index(token) and int(token) < len(holder):
+        found = holder[int(token)]
+    if found is _GONE:
+        raise _Refused(kind)
+    return found
+
+
+def _list(holder: Any) -> List[Any]:
+    if isinstance(holder, list):
+        return holder
+    raise TypeError("a tuple can't be changed in place")
+
+
+def _place(holder: Any, token: str) -> int:
+    """Where an item goes that is added at this index."""
+    if not isinstance(holder, _ARRAYS) or not (token == "-" or is_index(token)):
+        raise _Refused(NOWHERE)
+    place = len(holder) if token == "-" else int(token)
+    if place > len(_list(holder)):
+        raise _Refused(NOWHERE)
+    return place
+
+
+def _bytes(text: Any) -> int:
+    if isinstance(text, str):
+        return len(text) if text.isascii() else len(as_bytes(text))
+    raise TypeError(f"a member's name is a str, and not {type(text).__name__}")
+
+
+def _atom(value: Any) -> Any:
+    """What is no list and no dict, as json.dumps would write it."""
+    return value if isinstance(value, _ATOMS) else pointer_path(value)
+
+
+def _copied(value: Any, most: int) -> Tuple[Any, int]:
+    """New lists and dicts with the same content, each place with its own, and the size of that. It makes
+    no more than this allows."""
+    made: List[Any] = [None]
+    left: List[Tuple[Any, Any, Any]] = [(value, made, 0)]
+    size = 0
+    while left:
+        if size + len(left) > most:
+            raise _Refused(TOO_MUCH, OVER)
+        value, into, key = left.pop()
+        size += 1
+        if isinstance(value, dict):
+            members = {name: member for name, member in value.items() if member is not _GONE}
+            size += sum(map(_bytes, members))
+            into[key] = members
+            left += [(member, members, name) for name, member in members.items()]
+        elif isinstance(value, _ARRAYS):
+            into[key] = items = list(value)
+            left += [(item, items, index) for index, item in enumerate(value)]
+        else:
+            into[key] = atom = _atom(value)
+            size += _bytes(atom) if isinstance(atom, str) else 0
+    if size > most:
+        raise _Refused(TOO_MUCH, OVER)
+    return made[0], size
+
+
+def _are_same(value: Any, wanted: Any, has_marks: bool) -> bool:
+    """Whether a value is the one that a patch says."""
+    left = [(value, wanted)]
+    while left:
+        value, wanted = left.pop()
+        if isinstance(wanted, dict):
+            if not isinstance(value, dict) or _count(value, has_marks and len(value) > len(wanted)) != len(wanted):
+                return False
+            left += [(value.get(name, _GONE), member) for name, member in wanted.items()]
+        elif isinstance(wanted, list):
+            if not isinstance(value, _ARRAYS) or len(value) != len(wanted):
+                return False
+            left += zip(value, wanted)
+        elif value is _GONE or isinstance(value, CONTAINERS) or not _are_same_atoms(_atom(value), wanted):
+            return False
+    return True
+
+
+def _count(members: Dict[Any, Any], has_marks: bool) -> int:
+    return sum(member is not _GONE for member in members.values()) if has_marks else len(members)
+
+
+def _are_same_atoms(one: Any, other: Any) -> bool:
+    """Numbers are compared by what json.dumps writes of them, as in a text: 1e23 is 10**23, and no binary fraction."""
+    if isinstance(one, bool) or isinstance(other, bool):
+        return one is other
+    if isinstance(one, float) and isinstance(other, int) or isinstance(one, int) and isinstance(other, float):
+        from decimal import Decimal
+
+        one, other = (Decimal(float.__repr__(number)) if isinstance(number, float) else number for number in (one, other))
+    return bool(one == other)
 
 
 def _filled(obj: Any, made: Any) -> Any:
     """The object with another's content, where it can have that, and else the other."""
+    if obj is made:
+        return obj
     if isinstance(obj, list) and isinstance(made, list):
         obj[:] = made
     elif isinstance(obj, dict) and isinstance(made, dict):

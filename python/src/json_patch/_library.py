@@ -7,12 +7,14 @@ from __future__ import annotations
 
 import ctypes
 import os
-from pathlib import Path
-from typing import Any, Dict, List
 
 from ._processor import lacking
 from ._version import __version__
 from .limits import Limits
+
+TYPE_CHECKING = False
+if TYPE_CHECKING:
+    from typing import Any, Dict, List
 
 OK, REFUSED, NO_DOCUMENT, NO_PATCH, NO_MEMORY, NO_ROOM, CLOSED, NO_POINTER, NOTHING, OVER = range(10)
 
@@ -74,8 +76,8 @@ _CALLS: Dict[str, List[Any]] = {
 
 def _place() -> str:
     said = os.environ.get("JSON_PATCH_LIBRARY")
-    beside = Path(__file__).resolve().parent / "libjson_patch.so"
-    return said or (str(beside) if beside.exists() else f"libjson_patch.so.{__version__.split('.')[0]}")
+    beside = os.path.join(os.path.dirname(os.path.realpath(__file__)), "libjson_patch.so")
+    return said or (beside if os.path.exists(beside) else f"libjson_patch.so.{__version__.split('.')[0]}")
 
 
 def _loaded() -> ctypes.CDLL:

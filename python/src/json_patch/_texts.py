@@ -1,13 +1,15 @@
 """From objects to the texts that the library reads, and back."""
 from __future__ import annotations
 
-import json
-from contextlib import contextmanager
-from typing import Any, Iterator, Type, Union
-
 from ._depth import is_deep
 from .errors import JsonPatchException, NumberNotWhole, TooDeep, _InvalidNumber, _NoPatchText, _PatchTooDeep
 from .pointer import JsonPointer
+
+TYPE_CHECKING = False
+if TYPE_CHECKING:
+    from typing import Any, Callable, Type, TypeVar, Union
+
+    _Read = TypeVar("_Read")
 
 
 def pointer_path(value: object) -> str:
@@ -21,6 +23,8 @@ def _text(value: object, told: str, no_text: Type[JsonPatchException], not_whole
     """The text of an object. Where json.dumps has none: what is told of it, and what is raised for
     one that holds a number of some thousand digits, and for nan and infinity. How deep it nests is
     seen before: json.dumps goes by recursion, for which a thread's stack may be too small."""
+    import json
+
     try:
         return json.dumps(value, separators=(",", ":"), allow_nan=False, default=pointer_path).encode()
     except ValueError as error:
@@ -50,11 +54,10 @@ def expect_patch_depth(patch: object) -> None:
         raise _PatchTooDeep("patch: TooDeep", kind="TooDeep")
 
 
-@contextmanager
-def by_callers_code() -> Iterator[None]:
-    """Where a function that is the caller's can't read or write a patch for its depth, that is told."""
+def by_callers_code(call: Callable[[Any], _Read], patch: Any) -> _Read:
+    """What a function of the caller's reads or writes. Where it can't for the patch's depth, that is told."""
     try:
-        yield
+        return call(patch)
     except RecursionError as error:
         raise _PatchTooDeep("patch: TooDeep", kind="TooDeep") from error
 
@@ -65,16 +68,14 @@ def as_bytes(text: Union[str, bytes]) -> bytes:
 
 
 def value_of(text: bytes) -> Any:
-    """The object of a text that the library wrote."""
+    """The object of a text that the library wrote, or has checked."""
+    import json
+
     return json.loads(text)
 
 
 def indented(value: object, spaces: int) -> bytes:
     """The text of an object, each item on a line."""
+    import json
+
     return json.dumps(value, indent=spaces, ensure_ascii=False).encode()
-
-
-def sorted_text(value: object) -> bytes:
-    """The text of an object as the library would write it: names in byte order, which is that of their
-    code points, and no character escaped that needn't be."""
-    return json.dumps(value, separators=(",", ":"), ensure_ascii=False, sort_keys=True).encode()

@@ -1,23 +1,30 @@
 """Documents that the library keeps."""
 from __future__ import annotations
 
-import threading
 import warnings
-from types import TracebackType
-from typing import Any, Callable, Optional, Type, TypeVar, Union
 
 from ._calls import difference, fault, found, succeed, written
 from ._library import LIBRARY, NOTHING, OK, Handle, Report, bounds
 from ._texts import as_bytes, document_text, merge_patch_text, value_of
 from .errors import NothingToUndo
 from .limits import DEFAULT, Limits
-from .patch import JsonPatch, Patch, text_of
+from .patch import JsonPatch, text_of
+
+TYPE_CHECKING = False
+if TYPE_CHECKING:
+    from threading import local
+    from types import TracebackType
+    from typing import Any, Callable, Optional, Type, TypeVar, Union
+
+    from .patch import Patch
+
+    _Inverse = TypeVar("_Inverse")
+else:
+    # as threading does, which takes longer to import than this package
+    from _thread import _local as local
 
 
-_Inverse = TypeVar("_Inverse")
-
-
-class _Here(threading.local):
+class _Here(local):
     """What a thread is told by: `thread` is an object of its own. A thread's number is given to another
     when it has ended, and no other object is this one while it is kept."""
 

@@ -1,7 +1,9 @@
 """What the calls raise, and what each exception tells."""
 from __future__ import annotations
 
-from typing import Dict, Optional, Tuple, Type
+TYPE_CHECKING = False
+if TYPE_CHECKING:
+    from typing import Dict, Optional, Tuple, Type
 
 
 class _Told(Exception):
@@ -115,5 +117,7 @@ KINDS: Dict[int, Tuple[str, Type[_Told]]] = {
     22: ("MissingValue", InvalidJsonPatch),
     23: ("ValueNotWhole", _InvalidNumber),
 }
+# the kinds of an operation that isn't made
+TEST_FAILED, NO_SOURCE, NOWHERE, INSIDE_ITSELF, TOO_DEEP, TOO_MUCH = range(3, 9)
 # up to this kind a patch is at fault as a whole, and after it by one of its operations
 NOT_A_LIST = 11

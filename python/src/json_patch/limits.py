@@ -1,14 +1,11 @@
 """Limits: how many levels a document may have, and how much a patch may copy."""
 from __future__ import annotations
 
-from dataclasses import dataclass
-
 # the most levels that there may be, and the copies where no limit is given, as in json_patch.h
 MOST_LEVELS = 124
 MOST_COPIED = 500_000
 
 
-@dataclass(frozen=True)
 class Limits:
     """What a call keeps to, for patches of strangers: no document has more than `depth` levels, of which
     1 has none and [[1]] has two, and the copies of one patch add at most `copied`. There a value counts
@@ -21,14 +18,29 @@ class Limits:
     ValueError, where one is negative, or `depth` more than 124; TypeError, where one is no int.
     """
 
-    depth: int = MOST_LEVELS
-    copied: int = MOST_COPIED
+    def __init__(self, depth: int = MOST_LEVELS, copied: int = MOST_COPIED) -> None:
+        _expect_number("depth", depth)
+        _expect_number("copied", copied)
+        if depth > MOST_LEVELS:
+            raise ValueError(f"depth is {depth}, and at most {MOST_LEVELS}")
+        self._depth, self._copied = depth, copied
 
-    def __post_init__(self) -> None:
-        _expect_number("depth", self.depth)
-        _expect_number("copied", self.copied)
-        if self.depth > MOST_LEVELS:
-            raise ValueError(f"depth is {self.depth}, and at most {MOST_LEVELS}")
+    @property
+    def depth(self) -> int:
+        return self._depth
+
+    @property
+    def copied(self) -> int:
+        return self._copied
+
+    def __eq__(self, other: object) -> bool:
+        return isinstance(other, Limits) and (self.depth, self.copied) == (other.depth, other.copied)
+
+    def __hash__(self) -> int:
+        return hash((self.depth, self.copied))
+
+    def __repr__(self) -> str:
+        return f"Limits(depth={self.depth}, copied={self.copied})"
 
 
 def _expect_number(name: str, value: object) -> None:

@@ -1,9 +1,6 @@
 """Patches, and the calls that apply them to Python's objects."""
 from __future__ import annotations
 
-import json
-from typing import Any, Callable, Iterator, List, Mapping, Optional, Sequence, Tuple, Type, TypeVar, Union
-
 from ._calls import called, difference, expect_patch
 from ._in_place import changed
 from ._depth import shown
@@ -14,11 +11,15 @@ from ._texts import (
 from .limits import DEFAULT, Limits
 from .pointer import JsonPointer
 
-Operation = Mapping[str, Any]
-# what is read as a patch: operations, a JSON text, or a JsonPatch
-Patch = Union["JsonPatch", str, bytes, Sequence[Operation]]
+TYPE_CHECKING = False
+if TYPE_CHECKING:
+    from typing import Any, Callable, Iterator, List, Mapping, Optional, Sequence, Tuple, Type, TypeVar, Union
 
-_Made = TypeVar("_Made", bound="JsonPatch")
+    Operation = Mapping[str, Any]
+    # what is read as a patch: operations, a JSON text, or a JsonPatch
+    Patch = Union["JsonPatch", str, bytes, Sequence[Operation]]
+
+    _Made = TypeVar("_Made", bound="JsonPatch")
 
 
 class JsonPatch:
@@ -41,9 +42,7 @@ class JsonPatch:
     @classmethod
     def from_string(cls, patch_str: Union[str, bytes], loads: Optional[Callable[[Any], Any]] = None) -> JsonPatch:
         """The patch that a JSON text says, read by the library, or by `loads`."""
-        with by_callers_code():
-            operations = (loads or cls.json_loader)(patch_str)
-        return cls(operations)
+        return cls(by_callers_code(loads or cls.json_loader, patch_str))
 
     @classmethod
     def from_diff(
@@ -68,10 +67,12 @@ class JsonPatch:
         """The operations of a text, of which the library says whether it is a patch."""
         text = as_bytes(patch_str)
         expect_patch(text)
-        return json.loads(text)
+        return value_of(text)
 
     @staticmethod
     def json_dumper(value: Any) -> str:
+        import json
+
         expect_patch_depth(value)
         return json.dumps(value, default=pointer_path)
 
@@ -84,15 +85,14 @@ class JsonPatch:
 
     def to_string(self, dumps: Optional[Callable[[Any], str]] = None) -> str:
         """The patch as a JSON text."""
-        with by_callers_code():
-            return (dumps or self.json_dumper)(self.patch)
+        return by_callers_code(dumps or self.json_dumper, self.patch)
 
     def apply(self, obj: Any, in_place: bool = False, *, limits: Limits = DEFAULT) -> Any:
         """What the patch leaves of an object, which stays as it is. With `in_place` it is the object
-        itself that is changed, and returned; a document that is no list or dict can't be. It is changed
-        by Python, once the library has accepted the patch: an interrupt then, or want of memory, can
-        leave it part-way. OverLimit, where an operation is over the limits, and TooDeep, where the object
-        is.
+        itself that is changed, by Python, and returned; a document that is no list or dict can't be. The time goes
+        with the patch, and not with the object, which isn't read as a whole: its numbers may be any, and
+        where the patch doesn't look anything may stand. OverLimit, where an operation is over the limits, and without
+        `in_place` TooDeep, where the object is.
 
         >>> document = {"a": [1]}
         >>> rows = document["a"]
@@ -101,9 +101,9 @@ class JsonPatch:
         >>> rows
         [1, 2]
         """
-        document, patch = document_text(obj), patch_text(self.patch)
-        made = called(LIBRARY.json_patch_apply_within, document, patch, limits)
-        return changed(obj, patch, made) if in_place else value_of(made)
+        if in_place:
+            return changed(obj, self.patch, limits)
+        return value_of(called(LIBRARY.json_patch_apply_within, document_text(obj), patch_text(self.patch), limits))
 
     def record(self, obj: Any, *, limits: Limits = DEFAULT) -> Tuple[Any, JsonPatch]:
         """What the patch leaves of an object, and the patch that leads back, within limits.
@@ -117,6 +117,8 @@ class JsonPatch:
 
     def _key(self) -> str:
         """What two patches share that are equal: the order of members is none of it."""
+        import json
+
         return json.dumps(value_of(patch_text(self.patch)), sort_keys=True)
 
     def __eq__(self, other: object) -> bool:
@@ -157,6 +159,8 @@ def text_of(patch: Patch) -> bytes:
 def apply_patch(doc: Any, patch: Patch, in_place: bool = False, *, limits: Limits = DEFAULT) -> Any:
     """What a patch, as a list of operations, a JSON text or a JsonPatch, leaves of a document, within
     limits."""
+    if in_place and isinstance(patch, list):
+        return changed(doc, patch, limits)
     return _as_patch(patch).apply(doc, in_place, limits=limits)
 
 

@@ -1,18 +1,18 @@
 """JSON pointers (RFC 6901) into Python's objects, with the names of the package jsonpointer."""
 from __future__ import annotations
 
-import copy
-import re
-from collections.abc import Mapping, Sequence
-from typing import Any, Dict, Iterable, List, Tuple, Union
+# collections.abc takes all of collections
+from _collections_abc import Mapping, Sequence
 
 from ._depth import is_deep, shown
 from .errors import JsonPointerException, _PastTheEnd
 
-_NO_ESCAPE = re.compile("~(?![01])")
+TYPE_CHECKING = False
+if TYPE_CHECKING:
+    from typing import Any, Dict, Iterable, List, Tuple, Union
+
 # No list has so many items that an index of more digits could be one of them.
-_INDEX = re.compile("0|[1-9][0-9]{0,18}")
-_NUMBER = re.compile("0|[1-9][0-9]*")
+_MOST_DIGITS = 19
 _NO_DEFAULT = object()
 
 
@@ -28,6 +28,14 @@ class EndOfList:
 
 def _is_list(value: object) -> bool:
     return isinstance(value, Sequence) and not isinstance(value, (str, bytes, bytearray))
+
+
+def _is_number(part: str) -> bool:
+    return part.isdigit() and part.isascii() and (part[0] != "0" or part == "0")
+
+
+def is_index(part: str) -> bool:
+    return len(part) <= _MOST_DIGITS and _is_number(part)
 
 
 def _escaped(part: str) -> str:
@@ -61,6 +69,8 @@ def copied(value: Any) -> Any:
 
 
 def _copied_by_itself(value: Any, known: Dict[int, Any]) -> Any:
+    import copy
+
     _expect_depth(value)
     try:
         return copy.deepcopy(value, known)
@@ -80,12 +90,13 @@ class JsonPointer:
     def __init__(self, pointer: str) -> None:
         if not isinstance(pointer, str):
             raise TypeError(f"a pointer is a str, and not {type(pointer).__name__}")
-        if _NO_ESCAPE.search(pointer):
+        escapes = pointer.count("~")
+        if escapes and escapes != pointer.count("~0") + pointer.count("~1"):
             raise JsonPointerException(f"pointer {pointer!r}: NoPointer, ~ stands before 0 or 1", kind="NoPointer", path=pointer)
         first, *parts = pointer.split("/")
         if first:
             raise JsonPointerException(f"pointer {pointer!r}: NoPointer, it begins with /", kind="NoPointer", path=pointer)
-        self.parts = [part.replace("~1", "/").replace("~0", "~") for part in parts]
+        self.parts = [part.replace("~1", "/").replace("~0", "~") for part in parts] if escapes else parts
 
     @classmethod
     def from_parts(cls, parts: Iterable[object]) -> JsonPointer:
@@ -114,9 +125,9 @@ class JsonPointer:
         if isinstance(doc, Mapping) or (_is_list(doc) and part == "-"):
             return part
         if _is_list(doc):
-            if not _NUMBER.fullmatch(str(part)):
+            if not _is_number(str(part)):
                 raise JsonPointerException(f"{part!r} is no index", kind="Nothing")
-            if not _INDEX.fullmatch(str(part)):
+            if not is_index(str(part)):
                 raise _PastTheEnd(f"the index {part} is past the end", kind="Nothing")
             return int(str(part))
         if hasattr(doc, "__getitem__") and not isinstance(doc, (str, bytes, bytearray)):

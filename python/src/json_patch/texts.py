@@ -1,16 +1,20 @@
 """Patches on JSON texts, of which every byte is kept that no operation changes."""
 from __future__ import annotations
 
-from typing import Any, TypeVar
-
 from ._calls import called, found, merged
 from ._library import LIBRARY
 from ._texts import as_bytes, merge_patch_text
 from .limits import DEFAULT, Limits
-from .patch import Patch, text_of
+from .patch import text_of
 
-# what comes back is what was handed in
-_Text = TypeVar("_Text", str, bytes)
+TYPE_CHECKING = False
+if TYPE_CHECKING:
+    from typing import Any, TypeVar
+
+    from .patch import Patch
+
+    # what comes back is what was handed in
+    _Text = TypeVar("_Text", str, bytes)
 
 
 def apply_text(text: _Text, patch: Patch, *, limits: Limits = DEFAULT) -> _Text:
