@@ -1,15 +1,19 @@
 -- What is made of bytes that are texts, and why nothing is: a fault of a text is one of a call's reasons.
-use Rattle.std.proofs.Common.{◌≡◌, ◌≤◌, [], ◌∷◌, inl, inr, ℕ, List, arith, refl, subst, sym}
+use Rattle.std.proofs.Common.{◌≡◌, ◌≤◌, ◌↔◌, [], ◌∷◌, inl, inr, ℕ, List, arith, refl, subst, sym}
 use Rattle.std.specs.Prelude.{IsUtf8, length, max}
 use Rattle.std.proofs.Math.Nat.{max-le}
 use Rattle.json_lexemes.specs.Skipped.{nesting}
 use Rattle.json_text.specs.declared.fault.TextFault.TheVariants as text
 use Rattle.json.specs.Json.{Json}
 use Rattle.json_lexemes.specs.Spelled.{Says}
+use Rattle.json_diff_text.specs.Differences.{IsDiffTextFault, IsFewBetween, IsPlainPatch, SaySame}
+use Rattle.json_diff_text.specs.declared.fault.DiffTextFault.{DiffTextFault}
+use Rattle.json_diff_text.specs.declared.fault.DiffTextFault.TheVariants as diff
 use Rattle.json_merge_text.specs.Merged.{IsMergeOver, IsMergedAlready, IsMergedText, SaysMerged}
 use Rattle.json_merge_text.specs.Merged.{most_bytes as merged_bytes}
 use Rattle.json_patch.specs.LimitKind.TheVariants.{TooMuch}
 use Rattle.json_patch.specs.Limits.{Limits}
+use Rattle.json_patch_text.specs.Operations.{SaysOperations}
 use Rattle.json_patch_text.specs.Patched.{AcceptsPatch, IsPatchedText}
 use Rattle.json_patch_text.specs.Within.{IsPatchedWithin, IsTextLimitFault, IsTextWithin, most_bytes}
 use Rattle.json_patch_text.specs.Stopped.{IsUnread}
@@ -20,9 +24,9 @@ use Rattle.json_patch_text.specs.declared.fault.TextLimitFault.TheVariants as wi
 use Rattle.json_patch_bytes.specs.Failures.{IsFailure}
 use Rattle.json_patch_bytes.specs.declared.failure.Failure.{Failure}
 use Rattle.json_patch_bytes.specs.declared.failure.Failure.TheVariants as failure
-use Rattle.json_patch_text_bytes.specs.Failures.{IsOfText, IsTold, of_fault, of_reading}
-use Rattle.json_patch_text_bytes.specs.Reasons.{of_check, of_patch, of_text}
-use Rattle.json_patch_text_bytes.specs.Texts.{IsJsonText, IsMergedInto, IsMergedOver, IsPatched}
+use Rattle.json_patch_text_bytes.specs.Failures.{IsOfText, IsTold, of_diff_fault, of_fault, of_reading}
+use Rattle.json_patch_text_bytes.specs.Reasons.{of_check, of_merge, of_patch, of_text, of_two}
+use Rattle.json_patch_text_bytes.specs.Texts.{IsDifference, IsJsonText, IsMergedInto, IsMergedOver, IsPatched}
 
 -- the failure of the document's text is one of the call's
 own_failure : (l : Limits) (document patch : List ℕ) (failure : Failure) → IsFailure (of_text l.depth document) failure → IsFailure (of_patch l document patch) failure
@@ -112,3 +116,60 @@ is_merged_over l document patch d p same same_patch text flat over =
     let at : IsMergedOver l document p (record { operation = 0; kind = TooMuch }) =
     ((text, subst (λ s. (j : Json) × Says s j) same (kept.0, kept.2), flat), refl, subst (λ s. IsMergeOver l.copied s p) same over) in
     subst (λ s. IsMergedOver l document s (record { operation = 0; kind = TooMuch })) same_patch at
+
+-- ---- a document's text and a second
+
+own_of_two : (levels : ℕ) (document second : List ℕ) (failure : Failure) → IsFailure (of_text levels document) failure → IsFailure (of_two levels document second) failure
+own_of_two levels document second (failure.NoDocument kind) own = own
+own_of_two levels document second (failure.NoPatch operation kind) own = absurd own
+own_of_two levels document second (failure.Refused e) own = absurd own
+own_of_two levels document second (failure.Over e) own = absurd own
+own_of_two levels document second failure.Memory own = tt
+
+pub told_of_two : (levels : ℕ) (document second : List ℕ) (failure told : Failure) → (IsOfText failure → IsJsonText levels document → IsFailure (of_two levels document second) failure) → IsOfText failure
+    → IsTold levels document failure told → IsFailure (of_two levels document second) told
+told_of_two levels document second failure told holds speaks (inl own) = own_of_two levels document second told own
+told_of_two levels document second failure told holds speaks (inr (same, is)) = subst (IsFailure (of_two levels document second)) (sym same) (holds speaks (is speaks))
+
+pub merge_of_two : (l : Limits) (document patch : List ℕ) (failure : Failure) → IsFailure (of_two l.depth document patch) failure → IsFailure (of_merge l document patch) failure
+merge_of_two l document patch (failure.NoDocument kind) why = why
+merge_of_two l document patch (failure.NoPatch operation kind) why = why
+merge_of_two l document patch (failure.Refused e) why = absurd why
+merge_of_two l document patch (failure.Over e) why = absurd why
+merge_of_two l document patch failure.Memory why = tt
+
+-- ---- a difference
+
+pub is_difference : (l : Limits) (from to a b patch : List ℕ) → a ≡ from → b ≡ to → IsUtf8 from → nesting from ≤ l.depth → IsUtf8 to → nesting to ≤ l.depth
+    → AcceptsPatch a patch b → IsPlainPatch a patch → (SaysOperations patch [] ↔ SaySame a b) → IsFewBetween a b patch → IsDifference l from to patch
+is_difference l from to a b patch same same_to utf8 flat utf8_to flat_to leads plain nothing few =
+    let at : IsDifference l a b patch = record {
+      first = (subst IsUtf8 (sym same) utf8, (leads.2.0, leads.2.2), subst (λ s. nesting s ≤ l.depth) (sym same) flat);
+      second = (subst IsUtf8 (sym same_to) utf8_to, (leads.2.1, leads.2.3), subst (λ s. nesting s ≤ l.depth) (sym same_to) flat_to);
+      leads = leads;
+      plain = plain;
+      nothing = nothing;
+      few = few;
+    } in
+    subst (λ s. IsDifference l s to patch) same (subst (λ s. IsDifference l a s patch) same_to at)
+
+diff_failure : (levels : ℕ) (from to : List ℕ) (fault : DiffTextFault) → levels ≤ 124 → (IsOfText (of_diff_fault fault) → IsJsonText levels from) → nesting to ≤ levels
+    → IsDiffTextFault from to fault → IsFailure (of_two levels from to) (of_diff_fault fault)
+diff_failure levels from to (diff.From text.NotJson) few is fits why = absurd (why (is tt).1.0 (is tt).1.1)
+diff_failure levels from to (diff.From text.TooDeep) few is fits why = absurd (omega (arith, few, (is tt).2, why))
+diff_failure levels from to (diff.From (text.Memory m)) few is fits why = tt
+diff_failure levels from to (diff.To text.NotJson) few is fits why = (is tt, refl, inr (refl, λ u. (fits, why)))
+diff_failure levels from to (diff.To text.TooDeep) few is fits why = absurd (omega (arith, few, fits, why))
+diff_failure levels from to (diff.To (text.Memory m)) few is fits why = absurd why
+diff_failure levels from to (diff.Memory m) few is fits why = tt
+
+told_difference : (levels : ℕ) (from to : List ℕ) (fault : DiffTextFault) (told : Failure) → levels ≤ 124 → nesting to ≤ levels → IsDiffTextFault from to fault
+    → IsTold levels from (of_diff_fault fault) told → IsFailure (of_two levels from to) told
+told_difference levels from to fault told few fits why (inl own) = own_of_two levels from to told own
+told_difference levels from to fault told few fits why (inr (same, is)) = subst (IsFailure (of_two levels from to)) (sym same) (diff_failure levels from to fault few is fits why)
+
+pub is_no_difference : (levels : ℕ) (from to a b : List ℕ) (fault : DiffTextFault) (failure told : Failure) → a ≡ from → b ≡ to → levels ≤ 124 → nesting to ≤ levels
+    → IsDiffTextFault a b fault → failure ≡ of_diff_fault fault → IsTold levels from failure told → IsFailure (of_two levels from to) told
+is_no_difference levels from to a b fault failure told same same_to few fits why of first =
+    let here : IsDiffTextFault from to fault = subst (λ s. IsDiffTextFault s to fault) same (subst (λ s. IsDiffTextFault a s fault) same_to why) in
+    told_difference levels from to fault told few fits here (subst (λ f. IsTold levels from f told) of first)
