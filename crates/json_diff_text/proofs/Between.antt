@@ -1,5 +1,5 @@
 -- The patch between two trees, and its text.
-use Rattle.std.proofs.Common.{◌≡◌, ◌<◌, ◌≤◌, ◌+◌, ℕ, zero, suc, List, [], ◌∷◌, length, ◌↔◌, ◌⊎◌, ⊎_elim, inl, inr, Some, None, Ordering, Less, Equal, Greater, Bool, false, max, map, refl, sym, ap, ap₂, ◌∙◌, subst, arith}
+use Rattle.std.proofs.Common.{◌≡◌, ◌<◌, ◌≤◌, ◌+◌, ℕ, zero, suc, List, [], ◌∷◌, length, ◌↔◌, ◌⊎◌, inl, inr, Some, None, Ordering, Less, Equal, Greater, Bool, false, max, map, refl, sym, ap, ap₂, ◌∙◌, subst, arith}
 use Rattle.std.specs.Bool.{Decides}
 use Rattle.std.specs.Prelude.{codes, IsSome}
 use Rattle.std.specs.Ordering.{nat_cmp, match_ordering}
@@ -30,15 +30,14 @@ use Rattle.json_reading.proofs.Told.{some_reading}
 use Rattle.json_reading.proofs.Documents.{IsDocument-data_of}
 use Rattle.json_reading.proofs.Trees.{one_document, same_exactly}
 use Rattle.json_patch_text.specs.Patched.{AcceptsPatch}
-use Rattle.json_diff_text.specs.Differences.{IsFewBetween, IsNeverTooDeep, IsPlainPatch, IsTextOf, IsTreePatch, KeepsWithin, SaySame}
+use Rattle.json_diff_text.specs.Differences.{IsFewBetween, IsPlainPatch, IsTextOf, IsTreePatch, SaySame}
 use Rattle.json_diff_text.specs.Numerals.{numeral, numeral_at, tree_of, tree_items, tree_members, tree_op, tree_ops, read_as, StandsFor, AreNumbers}
 use Rattle.json_patch_text.specs.Operations.{TreeOperation, tree_fields, HasFields, ReadsTrees, ReadsTreePatch, SaysOperations}
 use Rattle.json_diff_text.specs.Renumbered.{renumbered, renumbered_items, renumbered_members}
 use Rattle.json_patch_diff.specs.Size.{values}
-use Rattle.json_patch_limits.specs.OverLimits.{AreShallow, NeverOver}
-use Rattle.json_patch_limits.specs.declared.limits.Limits.{Limits}
+use Rattle.json_patch_limits.specs.OverLimits.{AreShallow}
 use Rattle.json_patch_text.specs.Run.{AcceptsTree}
-use Rattle.json_diff_text.proofs.Levels.{all_fit_more, depth_is, keeps_within, never_too_deep, patch_fits, values_are}
+use Rattle.json_diff_text.proofs.Levels.{depth_is, values_are}
 use Rattle.json_diff_text.proofs.Standing.{leads, plain_there, stands_now}
 
 -- ---- a document with its numerals can be written
@@ -178,13 +177,12 @@ nothing_between i j text e same = record {
   plain = λ r. tt;
   nothing = ((λ n. same), (λ s. refl));
   few = λ r. omega arith;
-  fit = tt;
   readable = none_nests text e;
 }
 
 -- what `diff` promises of the operations between the two documents
 abbrev pub IsBetween : Data → Data → List Operation → Type 0
-IsBetween d e ops = AreWhole ops × ArePlain d ops × IsAccepted d ops e × (length ops ≤ values d + values e) × ((recorded : Bool) (l : Limits) → depth e ≤ l.depth → NeverOver recorded l d ops)
+IsBetween d e ops = AreWhole ops × ArePlain d ops × IsAccepted d ops e × (length ops ≤ values d + values e)
 
 op_count : (ts : List (List ℕ)) (ops : List Operation) → length (tree_ops ts ops) ≡ length ops
 op_count ts [] = refl
@@ -195,7 +193,7 @@ values_there ts d j r h = ap values (sym (stands_now ts d j r h)) ∙ values_are
 
 pub edits_between : (ts : List (List ℕ)) (i j : Json) (d e : Data) (ops : List Operation) (text : List ℕ) → (SameTree i j → ⊥) → StandsFor ts d i → StandsFor ts e j → IsDocument d → IsBetween d e ops
     → IsTextOf text (tree_ops ts ops) → IsTreePatch i j text
-edits_between ts i j d e ops text apart at_i at_j hd (hv, plain, accepted, few, never) (says, low) =
+edits_between ts i j d e ops text apart at_i at_j hd (hv, plain, accepted, few) (says, low) =
     let leads_there : AcceptsTree i (tree_ops ts ops) j = leads ts i j d e ops at_i at_j hd hv accepted.accepts in
     record {
       ops = tree_ops ts ops;
@@ -204,7 +202,6 @@ edits_between ts i j d e ops text apart at_i at_j hd (hv, plain, accepted, few, 
       plain = plain_there ts i d ops at_i hd hv plain;
       nothing = (same_of i j (tree_ops ts ops) leads_there, (λ s. absurd (apart s)));
       few = λ r. let n = op_count ts ops in let a = values_there ts d i r at_i in let b = values_there ts e j r at_j in omega (arith, n, a, b, few);
-      fit = patch_fits ts d e (tree.depth j) ops plain never (stands_depth ts e j at_j);
       readable = low;
     }
 
@@ -234,19 +231,6 @@ nothing_exactly from to text i j a b h = (none h.says, some h.says)
     some : SaysOperations text h.ops → SaySame from to → SaysOperations text []
     some (p, says, reads) (k, l, c, d, same) =
         (p, says, subst (ReadsTreePatch p) (h.nothing.1 (subst (λ x. SameTree x j) (one_tree from k i c a) (subst (λ x. SameTree k x) (one_tree to l j d b) same))) reads)
-
-pub patch_keeps : (from to text : List ℕ) (i j : Json) → Says from i → Says to j → IsTreePatch i j text → KeepsWithin (max (nesting from) (nesting to)) from text
-patch_keeps from to text i j a b h =
-    let n = nests to j b in
-    let le : tree.depth j ≤ max (nesting from) (nesting to) = omega (arith, n) in
-    let low : nesting from ≤ max (nesting from) (nesting to) = omega arith in
-    keeps_within (max (nesting from) (nesting to)) from text h.ops h.says (all_fit_more (tree.depth j) (max (nesting from) (nesting to)) h.ops le h.fit) low
-
-pub patch_never : (from to text : List ℕ) (i j : Json) → Says from i → Says to j → (max_depth < nesting from → ⊥) → tree.depth j ≤ max_depth → IsTreePatch i j text → IsNeverTooDeep (max (nesting from) (nesting to)) from text
-patch_never from to text i j a b shallow low h =
-    let n = nests to j b in
-    let m : nesting from ≤ max_depth = ⊎_elim (λ deep. absurd (shallow deep)) (λ le. le) (cases_lt max_depth (nesting from)) in
-    never_too_deep (max (nesting from) (nesting to)) from text (omega (arith, n, m, low)) (patch_keeps from to text i j a b h)
 
 -- ---- its faults
 

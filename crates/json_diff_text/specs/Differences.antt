@@ -1,24 +1,16 @@
 -- The patch between two texts (RFC 6902), as text.
-use Rattle.std.specs.Prelude.{◌≡◌, ◌↔◌, ◌<◌, ◌≤◌, ◌+◌, ℕ, List, [], ◌∷◌, length, take, ⊤}
+use Rattle.std.specs.Prelude.{◌≡◌, ◌↔◌, ◌<◌, ◌≤◌, ◌+◌, ℕ, List, [], length, ⊤}
 use Rattle.json.specs.Json.{Json, max_depth}
-use Rattle.json.specs.Tree.{depth}
 use Rattle.json_lexemes.specs.Skipped.{nesting}
 use Rattle.json_lexemes.specs.Spelled.{Says}
 use Rattle.json_patch_diff.specs.Size.{values}
 use Rattle.json_patch_laws.specs.Inverse.{ArePlain}
-use Rattle.json_patch_limits.specs.declared.limits.LimitError.{LimitError}
-use Rattle.json_patch_limits.specs.declared.limits.LimitKind.TheVariants.{TooMuch}
-use Rattle.json_patch_limits.specs.declared.limits.Limits.{Limits}
 use Rattle.json_reading.specs.Reading.{Reading}
 use Rattle.json_reading.specs.Same.{SameTree}
 use Rattle.json_reading.specs.Trees.{data_of}
-use Rattle.json_patch_text.specs.Made.{AreMadeIn, IsNoText}
-use Rattle.json_patch_text.specs.Operations.{TreeOperation, add, remove, replace, move, copy, test, SaysOperations, all_under}
-use Rattle.json_patch_text.specs.Patched.{HasTexts, IsPatchTextFault}
+use Rattle.json_patch_text.specs.Made.{IsNoText}
+use Rattle.json_patch_text.specs.Operations.{TreeOperation, SaysOperations, all_under}
 use Rattle.json_patch_text.specs.Run.{AcceptsTree}
-use Rattle.json_patch_text.specs.Within.{NamesFirstOver}
-use Rattle.json_patch_text.specs.declared.fault.PatchTextFault.TheVariants as patched
-use Rattle.json_patch_text.specs.declared.operation.TextOperation.{TextOperation}
 use Rattle.json_diff_text.specs.declared.fault.DiffTextFault.{DiffTextFault}
 use Rattle.json_diff_text.specs.declared.fault.DiffTextFault.TheVariants.{From, To, Memory}
 use Rattle.json_text.specs.declared.fault.TextFault.{TextFault}
@@ -48,14 +40,6 @@ AreFew i j ops = (r : Reading) → length ops ≤ values (data_of r i) + values 
 abbrev pub IsFewBetween : List ℕ → List ℕ → List ℕ → Type 0
 IsFewBetween from to patch = (i j : Json) × (ops : List TreeOperation) × Says from i × Says to j × SaysOperations patch ops × AreFew i j ops
 
--- no text on the way, from the first to the last, nests deeper
-abbrev pub KeepsWithin : ℕ → List ℕ → List ℕ → Type 0
-KeepsWithin levels text patch = (os : List TextOperation) (k : ℕ) (left : List ℕ) → HasTexts patch os → AreMadeIn text (take k os) left → nesting left ≤ levels
-
--- `patch_text` never finds a text on the way too deep, nor does `patch_text_within` within so many levels
-abbrev pub IsNeverTooDeep : ℕ → List ℕ → List ℕ → Type 0
-IsNeverTooDeep levels text patch = ((k : ℕ) → IsPatchTextFault text patch (patched.TooDeep k) → ⊥) × ((l : Limits) (e : LimitError) → levels ≤ l.depth → NamesFirstOver l text patch e → e.kind ≡ TooMuch)
-
 -- why the second text isn't read, but for want of memory
 abbrev pub IsNoGoal : List ℕ → TextFault → Type 0
 IsNoGoal to text.NotJson = (j : Json) → ¬ Says to j
@@ -74,19 +58,6 @@ IsDiffTextFault from to (Memory m) = ⊤
 abbrev pub IsTextOf : List ℕ → List TreeOperation → Type 0
 IsTextOf s ops = SaysOperations s ops × (nesting s ≤ max_depth)
 
--- what the operation puts reaches so many levels at the most, and it is an add, remove or replace
-abbrev pub Fits : ℕ → TreeOperation → Type 0
-Fits levels (add P w) = length P + depth w ≤ levels
-Fits levels (remove P) = ⊤
-Fits levels (replace P w) = length P + depth w ≤ levels
-Fits levels (move F P) = ⊥
-Fits levels (copy F P) = ⊥
-Fits levels (test P w) = ⊥
-
-abbrev pub AllFit : ℕ → List TreeOperation → Type 0
-AllFit levels [] = ⊤
-AllFit levels (op ∷ ops) = Fits levels op × AllFit levels ops
-
 -- the text says operations that lead from the one tree to the other
 pub record IsTreePatch (i j : Json) (s : List ℕ) : Type 0 where
   pub ops : List TreeOperation
@@ -95,5 +66,4 @@ pub record IsTreePatch (i j : Json) (s : List ℕ) : Type 0 where
   pub plain : ArePlainOn i ops
   pub nothing : (ops ≡ []) ↔ SameTree i j
   pub few : AreFew i j ops
-  pub fit : AllFit (depth j) ops
   pub readable : nesting s ≤ max_depth

@@ -6,9 +6,7 @@ use Rattle.json_lexemes.specs.Skipped.{nesting}
 use Rattle.json_text.specs.declared.fault.TextFault.TheVariants as text
 use Rattle.json.specs.Json.{Json}
 use Rattle.json_lexemes.specs.Spelled.{Says}
-use Rattle.json_diff_text.specs.Differences.{IsDiffTextFault, IsFewBetween, IsPlainPatch, SaySame}
-use Rattle.json_diff_text.specs.declared.fault.DiffTextFault.{DiffTextFault}
-use Rattle.json_diff_text.specs.declared.fault.DiffTextFault.TheVariants as diff
+use Rattle.json_diff_text.specs.Differences.{IsFewBetween, IsPlainPatch, SaySame}
 use Rattle.json_merge_text.specs.Merged.{IsMergeOver, IsMergedAlready, IsMergedText, SaysMerged}
 use Rattle.json_merge_text.specs.Merged.{most_bytes as merged_bytes}
 use Rattle.json_patch.specs.LimitKind.TheVariants.{TooMuch}
@@ -16,16 +14,14 @@ use Rattle.json_patch.specs.Limits.{Limits}
 use Rattle.json_patch_text.specs.Operations.{SaysOperations}
 use Rattle.json_patch_text.specs.Patched.{AcceptsPatch, IsPatchedText}
 use Rattle.json_patch_text.specs.Within.{IsPatchedWithin, IsTextLimitFault, IsTextWithin, most_bytes}
-use Rattle.json_patch_text.specs.Stopped.{IsUnread}
-use Rattle.json_patch_text.specs.declared.fault.PatchTextFault.{PatchTextFault}
 use Rattle.json_patch_text.specs.declared.fault.PatchTextFault.TheVariants as run
 use Rattle.json_patch_text.specs.declared.fault.TextLimitFault.{TextLimitFault}
 use Rattle.json_patch_text.specs.declared.fault.TextLimitFault.TheVariants as within
 use Rattle.json_patch_bytes.specs.Failures.{IsFailure}
 use Rattle.json_patch_bytes.specs.declared.failure.Failure.{Failure}
 use Rattle.json_patch_bytes.specs.declared.failure.Failure.TheVariants as failure
-use Rattle.json_patch_text_bytes.specs.Failures.{IsOfText, IsTold, of_diff_fault, of_fault, of_reading}
-use Rattle.json_patch_text_bytes.specs.Reasons.{of_check, of_merge, of_patch, of_text, of_two}
+use Rattle.json_patch_text_bytes.specs.Failures.{IsOfText, IsTold, of_fault}
+use Rattle.json_patch_text_bytes.specs.Reasons.{of_patch, of_text}
 use Rattle.json_patch_text_bytes.specs.Texts.{IsDifference, IsJsonText, IsMergedInto, IsMergedOver, IsPatched}
 
 -- the failure of the document's text is one of the call's
@@ -50,20 +46,7 @@ run_failure l document patch (within.Patch (run.Refused e)) few is utf8 fits why
 run_failure l document patch (within.Patch (run.TooDeep k)) few is utf8 fits why = absurd (omega (arith, few, why.0))
 run_failure l document patch (within.Patch (run.Memory m)) few is utf8 fits why = tt
 
-check_failure : (patch : List ℕ) (fault : PatchTextFault) → IsUtf8 patch → nesting patch ≤ 127 → IsUnread patch fault → IsFailure (of_check patch) (of_reading fault)
-check_failure patch (run.Document f) utf8 fits why = absurd why
-check_failure patch (run.Patch text.NotJson) utf8 fits why = inl (refl, inr (refl, λ u. (fits, why)))
-check_failure patch (run.Patch text.TooDeep) utf8 fits why = absurd (omega (arith, fits, why))
-check_failure patch (run.Patch (text.Memory m)) utf8 fits why = tt
-check_failure patch (run.Unreadable e) utf8 fits why = inr (e.operation, e.kind, utf8, why, refl, refl)
-check_failure patch (run.Refused e) utf8 fits why = absurd why
-check_failure patch (run.TooDeep k) utf8 fits why = absurd why
-check_failure patch (run.Memory m) utf8 fits why = tt
-
 -- ---- the texts d and p, which the bytes are
-
-pub is_unread : (patch p : List ℕ) (fault : PatchTextFault) → p ≡ patch → IsUtf8 patch → nesting patch ≤ 127 → IsUnread p fault → IsFailure (of_check patch) (of_reading fault)
-is_unread patch p fault same utf8 fits why = check_failure patch fault utf8 fits (subst (λ s. IsUnread s fault) same why)
 
 -- the text that is patched within limits is within them itself
 flat_at_first : (l : Limits) (text patch new : List ℕ) → IsPatchedWithin l text patch new → nesting text ≤ l.depth
@@ -117,27 +100,6 @@ is_merged_over l document patch d p same same_patch text flat over =
     ((text, subst (λ s. (j : Json) × Says s j) same (kept.0, kept.2), flat), refl, subst (λ s. IsMergeOver l.copied s p) same over) in
     subst (λ s. IsMergedOver l document s (record { operation = 0; kind = TooMuch })) same_patch at
 
--- ---- a document's text and a second
-
-own_of_two : (levels : ℕ) (document second : List ℕ) (failure : Failure) → IsFailure (of_text levels document) failure → IsFailure (of_two levels document second) failure
-own_of_two levels document second (failure.NoDocument kind) own = own
-own_of_two levels document second (failure.NoPatch operation kind) own = absurd own
-own_of_two levels document second (failure.Refused e) own = absurd own
-own_of_two levels document second (failure.Over e) own = absurd own
-own_of_two levels document second failure.Memory own = tt
-
-pub told_of_two : (levels : ℕ) (document second : List ℕ) (failure told : Failure) → (IsOfText failure → IsJsonText levels document → IsFailure (of_two levels document second) failure) → IsOfText failure
-    → IsTold levels document failure told → IsFailure (of_two levels document second) told
-told_of_two levels document second failure told holds speaks (inl own) = own_of_two levels document second told own
-told_of_two levels document second failure told holds speaks (inr (same, is)) = subst (IsFailure (of_two levels document second)) (sym same) (holds speaks (is speaks))
-
-pub merge_of_two : (l : Limits) (document patch : List ℕ) (failure : Failure) → IsFailure (of_two l.depth document patch) failure → IsFailure (of_merge l document patch) failure
-merge_of_two l document patch (failure.NoDocument kind) why = why
-merge_of_two l document patch (failure.NoPatch operation kind) why = why
-merge_of_two l document patch (failure.Refused e) why = absurd why
-merge_of_two l document patch (failure.Over e) why = absurd why
-merge_of_two l document patch failure.Memory why = tt
-
 -- ---- a difference
 
 pub is_difference : (l : Limits) (from to a b patch : List ℕ) → a ≡ from → b ≡ to → IsUtf8 from → nesting from ≤ l.depth → IsUtf8 to → nesting to ≤ l.depth
@@ -152,24 +114,3 @@ is_difference l from to a b patch same same_to utf8 flat utf8_to flat_to leads p
       few = few;
     } in
     subst (λ s. IsDifference l s to patch) same (subst (λ s. IsDifference l a s patch) same_to at)
-
-diff_failure : (levels : ℕ) (from to : List ℕ) (fault : DiffTextFault) → levels ≤ 124 → (IsOfText (of_diff_fault fault) → IsJsonText levels from) → nesting to ≤ levels
-    → IsDiffTextFault from to fault → IsFailure (of_two levels from to) (of_diff_fault fault)
-diff_failure levels from to (diff.From text.NotJson) few is fits why = absurd (why (is tt).1.0 (is tt).1.1)
-diff_failure levels from to (diff.From text.TooDeep) few is fits why = absurd (omega (arith, few, (is tt).2, why))
-diff_failure levels from to (diff.From (text.Memory m)) few is fits why = tt
-diff_failure levels from to (diff.To text.NotJson) few is fits why = (is tt, refl, inr (refl, λ u. (fits, why)))
-diff_failure levels from to (diff.To text.TooDeep) few is fits why = absurd (omega (arith, few, fits, why))
-diff_failure levels from to (diff.To (text.Memory m)) few is fits why = absurd why
-diff_failure levels from to (diff.Memory m) few is fits why = tt
-
-told_difference : (levels : ℕ) (from to : List ℕ) (fault : DiffTextFault) (told : Failure) → levels ≤ 124 → nesting to ≤ levels → IsDiffTextFault from to fault
-    → IsTold levels from (of_diff_fault fault) told → IsFailure (of_two levels from to) told
-told_difference levels from to fault told few fits why (inl own) = own_of_two levels from to told own
-told_difference levels from to fault told few fits why (inr (same, is)) = subst (IsFailure (of_two levels from to)) (sym same) (diff_failure levels from to fault few is fits why)
-
-pub is_no_difference : (levels : ℕ) (from to a b : List ℕ) (fault : DiffTextFault) (failure told : Failure) → a ≡ from → b ≡ to → levels ≤ 124 → nesting to ≤ levels
-    → IsDiffTextFault a b fault → failure ≡ of_diff_fault fault → IsTold levels from failure told → IsFailure (of_two levels from to) told
-is_no_difference levels from to a b fault failure told same same_to few fits why of first =
-    let here : IsDiffTextFault from to fault = subst (λ s. IsDiffTextFault s to fault) same (subst (λ s. IsDiffTextFault a s fault) same_to why) in
-    told_difference levels from to fault told few fits here (subst (λ f. IsTold levels from f told) of first)
