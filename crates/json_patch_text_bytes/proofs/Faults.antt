@@ -1,28 +1,28 @@
 -- What is made of bytes that are texts, and why nothing is: a fault of a text is one of a call's reasons.
-use Rattle.std.proofs.Common.{◌≡◌, ◌≤◌, [], ◌∷◌, inl, inr, ℕ, List, arith, refl, subst, sym}
+use Rattle.std.proofs.Common.{◌≡◌, ◌≤◌, ◌↔◌, [], ◌∷◌, inl, inr, ℕ, List, arith, refl, subst, sym}
 use Rattle.std.specs.Prelude.{IsUtf8, length, max}
 use Rattle.std.proofs.Math.Nat.{max-le}
 use Rattle.json_lexemes.specs.Skipped.{nesting}
 use Rattle.json_text.specs.declared.fault.TextFault.TheVariants as text
 use Rattle.json.specs.Json.{Json}
 use Rattle.json_lexemes.specs.Spelled.{Says}
+use Rattle.json_diff_text.specs.Differences.{IsFewBetween, IsPlainPatch, SaySame}
 use Rattle.json_merge_text.specs.Merged.{IsMergeOver, IsMergedAlready, IsMergedText, SaysMerged}
 use Rattle.json_merge_text.specs.Merged.{most_bytes as merged_bytes}
 use Rattle.json_patch.specs.LimitKind.TheVariants.{TooMuch}
 use Rattle.json_patch.specs.Limits.{Limits}
+use Rattle.json_patch_text.specs.Operations.{SaysOperations}
 use Rattle.json_patch_text.specs.Patched.{AcceptsPatch, IsPatchedText}
 use Rattle.json_patch_text.specs.Within.{IsPatchedWithin, IsTextLimitFault, IsTextWithin, most_bytes}
-use Rattle.json_patch_text.specs.Stopped.{IsUnread}
-use Rattle.json_patch_text.specs.declared.fault.PatchTextFault.{PatchTextFault}
 use Rattle.json_patch_text.specs.declared.fault.PatchTextFault.TheVariants as run
 use Rattle.json_patch_text.specs.declared.fault.TextLimitFault.{TextLimitFault}
 use Rattle.json_patch_text.specs.declared.fault.TextLimitFault.TheVariants as within
 use Rattle.json_patch_bytes.specs.Failures.{IsFailure}
 use Rattle.json_patch_bytes.specs.declared.failure.Failure.{Failure}
 use Rattle.json_patch_bytes.specs.declared.failure.Failure.TheVariants as failure
-use Rattle.json_patch_text_bytes.specs.Failures.{IsOfText, IsTold, of_fault, of_reading}
-use Rattle.json_patch_text_bytes.specs.Reasons.{of_check, of_patch, of_text}
-use Rattle.json_patch_text_bytes.specs.Texts.{IsJsonText, IsMergedInto, IsMergedOver, IsPatched}
+use Rattle.json_patch_text_bytes.specs.Failures.{IsOfText, IsTold, of_fault}
+use Rattle.json_patch_text_bytes.specs.Reasons.{of_patch, of_text}
+use Rattle.json_patch_text_bytes.specs.Texts.{IsDifference, IsJsonText, IsMergedInto, IsMergedOver, IsPatched}
 
 -- the failure of the document's text is one of the call's
 own_failure : (l : Limits) (document patch : List ℕ) (failure : Failure) → IsFailure (of_text l.depth document) failure → IsFailure (of_patch l document patch) failure
@@ -46,20 +46,7 @@ run_failure l document patch (within.Patch (run.Refused e)) few is utf8 fits why
 run_failure l document patch (within.Patch (run.TooDeep k)) few is utf8 fits why = absurd (omega (arith, few, why.0))
 run_failure l document patch (within.Patch (run.Memory m)) few is utf8 fits why = tt
 
-check_failure : (patch : List ℕ) (fault : PatchTextFault) → IsUtf8 patch → nesting patch ≤ 127 → IsUnread patch fault → IsFailure (of_check patch) (of_reading fault)
-check_failure patch (run.Document f) utf8 fits why = absurd why
-check_failure patch (run.Patch text.NotJson) utf8 fits why = inl (refl, inr (refl, λ u. (fits, why)))
-check_failure patch (run.Patch text.TooDeep) utf8 fits why = absurd (omega (arith, fits, why))
-check_failure patch (run.Patch (text.Memory m)) utf8 fits why = tt
-check_failure patch (run.Unreadable e) utf8 fits why = inr (e.operation, e.kind, utf8, why, refl, refl)
-check_failure patch (run.Refused e) utf8 fits why = absurd why
-check_failure patch (run.TooDeep k) utf8 fits why = absurd why
-check_failure patch (run.Memory m) utf8 fits why = tt
-
 -- ---- the texts d and p, which the bytes are
-
-pub is_unread : (patch p : List ℕ) (fault : PatchTextFault) → p ≡ patch → IsUtf8 patch → nesting patch ≤ 127 → IsUnread p fault → IsFailure (of_check patch) (of_reading fault)
-is_unread patch p fault same utf8 fits why = check_failure patch fault utf8 fits (subst (λ s. IsUnread s fault) same why)
 
 -- the text that is patched within limits is within them itself
 flat_at_first : (l : Limits) (text patch new : List ℕ) → IsPatchedWithin l text patch new → nesting text ≤ l.depth
@@ -112,3 +99,18 @@ is_merged_over l document patch d p same same_patch text flat over =
     let at : IsMergedOver l document p (record { operation = 0; kind = TooMuch }) =
     ((text, subst (λ s. (j : Json) × Says s j) same (kept.0, kept.2), flat), refl, subst (λ s. IsMergeOver l.copied s p) same over) in
     subst (λ s. IsMergedOver l document s (record { operation = 0; kind = TooMuch })) same_patch at
+
+-- ---- a difference
+
+pub is_difference : (l : Limits) (from to a b patch : List ℕ) → a ≡ from → b ≡ to → IsUtf8 from → nesting from ≤ l.depth → IsUtf8 to → nesting to ≤ l.depth
+    → AcceptsPatch a patch b → IsPlainPatch a patch → (SaysOperations patch [] ↔ SaySame a b) → IsFewBetween a b patch → IsDifference l from to patch
+is_difference l from to a b patch same same_to utf8 flat utf8_to flat_to leads plain nothing few =
+    let at : IsDifference l a b patch = record {
+      first = (subst IsUtf8 (sym same) utf8, (leads.2.0, leads.2.2), subst (λ s. nesting s ≤ l.depth) (sym same) flat);
+      second = (subst IsUtf8 (sym same_to) utf8_to, (leads.2.1, leads.2.3), subst (λ s. nesting s ≤ l.depth) (sym same_to) flat_to);
+      leads = leads;
+      plain = plain;
+      nothing = nothing;
+      few = few;
+    } in
+    subst (λ s. IsDifference l s to patch) same (subst (λ s. IsDifference l a s patch) same_to at)

@@ -5,7 +5,7 @@ use Rattle.jsonptr.specs.Text.{Pointer}
 use Rattle.json_lexemes.specs.Skipped.{nesting}
 use Rattle.json_text.specs.Pointed.{IsWrittenAt, tree_at}
 use Rattle.json_lexemes.specs.Spelled.{Says}
-use Rattle.json_diff_text.specs.Differences.{IsPlainPatch, SaySame}
+use Rattle.json_diff_text.specs.Differences.{IsFewBetween, IsPlainPatch, SaySame}
 use Rattle.json_merge_text.specs.Merged.{IsMergeOver, IsMergedAlready, IsMergedText, SaysMerged, most_bytes}
 use Rattle.json_patch.specs.LimitError.{LimitError}
 use Rattle.json_patch.specs.LimitKind.TheVariants.{TooMuch}
@@ -79,8 +79,7 @@ pub record IsDifference (l : Limits) (from to patch : List ℕ) : Type 0 where
   pub plain : IsPlainPatch from patch
   -- it has no operation exactly where both say the same
   pub nothing : SaysOperations patch [] ↔ SaySame from to
-  -- so it can be handed in as a patch
-  pub again : IsJsonText 126 patch
+  pub few : IsFewBetween from to patch
 
 -- s is the value's text in the document's where the pointer leads
 abbrev pub IsValueAt : ℕ → List ℕ → List ℕ → List ℕ → Type 0
