@@ -1,4 +1,6 @@
-"""Times the calls of the package in python/ as bench/c_calls.c times those of json_patch.h."""
+"""Times the calls of the package in python/ as bench/c_calls.c times those of json_patch.h, and in the modes `inplace`
+and `again` what bench/python_peer.py times."""
+import copy
 import json
 import os
 import sys
@@ -14,7 +16,18 @@ from json_patch._library import LIBRARY  # noqa: E402
 from json_patch.limits import DEFAULT  # noqa: E402
 
 mode, count = sys.argv[1], int(sys.argv[2])
-document, patch = (json.dumps(value, separators=(",", ":")).encode() for value in json.load(sys.stdin))
+given = json.load(sys.stdin)
+if mode in ("inplace", "again"):
+    changes, spent = json_patch.JsonPatch(given[1]), 0
+    for _ in range(count):
+        work = copy.deepcopy(given[0]) if mode == "inplace" else given[0]
+        start = time.perf_counter_ns()
+        changes.apply(work, in_place=True)
+        spent += time.perf_counter_ns() - start
+    print(spent // count)
+    sys.exit()
+
+document, patch = (json.dumps(value, separators=(",", ":")).encode() for value in given)
 with json_patch.Document.from_string(document) as kept:
     start = time.perf_counter_ns()
     for _ in range(count):

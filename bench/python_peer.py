@@ -1,7 +1,7 @@
 """Times the calls of Python's jsonpatch as bench/driver.rt.txt times those here: its arguments are
 `MODE COUNT`, its input is `[document,patch]`, and it prints the nanoseconds of one call. The modes are
 `patch`, which answers a new document, and `inplace`, which leaves a refused patch part-way and works
-on a fresh copy, whose making isn't counted; and `texts` and `kept` of bench/c_calls.c, in place too. For `diff`
+on a fresh copy, whose making isn't counted, or as `again` on the same; and `texts` and `kept` of bench/c_calls.c, in place too. For `diff`
 and `same` the input is two documents: it prints what bench/differences.rt.txt prints."""
 import copy
 import json
@@ -57,6 +57,6 @@ spent = 0
 for _ in range(count):
     work = copy.deepcopy(document) if mode == "inplace" else document
     start = time.perf_counter_ns()
-    changes.apply(work, in_place=mode == "inplace")
+    changes.apply(work, in_place=mode in ("inplace", "again"))
     spent += time.perf_counter_ns() - start
 print(spent // count)

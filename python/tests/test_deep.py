@@ -60,11 +60,11 @@ class Deep(unittest.TestCase):
             for deep in objects:
                 self.assertTooDeep(
                     JsonPatchException,
-                    lambda: apply_patch(deep, patch), lambda: apply_patch(deep, patch, in_place=True),
-                    lambda: record_patch(deep, patch), lambda: merge_patch(deep, {}), lambda: Document(deep),
-                    lambda: JsonPatch(patch).apply(deep), lambda: JsonPatch(patch).apply(deep, in_place=True),
-                    lambda: JsonPatch(patch).record(deep),
+                    lambda: apply_patch(deep, patch), lambda: record_patch(deep, patch), lambda: merge_patch(deep, {}), lambda: Document(deep),
+                    lambda: JsonPatch(patch).apply(deep), lambda: JsonPatch(patch).record(deep),
                 )
+                # in place it isn't looked through (test_in_place has more)
+                self.assertEqual(apply_patch(deep, patch, in_place=True), 1)
                 self.assertTrue(is_deep(deep))
 
         on_each_stack(refused)

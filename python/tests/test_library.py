@@ -54,6 +54,13 @@ class Imports(unittest.TestCase):
         said = imported("import json_patch._version as v; v.__version__ = '4.0.0'\nimport importlib, json_patch._library as l; importlib.reload(l)")
         self.assertTrue(said.startswith("ImportError: json_patch 4.0.0 can't use "), said)
 
+    def test_what_takes_long(self):
+        """The first call that wants it imports it, or who checks types."""
+        code = "import sys; before = set(sys.modules); import json_patch; print(*set(sys.modules) - before)"
+        new = set(subprocess.run([sys.executable, "-c", code], stdout=subprocess.PIPE, text=True, check=True).stdout.split())
+        self.assertIn("json_patch", new)
+        self.assertEqual(new & {"collections", "dataclasses", "inspect", "json", "pathlib", "re", "threading", "typing", "urllib"}, set())
+
     def test_version(self):
         self.assertEqual(json_patch.__version__, json_patch._library.LIBRARY.json_patch_version().decode())
 

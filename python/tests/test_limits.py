@@ -12,7 +12,7 @@ from json_patch import (
 )
 from json_patch._library import LIBRARY, NO_MEMORY
 from json_patch.limits import MOST_COPIED, MOST_LEVELS
-from support import C, nested
+from support import C, holding_itself, nested
 
 COPY = {"op": "copy", "from": "/a", "path": "/b"}
 MOVE, BACK = {"op": "move", "from": "/a", "path": "/b"}, {"op": "move", "from": "/b", "path": "/a"}
@@ -215,22 +215,30 @@ class Undone(unittest.TestCase):
 
 
 class InPlace(unittest.TestCase):
-    def test_lists_at_two_places_are_not_copied_past_the_limits(self):
-        """Each copy would double the one list, where the library's document has two."""
+    def test_lists_at_two_places_count_for_each(self):
+        """Each copy doubles the one list."""
         rows = []
         document = {"a": rows, "b": rows}
-        patch = [{"op": "copy", "from": "/a", "path": "/b/-"}] * 200
-        self.assertIs(apply_patch(document, patch, in_place=True, limits=Limits(copied=200)), document)
-        self.assertEqual(document, {"a": [], "b": [[]] * 200})
+        patch = [{"op": "copy", "from": "/a", "path": "/b/-"}]
+        for much, times in ((1, 1), (3, 2), (7, 3), (15, 4)):
+            with self.assertRaises(OverLimit) as caught:
+                apply_patch(document, patch * 200, in_place=True, limits=Limits(copied=much))
+            self.assertEqual((caught.exception.operation, caught.exception.kind), (times, "TooMuch"))
+            self.assertEqual(document, {"a": [], "b": []})
+            self.assertIs(document["a"], document["b"])
+        self.assertIs(apply_patch(document, patch * 4, in_place=True, limits=Limits(copied=15)), document)
+        self.assertEqual([str(rows).count("["), str(document).count("[")], [16, 32])
 
-    def test_keys_that_are_no_str(self):
-        document = {"1": [0], 1: {"0": 0}}
-        patch = [{"op": "copy", "from": "/1", "path": "/1/0"}] * 100
-        self.assertIs(apply_patch(document, patch, in_place=True), document)
-        wanted = {"0": 0}
+    def test_what_holds_itself(self):
+        """However often, and however many a list holds: no more is looked at than the limits allow."""
+        wide, twice = holding_itself(), []
+        wide *= 1_000
         for _ in range(100):
-            wanted = {"0": wanted}
-        self.assertEqual(document, {"1": wanted})
+            twice = [twice, twice]
+        for document, kind in ((wide, "TooDeep"), (twice, "TooMuch")):
+            with self.assertRaises(OverLimit) as caught:
+                apply_patch(document, [{"op": "copy", "from": "/0", "path": "/0"}], in_place=True)
+            self.assertEqual(caught.exception.kind, kind)
 
 
 if __name__ == "__main__":

@@ -50,8 +50,8 @@ keeps to Limits, those of `limits` or Limits(). OverLimit tells which operation 
 ...     print(error)
 operation 6 is over the limits at path '/-': TooMuch
 
-Except in apply_text, merge_text and resolve_text, documents and the values in a patch hold whole
-numbers of 64 bits alone: 1.5, 1.0, 2**64 and nan are refused by NumberNotWhole. A document is what json.dumps writes of an object, and what comes back
+Except in apply_text, merge_text and resolve_text, and in an object that is changed in place, documents and
+the values in a patch hold whole numbers of 64 bits alone: 1.5, 1.0, 2**64 and nan are refused by NumberNotWhole. A document is what json.dumps writes of an object, and what comes back
 is what json.loads reads: new lists and dicts, the names in byte order, a key 1 as "1".
 
 What is no UTF-8, no JSON (RFC 8259), or has a number or an escape that the reader of JSON refuses (a

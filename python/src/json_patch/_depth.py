@@ -15,10 +15,10 @@ _FEW = 100
 
 def is_deeper(value: object, levels: int) -> bool:
     """Whether lists and dicts nest deeper than this, as they do where one holds itself."""
-    if type(value) in LEAVES:
+    if not isinstance(value, CONTAINERS):
         return levels < 0
-    held: List[Any] = [[value]]
-    for _ in range(levels + 1):
+    held: List[Any] = [value]
+    for _ in range(levels):
         held = [
             item
             for container in held

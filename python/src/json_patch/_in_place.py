@@ -1,8 +1,8 @@
 """The operations of RFC 6902, made on Python's lists and dicts themselves, all or nothing. No proof covers
 this: tests hold it against the library.
 
-Nothing here goes by recursion, and the object is never looked through: the time goes with the patch, with what
-it copies and compares, and with what Python takes to put an item into a list."""
+Nothing here goes by recursion, but for a few levels of a patch, and the object is never looked through: the time
+goes with the patch, with what it copies and compares, and with what Python takes to put an item into a list."""
 from __future__ import annotations
 
 from ._calls import expect_patch, fault
@@ -25,7 +25,7 @@ _GONE = object()
 _ARRAYS = (list, tuple)
 _ATOMS = (str, int, float, type(None))
 _OTHER_MEMBER = {"add": "value", "remove": None, "replace": "value", "move": "from", "copy": "from", "test": "value"}
-_PLAIN, _PLAIN_LEVELS = 2**63, 10
+_PLAIN, _PLAIN_LEVELS = 2**63, 8
 
 
 class _Refused(Exception):
@@ -67,32 +67,36 @@ def _fault(refused: _Refused, operation: int, patch: Any) -> Exception:
 def _operations(patch: Any) -> List[_Operation]:
     """The operations of a patch, their values copied. To ask the library takes longer than to make a few."""
     try:
-        return [_read(operation, expects_no_more=True) for operation in _plain(patch, _PLAIN_LEVELS)]
+        if type(patch) is not list:
+            raise _NotPlain
+        return [_read(operation, is_plain=True) for operation in patch]
     except (_NotPlain, KeyError, TypeError, JsonPointerException):
         text = patch_text(patch)
         expect_patch(text)
         return [_read(operation) for operation in value_of(text)]
 
 
+def _read(operation: Any, is_plain: bool = False) -> _Operation:
+    op = operation["op"]
+    other = _OTHER_MEMBER[op]
+    path, value = operation["path"], operation[other] if other else None
+    if is_plain:
+        if type(operation) is not dict or len(operation) != 2 + bool(other):
+            raise _NotPlain
+        path, value = _plain(path, 0), _plain(value, _PLAIN_LEVELS)
+    return op, JsonPointer(path).parts, JsonPointer(value).parts if other == "from" else value
+
+
 def _plain(value: Any, levels: int) -> Any:
     """A copy of what is JSON for everyone, and has few levels. A TypeError, too, says that it isn't."""
     kind = type(value)
-    if kind is str and value.isascii() or kind is bool or value is None or kind is int and -_PLAIN < value < _PLAIN:
+    if kind is str and value.isascii() or kind is int and -_PLAIN < value < _PLAIN or kind is bool or value is None:
         return value
     if kind is list and levels:
         return [_plain(item, levels - 1) for item in value]
     if kind is dict and levels and "".join(value).isascii():
         return {name: _plain(member, levels - 1) for name, member in value.items()}
     raise _NotPlain
-
-
-def _read(operation: Dict[str, Any], expects_no_more: bool = False) -> _Operation:
-    op = operation["op"]
-    other = _OTHER_MEMBER[op]
-    if expects_no_more and len(operation) != 2 + bool(other):
-        raise _NotPlain
-    value = operation[other] if other else None
-    return op, JsonPointer(operation["path"]).parts, JsonPointer(value).parts if other == "from" else value
 
 
 class _Run:

@@ -89,10 +89,10 @@ class JsonPatch:
 
     def apply(self, obj: Any, in_place: bool = False, *, limits: Limits = DEFAULT) -> Any:
         """What the patch leaves of an object, which stays as it is. With `in_place` it is the object
-        itself that is changed, by Python, and returned; a document that is no list or dict can't be. The time goes
-        with the patch, and not with the object, which isn't read as a whole: its numbers may be any, and
-        where the patch doesn't look anything may stand. OverLimit, where an operation is over the limits, and without
-        `in_place` TooDeep, where the object is.
+        itself that is changed, by Python, and returned; a document that is no list or dict can't be. That
+        takes the time of the patch, and not of the object, which isn't read as a whole: its numbers may be
+        any, and anything may stand where the patch doesn't look. OverLimit, where an operation is over the
+        limits, and without `in_place` TooDeep, where the object is.
 
         >>> document = {"a": [1]}
         >>> rows = document["a"]

@@ -1,0 +1,74 @@
+#!/usr/bin/env python3
+"""Times changes in place of Python's objects beside Python's jsonpatch, which leaves a refused patch part-way, and
+counts the instructions of both imports (valgrind).
+
+    bench/in_place.py [--rounds N] [--rows WORDS..]
+
+c/build has to have built the library. A JsonPatch is made once, and applied again and again: to the same object,
+or where it wouldn't be accepted twice to a fresh copy. What is printed is as in bench.py. An import is counted
+with its modules compiled, by a Python that is started for it."""
+import argparse
+import os
+import re
+import subprocess
+import sys
+import tempfile
+
+import bench
+import workloads
+
+HERE = os.path.dirname(os.path.abspath(__file__))
+TOP = os.path.dirname(HERE)
+IMPORTS = ("pass", "import json_patch", "import jsonpatch", "import ctypes, json")
+
+OBJECT = {"name": "row", "tags": ["a", "b"], "done": False}
+
+# name, mode, calls a round, object and patch
+CALLS = [
+    ("two operations on a tiny list", "again", 20_000, workloads.TINY),
+    ("one test in a tiny dict", "again", 20_000, ({"a": 1}, [{"op": "test", "path": "/a", "value": 1}])),
+    ("one add of an object to a tiny dict", "again", 20_000, ({"a": 1}, [{"op": "add", "path": "/b", "value": OBJECT}])),
+    ("one copy of an object", "again", 20_000, ({"a": OBJECT}, [{"op": "copy", "from": "/a", "path": "/b"}])),
+    ("one replace in 1 kB", "again", 20_000, workloads.replace_in_the_middle(14)),
+    ("one replace in 10 kB", "again", 20_000, workloads.replace_in_the_middle(145)),
+    ("one replace in 100 kB", "again", 20_000, workloads.replace_in_the_middle(1_450)),
+    ("one replace in 1 MB", "again", 20_000, workloads.replace_in_the_middle(14_500)),
+    ("one remove and one add among 33,000 members, 1 MB", "again", 20_000,
+     (workloads.object_of(33_000), [{"op": "remove", "path": "/member 0500"}, {"op": "add", "path": "/member 0500", "value": "x"}])),
+    ("100 mixed operations on 100 kB", "inplace", 20, (workloads.rows(1_450), workloads.MIXED)),
+    ("100 mixed operations on 100 kB, with shifts", "inplace", 20, (workloads.rows(1_450), workloads.SHIFTING)),
+]
+
+
+def instructions(code, folder):
+    """Of a Python that runs this: its modules have been compiled before."""
+    given = {**os.environ, "PYTHONPATH": f"{TOP}/python/src", "PYTHONPYCACHEPREFIX": folder, "PYTHONDONTWRITEBYTECODE": ""}
+    given.setdefault("JSON_PATCH_LIBRARY", f"{TOP}/c/out/lib/libjson_patch.so")
+    subprocess.run([bench.PYTHON, "-c", code], env=given, check=True)
+    valgrind = ["valgrind", "--tool=cachegrind", "--cache-sim=no", f"--cachegrind-out-file={folder}/counts"]
+    told = subprocess.run([*valgrind, bench.PYTHON, "-c", code], env=given, check=True, capture_output=True, text=True).stderr
+    return int(re.search(r"I +refs: +([0-9,]+)", told)[1].replace(",", ""))
+
+
+def main():
+    words = argparse.ArgumentParser()
+    words.add_argument("--rounds", type=int, default=9)
+    words.add_argument("--rows", nargs="*", help="the rows whose line has one of these texts, and no others")
+    asked = words.parse_args()
+    modes = {"again": "again", "inplace": "inplace"}
+    sides = [
+        bench.Side("here", [bench.PYTHON, os.path.join(HERE, "python_c_peer.py")], modes, None),
+        bench.Side("jsonpatch (Python)", [bench.PYTHON, os.path.join(HERE, "python_peer.py")], modes, None),
+    ]
+    for name, mode, count, case in CALLS:
+        if bench.chosen(asked, name):
+            line = bench.line_of(case)
+            bench.report(name, bench.rounds_of(asked, sides, lambda side: bench.call(side, mode, count, line)))
+    with tempfile.TemporaryDirectory() as folder:
+        for code in IMPORTS:
+            if bench.chosen(asked, code):
+                print(f"{code}: {instructions(code, folder) / 1e6:.1f} M instructions", flush=True)
+
+
+if __name__ == "__main__":
+    sys.exit(main())
