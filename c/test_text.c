@@ -264,16 +264,16 @@ static void expect_merged_within(const char *document, const char *patch, size_t
 /* The bytes of a merge: many new members beside a member with 60,000 blanks take none of them over, and
    make the bytes of both texts, but for two braces, and a comma. Of 14 blanks each takes them over. */
 static void expect_merged_bytes(void) {
-    enum { BLANKS = 60000, MEMBERS = 6000 };
-    static char document[BLANKS + 9], patch[MEMBERS * 12];
+    enum { SPACES = 60000, MEMBERS = 6000 };
+    static char document[SPACES + 9], patch[MEMBERS * 12];
     size_t length = 0;
     document[0] = '{';
-    memset(document + 1, ' ', BLANKS);
-    memcpy(document + 1 + BLANKS, "\"a\":1}", 7);
+    memset(document + 1, ' ', SPACES);
+    memcpy(document + 1 + SPACES, "\"a\":1}", 7);
     for (int i = 0; i < MEMBERS; i++)
         length += (size_t)snprintf(patch + length, sizeof patch - length, "%c\"m%d\":1", i ? ',' : '{', i);
     patch[length++] = '}';
-    expect_merged_within(document, patch, 0, BLANKS + 7 + length - 1);
+    expect_merged_within(document, patch, 0, SPACES + 7 + length - 1);
     const char *near = "{              \"a\":1}", *two = "{\"b\":2,\"c\": 3  }";
     expect_merged_within(near, two, 24, 61);
     expect_merged_within(near, two, 23, 0);

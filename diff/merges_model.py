@@ -8,7 +8,7 @@ from decimal import Decimal
 import json
 import re
 
-from texts_model import BLANKS, STRING, Node, read
+from texts_model import STRING, WHITESPACE, Node, read
 
 # RFC 7396, appendix A: the document, the merge patch, and the result
 EXAMPLES = [
@@ -84,9 +84,9 @@ class Object:
         return next((member for member in reversed(self.members) if member.said == name), None)
 
 
-def blanks_behind(text, at):
+def whitespace_behind(text, at):
     end = at
-    while text[end] in BLANKS:
+    while text[end] in WHITESPACE:
         end += 1
     return text[at:end]
 
@@ -97,7 +97,7 @@ def written(text, node: Node):
         return text[node.start:node.end]
     members, behind = [], node.start + 1
     for start, said, _, child in node.parts:
-        trail = blanks_behind(text, child.end)
+        trail = whitespace_behind(text, child.end)
         members.append(Member(text[behind:start], said, text[start:child.start], written(text, child), trail))
         behind = child.end + len(trail) + 1
     return Object(members, "" if members else text[node.start + 1:node.end - 1])
@@ -178,7 +178,7 @@ def fits(pieces, new):
     at = 0
     for piece in pieces:
         if piece is None:
-            at = re.compile(f"[{BLANKS}]*").match(new, at).end()
+            at = re.compile(f"[{WHITESPACE}]*").match(new, at).end()
         elif isinstance(piece, tuple):
             name = STRING.match(new, at)
             if not name or json.loads(name[0]) != piece[1]:

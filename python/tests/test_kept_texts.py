@@ -155,8 +155,8 @@ class Texts(unittest.TestCase):
 
     def test_differences_of_texts(self):
         """A patch that leads from one document to another is over no limits whose `copied` is 256 for each operation."""
-        for blanks in (0, 60, 128, 129, 5_000):
-            new = "{" + " " * blanks + '"m0"' + " " * blanks + ": [" + " " * blanks + "1]}"
+        for spaces in (0, 60, 128, 129, 5_000):
+            new = "{" + " " * spaces + '"m0"' + " " * spaces + ": [" + " " * spaces + "1]}"
             wanted = {"m0": [0, 1, 2], **{f"m{number}": 0 for number in range(1, 80)}}
             patch = make_patch(json.loads(new), wanted)
             made = apply_text(new, patch, limits=Limits(copied=256 * len(patch.patch)))

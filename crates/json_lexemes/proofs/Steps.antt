@@ -76,25 +76,25 @@ each_operator P a b c d e f x h = g5 (or_cases _ _ h)
 
 -- ---- blanks
 
-pub blank_left : (t : List ℕ) (i : ℕ) → i < length t → is_space (get_or t i 0) ≡ true → left_at t (i + 1) ≡ left_at t i
+pub whitespace_left : (t : List ℕ) (i : ℕ) → i < length t → is_space (get_or t i 0) ≡ true → left_at t (i + 1) ≡ left_at t i
 unfolding lex
-blank_left t i h s =
+whitespace_left t i h s =
     sym (ap (lex between) (drop_step t i h) ∙ ap (λ c. lex_byte between c (get_or t i 0) (drop (i + 1) t) (λ m. lex m (drop (i + 1) t))) (space_class (get_or t i 0) s))
 
-blank_mode : (m : Mode) (c : Class) → c ≡ space → ((m ≡ between) ⊎ (m ≡ in_word)) → next_mode m c ≡ between
-blank_mode m c e (inl f) = ap₂ next_mode f e
-blank_mode m c e (inr f) = ap₂ next_mode f e
+whitespace_mode : (m : Mode) (c : Class) → c ≡ space → ((m ≡ between) ⊎ (m ≡ in_word)) → next_mode m c ≡ between
+whitespace_mode m c e (inl f) = ap₂ next_mode f e
+whitespace_mode m c e (inr f) = ap₂ next_mode f e
 
 pub end_modes : (t : List ℕ) (i : ℕ) → i < length t → IsEnd t i → (mode_at t i ≡ between) ⊎ (mode_at t i ≡ in_word)
 end_modes t i h (inl e) = inl e
 end_modes t i h (inr (inl e)) = inr e.0
 end_modes t i h (inr (inr e)) = let never : ⊥ = omega arith in absurd never
 
-pub blank_end : (t : List ℕ) (i : ℕ) → i < length t → is_space (get_or t i 0) ≡ true → IsEnd t i → IsEnd t (i + 1)
-blank_end t i h s e = inl (mode_step t i h ∙ blank_mode (mode_at t i) _ (space_class (get_or t i 0) s) (end_modes t i h e))
+pub whitespace_end : (t : List ℕ) (i : ℕ) → i < length t → is_space (get_or t i 0) ≡ true → IsEnd t i → IsEnd t (i + 1)
+whitespace_end t i h s e = inl (mode_step t i h ∙ whitespace_mode (mode_at t i) _ (space_class (get_or t i 0) s) (end_modes t i h e))
 
-pub blank_between : (t : List ℕ) (i : ℕ) → i < length t → is_space (get_or t i 0) ≡ true → mode_at t i ≡ between → mode_at t (i + 1) ≡ between
-blank_between t i h s e = mode_step t i h ∙ blank_mode (mode_at t i) _ (space_class (get_or t i 0) s) (inl e)
+pub whitespace_between : (t : List ℕ) (i : ℕ) → i < length t → is_space (get_or t i 0) ≡ true → mode_at t i ≡ between → mode_at t (i + 1) ≡ between
+whitespace_between t i h s e = mode_step t i h ∙ whitespace_mode (mode_at t i) _ (space_class (get_or t i 0) s) (inl e)
 
 -- ---- strings
 

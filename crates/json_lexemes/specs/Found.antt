@@ -4,7 +4,7 @@ use Rattle.std.specs.Str.{bytes_eq, IsUtf8, IsCharBoundary}
 use Rattle.json.specs.Json.{Json, Items, no_items, item, Members, no_members, member}
 use Rattle.json.specs.Lex.{Lexeme, between}
 use Rattle.json.specs.Word.{is_space}
-use Rattle.json_lexemes.specs.Spelled.{spelled, first_items, more_items, first_members, more_members}
+use Rattle.json_lexemes.specs.Spelled.{spelled, first_elements, more_elements, first_members, more_members}
 use Rattle.json_lexemes.specs.Places.{mode_at, left_at, IsEnd, HasEnd}
 use Rattle.json_lexemes.specs.declared.span.Span.{Span}
 
@@ -24,7 +24,7 @@ named k (member l j ms) = or_else (named k ms) (cond (bytes_eq l k) (Some (j, mo
 -- the item of this number
 abbrev pub numbered : ℕ → Items → Option Placed
 numbered n no_items = None
-numbered zero (item j js) = Some (j, more_items js)
+numbered zero (item j js) = Some (j, more_elements js)
 numbered (suc n) (item j js) = numbered n js
 
 -- in the place found, if any, the value stands, if any
@@ -40,7 +40,7 @@ IsAhead t k ms i found = (rest : Members) × (left_at t i ≡ first_members rest
 
 -- of the items js those of rest are still ahead at i, and the one of number n is there that of number m
 abbrev pub AreAhead : List ℕ → ℕ → Items → ℕ → ℕ → Type 0
-AreAhead t n js i m = (rest : Items) × (left_at t i ≡ first_items rest) × (numbered n js ≡ numbered m rest)
+AreAhead t n js i m = (rest : Items) × (left_at t i ≡ first_elements rest) × (numbered n js ≡ numbered m rest)
 
 -- no lexeme is cut at either side, and no blank stands within at either
 pub record IsCut (t : List ℕ) (s : Span) : Type 0 where

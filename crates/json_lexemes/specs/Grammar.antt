@@ -7,7 +7,7 @@ use Rattle.json.specs.Text.{content, plain}
 use Rattle.json.specs.Lex.{Lexeme, token, comma, colon}
 use Rattle.json.specs.Tree.{depth, items_depth, members_depth}
 use Rattle.json_lexemes.specs.Places.{left_at}
-use Rattle.json_lexemes.specs.Spelled.{spelled, more_items, more_members}
+use Rattle.json_lexemes.specs.Spelled.{spelled, more_elements, more_members}
 
 -- ---- runs of bytes, and strings
 
@@ -59,7 +59,7 @@ Continues t object i k = (ls : List Lexeme) × (left_at t i ≡ comma ∷ ls) ×
 -- what is left of an object, or of a list, behind one of its values: more of them, of at most n levels
 abbrev pub Remains : Bool → ℕ → List Lexeme → List Lexeme → Type 0
 Remains true n ls rest = (ms : Members) × (ls ≡ more_members ms ++ rest) × (members_depth ms ≤ n)
-Remains false n ls rest = (js : Items) × (ls ≡ more_items js ++ rest) × (items_depth js ≤ n)
+Remains false n ls rest = (js : Items) × (ls ≡ more_elements js ++ rest) × (items_depth js ≤ n)
 
 -- Behind a value the brackets that are open are all closed, and nothing follows. Of each, the innermost first, it is known whether it is an object's; n more may open within it.
 abbrev pub Completes : ℕ → List Bool → List Lexeme → Type 0

@@ -28,7 +28,7 @@ static KIND: [u8; 256] = *b"\
 
 /// Whether this is a blank: a space, a tab, a line feed or a carriage return.
 #[inline(always)]
-pub fn is_blank(c: u8) -> bool
+pub fn is_whitespace(c: u8) -> bool
     ensures { result ≡ is_space c }
 {
     c == b' ' || c == b'\t' || c == b'\n' || c == b'\r'
@@ -53,7 +53,7 @@ pub fn byte_at(text: &[u8], i: usize) -> u8
 
 /// The first place from `from` on where no blank stands.
 #[inline(always)]
-pub fn blank_end(text: &[u8], from: usize) -> usize
+pub fn whitespace_end(text: &[u8], from: usize) -> usize
     requires { from ≤ length text.now }
     ensures bounds { (from ≤ result) × (result ≤ length text.now) }
     ensures left { left_at text.now result ≡ left_at text.now from }
@@ -63,7 +63,7 @@ pub fn blank_end(text: &[u8], from: usize) -> usize
     ensures boundary { IsUtf8 text.now → IsCharBoundary text.now from → IsCharBoundary text.now result }
 {
     let mut i = from;
-    while i < text.len() && is_blank(text[i]) {
+    while i < text.len() && is_whitespace(text[i]) {
         i += 1;
     }
     i
@@ -85,9 +85,9 @@ pub fn after(text: &[u8], from: usize, c: u8) -> Option<usize>
         → left_at text.now from ≡ operator_lexeme c ∷ ls → ⊥) }
     ensures boundary { IsUtf8 text.now → IfSome result (λ i. IsCharBoundary text.now i) }
 {
-    let i = blank_end(text, from);
+    let i = whitespace_end(text, from);
     if i < text.len() && text[i] == c {
-        Some(blank_end(text, i + 1))
+        Some(whitespace_end(text, i + 1))
     } else {
         None
     }
@@ -189,7 +189,7 @@ pub fn word_end(text: &[u8], from: usize) -> usize
     ensures boundary { IsUtf8 text.now → IsCharBoundary text.now result }
 {
     let mut i = from;
-    while i < text.len() && !is_operator(text[i]) && !is_blank(text[i]) {
+    while i < text.len() && !is_operator(text[i]) && !is_whitespace(text[i]) {
         i += 1;
     }
     i
@@ -367,10 +367,10 @@ fn last_lexeme_end(text: &[u8], from: usize) -> usize
     ensures boundary { IsUtf8 text.now → IsCharBoundary text.now from → IsCharBoundary text.now result }
 {
     let mut end = from;
-    let mut i = blank_end(text, from);
+    let mut i = whitespace_end(text, from);
     while i < text.len() {
         end = lexeme_end(text, i);
-        i = blank_end(text, end);
+        i = whitespace_end(text, end);
     }
     end
 }
@@ -385,7 +385,7 @@ pub fn value_end(text: &[u8], from: usize) -> usize
         → IsEnd text.now result × ((result ≡ from) ⊎ HasEnd text.now result) }
     ensures boundary { IsUtf8 text.now → IsCharBoundary text.now from → IsCharBoundary text.now result }
 {
-    let start = blank_end(text, from);
+    let start = whitespace_end(text, from);
     if start == text.len() {
         return from;
     }
@@ -414,7 +414,7 @@ pub fn last_end(text: &[u8], from: usize) -> usize
     ensures boundary { IsCharBoundary text.now result }
 {
     let mut end = text.len();
-    while end > from && is_blank(text[end - 1]) {
+    while end > from && is_whitespace(text[end - 1]) {
         end -= 1;
     }
     end

@@ -8,9 +8,9 @@ ghost use Rattle.json.specs.Word.{is_space};
 ghost use Rattle.json_lexemes.specs.Found.{IsCut, IsWithin, Stands, named, numbered};
 ghost use Rattle.json_lexemes.specs.Places.{mode_at, left_at};
 ghost use Rattle.json_lexemes.specs.Skipped.{skip};
-ghost use Rattle.json_lexemes.specs.Spelled.{first_items, first_members};
+ghost use Rattle.json_lexemes.specs.Spelled.{first_elements, first_members};
 
-use crate::lexemes::{after, blank_end, byte_at, string_end, value_end};
+use crate::lexemes::{after, byte_at, string_end, value_end, whitespace_end};
 use crate::names::is_name;
 use crate::span::Span;
 
@@ -48,7 +48,7 @@ pub fn member(text: &[u8], from: usize, name: &[u8]) -> Option<Span>
     ensures within { IfSome result (IsWithin text.now) }
 {
     let mut found = None;
-    let mut i = blank_end(text, from);
+    let mut i = whitespace_end(text, from);
     while byte_at(text, i) == b'"' {
         let Some(start) = after(text, string_end(text, i + 1), b':') else {
             return None;
@@ -64,16 +64,16 @@ pub fn member(text: &[u8], from: usize, name: &[u8]) -> Option<Span>
 }
 
 /// The item of this number, in a list whose inside begins at `from`; `None` where it has fewer.
-pub fn item(text: &[u8], from: usize, number: usize) -> Option<Span>
+pub fn element(text: &[u8], from: usize, number: usize) -> Option<Span>
     requires within { from ≤ length text.now }
     requires boundary { IsUtf8 text.now → IsCharBoundary text.now from }
-    ensures found { (js : Items) → left_at text.now from ≡ first_items js
+    ensures found { (js : Items) → left_at text.now from ≡ first_elements js
         → Stands text.now result (numbered number js) }
     ensures cut { mode_at text.now from ≡ between → IfSome result (IsCut text.now) }
     ensures within { IfSome result (IsWithin text.now) }
 {
     let mut left = number;
-    let mut i = blank_end(text, from);
+    let mut i = whitespace_end(text, from);
     while byte_at(text, i) != b']' {
         let value = value_from(text, i);
         if left == 0 {

@@ -95,7 +95,7 @@ fn write_hollow(row: &Row<'_>, out: &mut String) -> Result<(), AllocError>
 fn write_lead(seam: &Seam<'_>, out: &mut String) -> Result<(), AllocError>
     ensures { OnOk result (string_bytes out.new ≡ string_bytes out.old ++ lead_of seam.now) }
 {
-    out.push_str(seam.blank.as_str())?;
+    out.push_str(seam.whitespace.as_str())?;
     out.push_str(seam.name.as_str())?;
     out.push_str(seam.colons.as_str())
 }

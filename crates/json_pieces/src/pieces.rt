@@ -4,7 +4,7 @@ use crate::edit::{Edit, edit_at};
 use crate::node::{Node, write};
 use crate::shape::shape_at;
 use crate::text::Text;
-use json_text::{CheckedText, Shape, split_blanks};
+use json_text::{CheckedText, Shape, split_off_whitespace};
 use jsonptr::{Pointer, Tokens};
 use std::alloc::{AllocError, Global};
 
@@ -56,7 +56,7 @@ impl<'a> Pieces<'a> {
         let text = text.as_str();
         // The length of a text fits a `usize`.
         let _fits = text.len();
-        let (before, value, behind) = split_blanks(text);
+        let (before, value, behind) = split_off_whitespace(text);
         let root = Node::Closed(Text::Kept(value));
         Pieces {
             before,
@@ -115,7 +115,7 @@ impl<'a> Pieces<'a> {
     /// the objects and lists on the way, and not the value.
     ///
     /// ```rust
-    /// let list = pieces.value(alloc, place)?;
+    /// let array = pieces.value(alloc, place)?;
     /// // [1.50, 2]
     /// ```
     pub fn value(&mut self, alloc: Global, pointer: Pointer) -> Result<Option<String>, AllocError>
@@ -136,7 +136,7 @@ impl<'a> Pieces<'a> {
     ///
     /// ```rust
     /// let shape = pieces.shape(alloc, place)?;
-    /// // List
+    /// // Array
     /// ```
     pub fn shape(&mut self, alloc: Global, pointer: Pointer) -> Result<Option<Shape>, AllocError>
         requires pieces { ArePieces self.old }
@@ -168,7 +168,7 @@ impl<'a> Pieces<'a> {
         ensures pieces { IfOk result (λ done. ArePieces self.new) }
         ensures replaced { IfOk result (Replaces (text_of self.old) (tokens_of pointer.entry) (text_in value.entry) (text_of self.new)) }
     {
-        let (_, value, _) = split_blanks(value.as_str());
+        let (_, value, _) = split_off_whitespace(value.as_str());
         let found = self.edit(alloc, pointer.tokens(), Edit::Put(value))?;
         Ok(found.is_some())
     }
@@ -220,7 +220,7 @@ impl<'a> Pieces<'a> {
         let Some((parent, last)) = pointer.split_back() else {
             return self.replace(alloc, pointer, value);
         };
-        let (_, value, _) = split_blanks(value.as_str());
+        let (_, value, _) = split_off_whitespace(value.as_str());
         let name = last.decoded(alloc)?;
         let found = self.edit(alloc, parent.tokens(), Edit::Insert(name.as_str(), value))?;
         Ok(found.is_some())

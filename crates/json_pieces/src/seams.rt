@@ -25,7 +25,7 @@ const MANY: usize = 32;
 #[derive(Drop)]
 pub(crate) struct Seam<'a> {
     /// The blanks behind the bracket or the comma before it.
-    pub blank: Text<'a>,
+    pub whitespace: Text<'a>,
     /// A member's name as it is written; of an item nothing.
     pub name: Text<'a>,
     /// A member's colon, with the blanks around it; of an item nothing.

@@ -31,10 +31,10 @@ abbrev pub if_some : {A B : Type 0} → Option A → (A → B) → B → B
 if_some None f b = b
 if_some (Some a) f b = f a
 
-abbrev pub put_item : ℕ → Json → Items → Items
-put_item n w no_items = no_items
-put_item zero w (item j js) = item w js
-put_item (suc n) w (item j js) = item j (put_item n w js)
+abbrev pub put_element : ℕ → Json → Items → Items
+put_element n w no_items = no_items
+put_element zero w (item j js) = item w js
+put_element (suc n) w (item j js) = item j (put_element n w js)
 
 -- a member of this name is exchanged where no later one has it
 abbrev pub put_member : List ℕ → Json → Members → Members
@@ -46,7 +46,7 @@ put_child t w null = null
 put_child t w (boolean b) = boolean b
 put_child t w (number s) = number s
 put_child t w (string s) = string s
-put_child t w (array js) = array (if_some (place_of t) (λ n. put_item n w js) js)
+put_child t w (array js) = array (if_some (place_of t) (λ n. put_element n w js) js)
 put_child t w (object ms) = object (put_member t w ms)
 
 abbrev pub put_at : Pointer → Json → Json → Json

@@ -10,7 +10,7 @@ use Rattle.json.specs.Word.{is_space}
 use Rattle.json_lexemes.specs.Spelled.{spelled, Says}
 use Rattle.json_lexemes.specs.Places.{mode_at, left_at, HasEnd, IsEnd}
 use Rattle.json_lexemes.specs.Found.{IsCut, IsWithin, or_else}
-use Rattle.json_text.specs.Styled.{blanks_like, colons_like}
+use Rattle.json_text.specs.Styled.{colons_like, whitespace_like}
 use Rattle.json_text.specs.declared.parts.Numbered.{Numbered}
 use Rattle.json_text.specs.declared.parts.Part.{Part}
 use Rattle.json_lexemes.specs.declared.span.Span.{Span}
@@ -48,13 +48,13 @@ abbrev pub members_in : List Child → Members
 members_in [] = no_members
 members_in (c ∷ cs) = member c.0 c.1 (members_in cs)
 
-abbrev pub items_in : List Child → Items
-items_in [] = no_items
-items_in (c ∷ cs) = item c.1 (items_in cs)
+abbrev pub elements_in : List Child → Items
+elements_in [] = no_items
+elements_in (c ∷ cs) = item c.1 (elements_in cs)
 
 abbrev pub tree_in : Bool → List Child → Json
 tree_in true cs = object (members_in cs)
-tree_in false cs = array (items_in cs)
+tree_in false cs = array (elements_in cs)
 
 -- the number of the last of this name
 abbrev pub last_named : List ℕ → List Child → Option ℕ
@@ -178,11 +178,11 @@ pub record EndsName (t : List ℕ) (r : Numbered) (k : ℕ) : Type 0 where
 
 -- the comma, and blanks like those before a child
 abbrev pub IsComma : List ℕ → ℕ → List ℕ → Type 0
-IsComma t start s = (i : ℕ) × IsGap t i start × (s ≡ 44 ∷ blanks_like (slice t i start))
+IsComma t start s = (i : ℕ) × IsGap t i start × (s ≡ 44 ∷ whitespace_like (slice t i start))
 
 -- the comma, blanks like those before a member, the name k, and a colon like its own
 abbrev pub IsMemberAhead : List ℕ → Numbered → List ℕ → List ℕ → Type 0
-IsMemberAhead t r k s = (i : ℕ) × (e : ℕ) × IsGap t i r.part.start × EndsName t r e × (s ≡ 44 ∷ (blanks_like (slice t i r.part.start) ++ (quoted k ++ colons_like (slice t e r.part.value.start))))
+IsMemberAhead t r k s = (i : ℕ) × (e : ℕ) × IsGap t i r.part.start × EndsName t r e × (s ≡ 44 ∷ (whitespace_like (slice t i r.part.start) ++ (quoted k ++ colons_like (slice t e r.part.value.start))))
 
 -- the comma, and the blanks behind a value before the item r of number n, like those before it: before the first like those of the second
 abbrev pub IsTrail : List ℕ → ℕ → ℕ → Numbered → List ℕ → Type 0

@@ -94,7 +94,7 @@ impl<'a> CheckedText<'a> {
     ///
     /// ```rust
     /// let text = CheckedText::new(alloc, r#"{"list": [1.50, 2] }"#)?;
-    /// let list = text.value(alloc, place)?;
+    /// let array = text.value(alloc, place)?;
     /// // [1.50, 2]
     /// ```
     pub fn value(

@@ -12,7 +12,7 @@ ghost use Rattle.json_lexemes.specs.Spelled.{Says};
 
 use crate::changes::exchanged;
 use crate::parts::{Numbered, is_object, number_of, part_at, row_in};
-use json_lexemes::{Span, blank_end};
+use json_lexemes::{Span, whitespace_end};
 use std::alloc::{AllocError, Global};
 
 /// What goes with a member or an item, so that no comma is left: up to the next one; from the one
@@ -31,7 +31,7 @@ fn edges(text: &[u8], number: usize, found: Numbered) -> Span
     }
     let start = found.before;
     let end = if number == 0 {
-        blank_end(text, value.end)
+        whitespace_end(text, value.end)
     } else {
         value.end
     };

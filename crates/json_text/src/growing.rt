@@ -14,9 +14,9 @@ ghost use Rattle.json_text.specs.Rows.{AreInOrder, CutNone, Child, HasRow, IsChi
 ghost use Rattle.json_text.specs.Rows.{IsMember, IsMemberAhead, IsNumbered, IsTrail};
 
 use crate::parts::{Numbered, last_part, part_at, row_in};
-use crate::style::{blanks_like, colons_like};
+use crate::style::{colons_like, whitespace_like};
 use json::Writer;
-use json_lexemes::{blank_end, string_end};
+use json_lexemes::{string_end, whitespace_end};
 use jsonptr::index::Index;
 use std::alloc::{AllocError, Global};
 
@@ -67,7 +67,7 @@ fn gap(text: &[u8], number: usize, found: Numbered) -> usize
     if number == 0 {
         found.before
     } else {
-        blank_end(text, found.before) + 1
+        whitespace_end(text, found.before) + 1
     }
 }
 
@@ -82,7 +82,7 @@ fn comma(alloc: Global, text: &str, number: usize, last: Numbered) -> Result<Str
     let gap = gap(text.as_bytes(), number, last);
     let mut ahead = String::new(alloc);
     ahead.push(',')?;
-    ahead.push_str(blanks_like(&text[gap..last.part.start]))?;
+    ahead.push_str(whitespace_like(&text[gap..last.part.start]))?;
     Ok(ahead)
 }
 
@@ -175,7 +175,7 @@ fn trail(
 }
 
 /// The text of a list, whose inside begins at `start`, with a new item.
-fn with_item(
+fn with_element(
     alloc: Global,
     text: &str,
     start: usize,
@@ -239,7 +239,7 @@ pub(crate) fn with_child(
         return Ok(None);
     };
     if !row.named {
-        return with_item(alloc, text, row.start, name, value);
+        return with_element(alloc, text, row.start, name, value);
     }
     let new = with_member(alloc, text, row.start, name, value)?;
     Ok(Some(new))

@@ -8,7 +8,7 @@
 //!
 //! ```rust
 //! let text = r#"{"name": "x", "list": [1.50, "\u0041"] }"#;
-//! let list = value_text(alloc, text, place)?;
+//! let array = value_text(alloc, text, place)?;
 //! // [1.50, "\u0041"]
 //! ```
 #![tactic(auto)]
@@ -31,10 +31,10 @@ mod style;
 pub use additions::add;
 pub use changes::{remove, replace};
 pub use checked::CheckedText;
-pub use cuts::{Cut, blanks_at, cut_at, is_name_text, split_blanks};
+pub use cuts::{Cut, cut_at, is_name_text, split_off_whitespace, whitespace_at};
 pub use fault::{ChangeFault, TextFault};
 pub use growing::quoted;
 pub use listing::{Shape, child_texts};
 pub use reading::{is_deeper, value_text};
 pub use strings::string_of;
-pub use style::{blanks_like, colons_like};
+pub use style::{colons_like, whitespace_like};

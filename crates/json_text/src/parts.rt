@@ -12,7 +12,7 @@ ghost use Rattle.json_text.specs.Rows.{ArePlaces, AreInOrder, Child, CutNone, Fi
 ghost use Rattle.json_text.specs.Rows.{IsInside, IsLast, IsNumbered, IsSolid, inside, last_named, tree_in};
 ghost use Rattle.json_lexemes.specs.Spelled.{Says};
 
-use json_lexemes::{Span, after, blank_end, byte_at, is_name, string_end, value_from};
+use json_lexemes::{Span, after, byte_at, is_name, string_end, value_from, whitespace_end};
 use jsonptr::index::Index;
 
 /// A member or an item.
@@ -41,7 +41,7 @@ fn value_start(text: &[u8], start: usize, named: bool) -> Option<usize>
         → FindsValue text.now named cs start result }
     ensures bounds { IfSome result (λ v. (start ≤ v) × (v ≤ length text.now)) }
     ensures quoted { IfSome result (λ v. named ≡ true → start < v) }
-    ensures item { named ≡ false → IfSome result (λ v. v ≡ start) }
+    ensures element { named ≡ false → IfSome result (λ v. v ≡ start) }
     ensures solid { IfSome result (IsSolid text.now) }
     ensures begins { mode_at text.now start ≡ between
         → IfSome result (λ v. mode_at text.now v ≡ between) }
@@ -64,7 +64,7 @@ pub(crate) fn part_from(text: &[u8], start: usize, named: bool) -> Option<Part>
     requires solid { IsSolid text.now start }
     ensures start { IfSome result (λ p. p.start ≡ start) }
     ensures quoted { IfSome result (λ p. named ≡ true → start < length text.now) }
-    ensures item { named ≡ false → IfSome result (λ p. p.value.start ≡ start) }
+    ensures element { named ≡ false → IfSome result (λ p. p.value.start ≡ start) }
     ensures part { (cs : List Child) → left_at text.now start ≡ inside named cs
         → FindsPart text.now named cs result }
     ensures places { mode_at text.now start ≡ between → IfSome result (ArePlaces text.now) }
@@ -87,7 +87,7 @@ pub(crate) fn part_at(text: &[u8], from: usize, named: bool, number: usize) -> O
         (λ r. (IsUtf8 text.now → IsCharBoundary text.now r.before) × CutNone text.now r.part) }
 {
     let mut before = from;
-    let mut start = blank_end(text, from);
+    let mut start = whitespace_end(text, from);
     let mut passed = 0;
     while let Some(part) = part_from(text, start, named) {
         if passed == number {
@@ -114,7 +114,7 @@ pub(crate) fn last_part(text: &[u8], from: usize, named: bool) -> Option<(usize,
         (λ r. (IsUtf8 text.now → IsCharBoundary text.now r.1.before) × CutNone text.now r.1.part) }
 {
     let mut before = from;
-    let mut start = blank_end(text, from);
+    let mut start = whitespace_end(text, from);
     let mut number = 0;
     while let Some(part) = part_from(text, start, named) {
         let Some(next) = part.next else {
@@ -141,7 +141,7 @@ pub(crate) fn last_named(text: &[u8], from: usize, name: &[u8]) -> Option<usize>
         → result ≡ last_named name.now cs }
 {
     let mut found = None;
-    let mut start = blank_end(text, from);
+    let mut start = whitespace_end(text, from);
     let mut number = 0;
     while let Some(part) = part_from(text, start, true) {
         found = latest(is_name(text, start + 1, name), number, found);
@@ -168,7 +168,7 @@ pub(crate) fn row_in(text: &[u8]) -> Option<Row>
     ensures within { IfSome result (λ o. o.start ≤ length text.now) }
     ensures boundary { IsUtf8 text.now → IfSome result (λ o. IsCharBoundary text.now o.start) }
 {
-    let open = blank_end(text, 0);
+    let open = whitespace_end(text, 0);
     let first = byte_at(text, open);
     if first == b'{' {
         let start = open + 1;
@@ -189,7 +189,7 @@ pub(crate) fn is_object(text: &[u8]) -> bool
     ensures yes { (v : Json) → Says text.now v → result ≡ true → IsObject v }
     ensures no { (v : Json) → Says text.now v → result ≡ false → ¬ IsObject v }
 {
-    byte_at(text, blank_end(text, 0)) == b'{'
+    byte_at(text, whitespace_end(text, 0)) == b'{'
 }
 
 /// The number of what a token names: of several members of one name that of the last.

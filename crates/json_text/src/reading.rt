@@ -59,7 +59,7 @@ pub(crate) fn find(alloc: Global, text: &str, pointer: Pointer) -> Result<Option
 ///
 /// ```rust
 /// let text = r#"{"name": "x", "list": [1.50, "\u0041"] }"#;
-/// let list = value_text(alloc, text, place)?;
+/// let array = value_text(alloc, text, place)?;
 /// // [1.50, "\u0041"]
 /// ```
 pub fn value_text<'a>(
