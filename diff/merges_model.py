@@ -2,8 +2,8 @@
 the bytes.
 
 The value is RFC 7396's, over what Python's json reads. Of the bytes the model says which are kept, which are
-put in, and in which order. How many blanks a member brings along that is new to its object it leaves open, and
-how its name is spelled."""
+put in, and in which order. How much whitespace a member brings along that is new to its object it leaves open,
+and how its name is spelled."""
 from decimal import Decimal
 import json
 import re
@@ -67,15 +67,16 @@ def merged_value(target, patch):
 
 
 class Member:
-    """A member as it is written: `lead` are the blanks before it, behind the bracket or the comma, and `trail`
-    those behind its value; None where that is left open. So are the name and the colon, of one that is new."""
+    """A member as it is written: `lead` is the whitespace before it, behind the bracket or the comma, and
+    `trail` that behind its value; None where that is left open. So are the name and the colon, of one that
+    is new."""
 
     def __init__(self, lead, said, head, value, trail):
         self.lead, self.said, self.head, self.value, self.trail = lead, said, head, value, trail
 
 
 class Object:
-    """An object as it is written. `inside` are the blanks in one that has no member."""
+    """An object as it is written. `inside` is the whitespace in one that has no member."""
 
     def __init__(self, members, inside):
         self.members, self.inside = members, inside
@@ -135,7 +136,7 @@ def merge_member(into, member):
 
 
 def take(into, member):
-    """With the comma and the blanks up to the next member; the last with those before it."""
+    """With the comma and the whitespace up to the next member; the last with that before it."""
     number = into.members.index(member)
     if number + 1 < len(into.members):
         into.members[number + 1].lead = member.lead
@@ -152,7 +153,7 @@ def put(into, member):
     into.members.append(member)
 
 
-# ---- what is wanted, as a row of pieces: texts, None for any blanks, and names by what they say
+# ---- what is wanted, as a row of pieces: texts, None for any whitespace, and names by what they say
 
 
 def pieces_of(value):

@@ -4,8 +4,8 @@
     diff/texts.py [--seed S] [--cases N] --ours PROGRAM [--rust PROGRAM] [--wide] [--spoil]
 
 PROGRAM is that of diff/texts.rt.txt, which `diff/build FOLDER json_patch_texts diff/texts.rt.txt
-json_patch_text` proves and builds. The texts have blanks of all kinds anywhere, names and strings with
-escapes, names that come twice, decimals and exponents of any size, and empty objects and lists. Each
+json_patch_text` proves and builds. The texts have whitespace of all kinds anywhere, names and strings with
+escapes, names that come twice, decimals and exponents of any size, and empty objects and arrays. Each
 answer has to be the model's (`texts_model`), byte by byte, and each refusal its number, path and kind.
 In one case of eight a byte of the text or of the patch is changed or cut off: then there has to be an answer
 or a named refusal. With `--rust`, the program of diff/run.py round the Rust crate, each case whose numbers are

@@ -17,8 +17,8 @@ class Refused(Exception):
 
 
 class Node:
-    """A value in a text: `kind` is "object", "array", "string", "number" or a literal. Of an object or a
-    list `parts` are the members or items, each (start, name, name's end, node)."""
+    """A value in a text: `kind` is "object", "array", "string", "number" or a literal. Of an object or
+    an array `parts` are the members or elements, each (start, name, name's end, node)."""
 
     def __init__(self, kind, start):
         self.kind, self.start, self.end, self.parts, self.said = kind, start, None, [], None
@@ -72,7 +72,7 @@ def row(text, at):
 
 
 def number_of(node, token):
-    """The number of the member or item that the token names, or None."""
+    """The number of the member or element that the token names, or None."""
     if node.kind == "object":
         return max((n for n, part in enumerate(node.parts) if part[1] == token), default=None)
     if node.kind == "array" and INDEX.match(token) and int(token) < len(node.parts):
@@ -123,12 +123,12 @@ def replaced(text, node, put):
 
 
 def before(node, number):
-    """The end of the member or item before, or of the bracket."""
+    """The end of the member or element before, or of the bracket."""
     return node.parts[number - 1][3].end if number else node.start + 1
 
 
 def cut(text, node, number):
-    """Without the member or item of this number, and what goes with it."""
+    """Without the member or element of this number, and what goes with it."""
     start, child = node.parts[number][0], node.parts[number][3]
     if number + 1 < len(node.parts):
         return text[:start] + text[node.parts[number + 1][0]:]
@@ -138,7 +138,7 @@ def cut(text, node, number):
 
 
 def gap(text, node, number):
-    """The blanks before a member or an item, behind the bracket or the comma."""
+    """The whitespace before a member or an element, behind the bracket or the comma."""
     start = node.parts[number][0]
     comma = before(node, number)
     return text[(whitespace_end(text, comma) + 1 if number else comma):start]

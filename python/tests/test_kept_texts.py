@@ -142,7 +142,7 @@ class Texts(unittest.TestCase):
             self.assertEqual((caught.exception.kind, isinstance(caught.exception, InvalidJsonPatch)), (kind, patch != {}))
 
     def test_merges_within(self):
-        """A merge leaves at most the bytes of both texts and so many more; many blanks aren't taken over."""
+        """A merge leaves at most the bytes of both texts and so many more; much whitespace isn't taken over."""
         wide, many = "{" + " " * 60_000 + '"a":1}', {f"m{number}": 1 for number in range(6_000)}
         made = merge_text(wide, many, limits=Limits(copied=0))
         self.assertEqual(made, wide[:-1] + "," + json.dumps(many, separators=(",", ":"))[1:])

@@ -63,7 +63,7 @@ pub named_by : (t : List ℕ) (i k : ℕ) (r : Option ℕ) → i < length t → 
 named_by t i k None h q l c a = tt
 named_by t i k (Some m) h q l c a = let s = string_spells t i k h q l c in (s.0, s.1 ∙ ap (λ ls. token (tokens.string s.0) ∷ ls) a)
 
--- an opening bracket, read with a blank past the end
+-- an opening bracket, read with a space past the end
 pub record Bracket (t : List ℕ) (i c : ℕ) : Type 0 where
   pub here : i < length t
   pub either : (get_or t i 0 ≡ 123) ⊎ (get_or t i 0 ≡ 91)

@@ -1,4 +1,4 @@
--- A list has fewer items than its text has bytes.
+-- An array has fewer elements than its text has bytes.
 use Rattle.std.proofs.Common.{◌≡◌, ℕ, zero, suc, ◌<◌, ◌≤◌, List, [], ◌∷◌, length, Some, ap, arith, length-append}
 use Rattle.std.proofs.lemmas.Option.{none-some}
 use Rattle.json.specs.Json.{Json, null, boolean, number, string, array, object, Items, no_items, item}

@@ -1,4 +1,4 @@
--- The items of a list, from one to the next.
+-- The elements of an array, from one to the next.
 use Rattle.std.proofs.Common.{◌≡◌, ℕ, zero, suc, ◌-◌, ◌<◌, false, List, [], ◌∷◌, ◌++◌, length, get_or, Some, None, refl, sym, ap, ◌∙◌, subst, arith}
 use Rattle.std.proofs.lemmas.List.{get_or_default}
 use Rattle.json.specs.Json.{Json, null, boolean, number, string, array, object, Items, no_items, item}
@@ -17,7 +17,7 @@ abbrev tail : List Lexeme → List Lexeme
 tail [] = []
 tail (l ∷ ls) = ls
 
--- no value begins as a list ends
+-- no value begins as an array ends
 pub no_end : (j : Json) (ls : List Lexeme) → kind (spelled j ++ ls) ≡ 93 → ⊥
 no_end null ls e = absurd (omega (arith, e))
 no_end (boolean b) ls e = absurd (omega (arith, e))
@@ -26,7 +26,7 @@ no_end (string s) ls e = absurd (omega (arith, e))
 no_end (array js) ls e = absurd (omega (arith, e))
 no_end (object ms) ls e = absurd (omega (arith, e))
 
--- at the bracket there is no item
+-- at the bracket there is no element
 pub none_at_bracket : (t : List ℕ) (n : ℕ) (js : Items) (i m : ℕ) → i < length t → get_or t i 32 ≡ 93 → AreAhead t n js i m → Stands t None (numbered n js)
 none_at_bracket t n js i m h b (rest, at, is) = by_rest rest at is
   where
@@ -34,7 +34,7 @@ none_at_bracket t n js i m h b (rest, at, is) = by_rest rest at is
     by_rest no_items e f = subst (Stands t None) (sym f) tt
     by_rest (item j more) e f = absurd (no_end j (more_elements more) (sym (ap kind (sym (operator_left t i 93 h (get_or_default t i 0 32 h ∙ b) refl) ∙ e))))
 
--- an item stands at i, and what is left behind it
+-- an element stands at i, and what is left behind it
 pub record HasElement (t : List ℕ) (n : ℕ) (js : Items) (m : ℕ) (s : Span) : Type 0 where
   pub value : Json
   pub more : Items

@@ -74,7 +74,7 @@ each_operator P a b c d e f x h = g5 (or_cases _ _ h)
     g5 (inl i) = g4b (or_cases _ _ i)
     g5 (inr i) = at 44 i f
 
--- ---- blanks
+-- ---- whitespace
 
 pub whitespace_left : (t : List ℕ) (i : ℕ) → i < length t → is_space (get_or t i 0) ≡ true → left_at t (i + 1) ≡ left_at t i
 unfolding lex
@@ -286,7 +286,7 @@ operator_next m c e (inr f) = ap₂ next_mode f e
 pub operator_end : (t : List ℕ) (i : ℕ) → i < length t → is_operator (get_or t i 0) ≡ true → IsEnd t i → mode_at t (i + 1) ≡ between
 operator_end t i h o e = mode_step t i h ∙ operator_next (mode_at t i) _ (operator_class (get_or t i 0) o) (end_modes t i h e)
 
--- where neither an operator nor a blank stands, no word has just ended
+-- where neither an operator nor whitespace stands, no word has just ended
 pub begins_here : (t : List ℕ) (i : ℕ) → i < length t → is_operator (get_or t i 0) ≡ false → is_space (get_or t i 0) ≡ false → IsEnd t i → mode_at t i ≡ between
 begins_here t i h o s (inl e) = e
 begins_here t i h o s (inr (inl e)) = absurd (true≢false (sym e.1 ∙ ap ends_word (drop_step t i h) ∙ ap₂ (λ a b. a || b) o s))

@@ -1,4 +1,4 @@
--- The blanks at the end of a text.
+-- The whitespace at the end of a text.
 use Rattle.std.proofs.Common.{◌≡◌, ◌⊎◌, inl, inr, ℕ, zero, suc, ◌+◌, ◌-◌, ◌<◌, ◌≤◌, Bool, true, false, ◌||◌, List, [], ◌∷◌, length, drop, get_or, refl, sym, ap, ◌∙◌, subst, arith}
 use Rattle.std.proofs.lemmas.List.{drop_all}
 use Rattle.std.proofs.lemmas.Str.{IsCharBoundary-before_ascii}
@@ -23,7 +23,7 @@ end_left t i e = ap (lex between) (drop_all i t (omega (arith, e)))
 pub end_ended : (t : List ℕ) (i : ℕ) → i ≡ length t → ends_word (drop i t) ≡ true
 end_ended t i e = ap ends_word (drop_all i t (omega (arith, e)))
 
--- ---- one blank before
+-- ---- a byte of whitespace before
 
 or_right : (a b : Bool) → b ≡ true → (a || b) ≡ true
 or_right true b e = refl

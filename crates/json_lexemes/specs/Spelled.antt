@@ -1,4 +1,4 @@
--- What a text says (RFC 8259): a tree, spelled by lexemes. Blanks may stand around each, and no rule speaks of them. A text with
+-- What a text says (RFC 8259): a tree, spelled by lexemes. Whitespace may stand around each, and no rule speaks of it. A text with
 -- an unpaired surrogate, such as "\ud800", says none: the grammar takes it, but what it says is left open (section 8.2).
 use Rattle.std.specs.Prelude.{◌≡◌, ◌≤◌, ℕ, List, [], ◌∷◌, ◌++◌}
 use Rattle.json.specs.Json.{Json, null, boolean, number, string, array, object, Items, no_items, item, Members, no_members, member, max_depth}

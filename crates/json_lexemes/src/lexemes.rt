@@ -14,8 +14,8 @@ ghost use Rattle.json_lexemes.specs.Runs.{goes_on, is_bracket, is_flat, is_mark,
 use crate::scan::{Sought, WIDE, first_of};
 use std::simd::prelude::*;
 
-/// Of each byte outside of strings: `0` for a quote or a bracket, `1` for a blank, a comma or a colon, `2`
-/// for a part of a word. One load takes the place of up to ten comparisons.
+/// Of each byte outside of strings: `0` for a quote or a bracket, `1` for whitespace, a comma or a colon,
+/// `2` for a part of a word. One load takes the place of up to ten comparisons.
 static KIND: [u8; 256] = *b"\
     22222222211221222222222222222222\
     12022222222212222222222222122222\
@@ -26,7 +26,7 @@ static KIND: [u8; 256] = *b"\
     22222222222222222222222222222222\
     22222222222222222222222222222222";
 
-/// Whether this is a blank: a space, a tab, a line feed or a carriage return.
+/// Whether this is whitespace: a space, a tab, a line feed or a carriage return.
 #[inline(always)]
 pub fn is_whitespace(c: u8) -> bool
     ensures { result ≡ is_space c }
@@ -42,7 +42,7 @@ pub fn is_operator(c: u8) -> bool
     c == b'{' || c == b'}' || c == b'[' || c == b']' || c == b':' || c == b','
 }
 
-/// The byte at `i`, or a blank past the end.
+/// The byte at `i`, or a space past the end.
 #[inline(always)]
 pub fn byte_at(text: &[u8], i: usize) -> u8
     ensures within { result ≢ 32 → i < length text.now }
@@ -51,7 +51,7 @@ pub fn byte_at(text: &[u8], i: usize) -> u8
     if i < text.len() { text[i] } else { b' ' }
 }
 
-/// The first place from `from` on where no blank stands.
+/// The first place from `from` on where no whitespace stands.
 #[inline(always)]
 pub fn whitespace_end(text: &[u8], from: usize) -> usize
     requires { from ≤ length text.now }
@@ -69,8 +69,8 @@ pub fn whitespace_end(text: &[u8], from: usize) -> usize
     i
 }
 
-/// The place past the operator `c` and the blanks around it; `None` where another lexeme comes first, or
-/// none does.
+/// The place past the operator `c` and the whitespace around it; `None` where another lexeme comes first,
+/// or none does.
 #[inline(always)]
 pub fn after(text: &[u8], from: usize, c: u8) -> Option<usize>
     requires within { from ≤ length text.now }
@@ -375,8 +375,8 @@ fn last_lexeme_end(text: &[u8], from: usize) -> usize
     end
 }
 
-/// The place after the value that begins at `from`, blanks before it aside, or after the last lexeme where
-/// brackets stay open.
+/// The place after the value that begins at `from`, whitespace before it aside, or after the last lexeme
+/// where brackets stay open.
 pub fn value_end(text: &[u8], from: usize) -> usize
     requires { from ≤ length text.now }
     ensures bounds { (from ≤ result) × (result ≤ length text.now) }
@@ -402,7 +402,7 @@ pub fn value_end(text: &[u8], from: usize) -> usize
     end
 }
 
-/// The place after the last byte that is no blank, or `from` where none stands behind that.
+/// The place after the last byte that isn't whitespace, or `from` where none stands behind that.
 pub fn last_end(text: &[u8], from: usize) -> usize
     requires { from ≤ length text.now }
     ensures bounds { (from ≤ result) × (result ≤ length text.now) }

@@ -5,9 +5,9 @@
 //! no check that it is JSON, but for one call. Each contract says which lexemes are left at the place that
 //! it answers, and that no lexeme and no character is cut there.
 //!
-//! [`value_end`] passes over a value by counting brackets, [`member`] and [`element`] find one in an object
-//! or a list, and [`is_name`] compares a name with its escapes read. [`is_json_within`] is the one check:
-//! that a whole text is JSON and nests no deeper than so many levels.
+//! [`value_end`] passes over a value by counting brackets, [`member`] and [`element`] find one in an
+//! object or an array, and [`is_name`] compares a name with its escapes read. [`is_json_within`] is the one
+//! check: that a whole text is JSON and nests no deeper than so many levels.
 #![tactic(auto)]
 
 mod grammar;

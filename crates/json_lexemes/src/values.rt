@@ -1,4 +1,4 @@
-//! A value by its place: of a member, or an item.
+//! A value by its place: of a member, or an element.
 
 ghost use Rattle.std.specs.Prelude.{◌≡◌, ◌<◌, ◌≤◌, Some, false, length, get_or, IfSome, if◌then◌else◌};
 ghost use Rattle.std.specs.Str.{IsUtf8, IsCharBoundary};
@@ -14,7 +14,7 @@ use crate::lexemes::{after, byte_at, string_end, value_end, whitespace_end};
 use crate::names::is_name;
 use crate::span::Span;
 
-/// The value that begins at `start`, where no blank stands.
+/// The value that begins at `start`, where no whitespace stands.
 #[inline(always)]
 pub fn value_from(text: &[u8], start: usize) -> Span
     requires within { start ≤ length text.now }
@@ -63,7 +63,7 @@ pub fn member(text: &[u8], from: usize, name: &[u8]) -> Option<Span>
     found
 }
 
-/// The item of this number, in a list whose inside begins at `from`; `None` where it has fewer.
+/// The element of this number, in an array whose inside begins at `from`; `None` where it has fewer.
 pub fn element(text: &[u8], from: usize, number: usize) -> Option<Span>
     requires within { from ≤ length text.now }
     requires boundary { IsUtf8 text.now → IsCharBoundary text.now from }

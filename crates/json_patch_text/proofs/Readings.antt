@@ -1,4 +1,4 @@
--- A patch's items, read one after another.
+-- A patch's elements, read one after another.
 use Rattle.std.proofs.Common.{◌≡◌, ◌<◌, ◌≤◌, ◌+◌, ℕ, zero, suc, List, [], ◌∷◌, ◌++◌, length, drop, get_or, Some, refl, sym, ap, ◌∙◌, subst, arith, append_assoc, append-nil, length-append}
 use Rattle.std.proofs.lemmas.List.{drop_more}
 use Rattle.std.proofs.lemmas.Option.{none-some}
@@ -26,7 +26,7 @@ use Rattle.json_lexemes.specs.Spelled.{IsShallowText}
 begins : (text : List ℕ) (js : Items) (es : List Texts) → AreTextsOfElements es js → AreStretchesOfElements text (array js) zero es → items_depth js ≤ json.max_depth → IsRead text js es [] 0
 begins text js es h stretches low = record { rest = js; texts = h; shallow = low; done = []; written = tt; reads = λ more r. r; refuses = λ r k kind f. let e : k ≡ 0 + k = omega arith in subst (λ m. RefusesItem (elements_of r js) m kind) e f; count = refl; stretches = stretches; values = λ k o e. absurd (none-some o e) }
 
--- of a list all items are ahead
+-- of an array all elements are ahead
 pub none_read : (text : List ℕ) (p : Json) (es : List Texts) (os : List TextOperation) → IsShallowText text p → shape_of p ≡ Array → AreTextsIn p es → AreStretchesIn text p es → os ≡ [] → IsReadPatch text p es os 0
 none_read text (array js) es os says shape h stretches is = (js, refl, subst (λ x. IsRead text js es x 0) (sym is) (begins text js es h stretches (omega (arith, says.1))))
 none_read text null es os says shape h stretches is = cc

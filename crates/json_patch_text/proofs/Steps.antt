@@ -50,7 +50,7 @@ remove_object r k ms =
     (get_without k (members_of r ms no_members) (members_are r ms) ∙ sym (ap (option_map (data_of r)) (remove_here k ms)))
     (λ q n. get_without_other q k (members_of r ms no_members) n ∙ found r q ms ∙ sym (ap (option_map (data_of r)) (remove_other q k ms n)))
 
--- ---- lists
+-- ---- arrays
 
 pub count_is : (r : Reading) (js : json.Items) → items_len (elements_of r js) ≡ count js
 count_is r json.no_items = refl

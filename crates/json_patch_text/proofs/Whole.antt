@@ -1,4 +1,4 @@
--- A text with no blanks around it is where its own value stands.
+-- A text with no whitespace around it is where its own value stands.
 use Rattle.std.proofs.Common.{◌≡◌, ℕ, suc, ◌-◌, List, [], ◌∷◌, ◌++◌, length, get_or, Bool, true, false, cond, ◌==◌, refl, sym, ap, ◌∙◌, append-nil, arith, length-append}
 use Rattle.std.proofs.lemmas.Bool.{false≢true}
 use Rattle.json.specs.Json.{Json, array, object, no_items, no_members}
@@ -8,7 +8,7 @@ use Rattle.json_text.specs.Pointed.{IsTight, IsWrittenAt}
 use Rattle.json_lexemes.specs.Spelled.{Says}
 use Rattle.json_lexemes.proofs.FirstBytes.{kind, byte_by_kind}
 
--- ---- blanks
+-- ---- whitespace
 
 is_whitespace : (a b c d : Bool) → cond a quote (cond b backslash (cond c operator (cond d space other))) ≡ space → d ≡ true
 is_whitespace true b c d e = cc
@@ -31,7 +31,7 @@ first_whitespace : (x : ℕ) (xs : List ℕ) → lex between (x ∷ xs) ≡ [] �
 unfolding lex
 first_whitespace x xs e = let h = no_lexeme x xs (class x) e in (class_whitespace x h.0, h.1)
 
--- the last byte, or a blank
+-- the last byte, or whitespace
 abbrev last : List ℕ → ℕ
 last s = get_or s (length s - 1) 32
 

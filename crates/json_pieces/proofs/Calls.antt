@@ -30,7 +30,7 @@ use Rattle.json_pieces.proofs.Lifts.{regroup}
 use Rattle.json_text.proofs.Rows.Leads.{value_before}
 use Rattle.json_pieces.proofs.Rows.Says.{whitespace_lead}
 
--- ---- with the blanks around it
+-- ---- with the whitespace around it
 
 pub says_around : (a s b : List ℕ) (j : Json) → IsWhitespace a → IsWhitespace b → Says s j → Says (a ++ (s ++ b)) j
 says_around a s b j h k says = (whitespace_lead a h).lexed (s ++ b) ∙ value_before s j b says (ap follows k.0) ∙ ap (λ l. spelled j ++ l) k.0 ∙ append-nil (spelled j)

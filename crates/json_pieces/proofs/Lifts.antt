@@ -1,4 +1,4 @@
--- An edit in a child is one in its object or list.
+-- An edit in a child is one in its object or array.
 use Rattle.std.proofs.Common.{◌≡◌, inl, inr, ℕ, ◌<◌, Bool, List, [], ◌∷◌, ◌++◌, length, Option, Some, None, option_and_then, refl, sym, ap, ◌∙◌, subst, append_assoc}
 use Rattle.std.specs.Prelude.{String, option_map}
 use Rattle.std.specs.declared.alloc.Global.{Global}
@@ -72,7 +72,7 @@ module _ (b : Bool) (hollow t : List ℕ) (n : ℕ) (cs : List Child) (ps : List
   lift_looks P found s (same, shape) =
       (s.split.put hollow x ∙ ap (λ y. s.split.before ++ (y ++ s.split.behind)) same ∙ sym (s.split.whole hollow), shape ∙ sym (ap (option_map shape_of) (below t P (tree_in b cs) s.child_tree (tree_at P s.child_tree) s.is refl)))
 
--- what holds of the child, M, makes what holds of its object or list, N
+-- what holds of the child, M, makes what holds of its object or array, N
 pub lift : (b : Bool) (hollow t : List ℕ) (n : ℕ) (cs : List Child) (ps : List Piece) (x : List ℕ) (M N : List ℕ → Json → List ℕ → Type 0) → AllSuit b cs ps → IsWhitespace hollow → n < length ps → IsNumberOf b cs t n
     → ((s : Stands b t n cs ps) → M (value_at n ps) s.child_tree x → N (row_text b hollow ps) (tree_in b cs) (row_text b hollow (with_value n x ps)))
     → ((j : Json) → Says (value_at n ps) j → M (value_at n ps) j x) → (j : Json) → Says (row_text b hollow ps) j → N (row_text b hollow ps) j (row_text b hollow (with_value n x ps))

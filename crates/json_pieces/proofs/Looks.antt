@@ -65,7 +65,7 @@ module _ (r : Row) (n : ℕ) (v w : Node) (P : Pointer) (h : IsSound (row_view r
   looked_below c t k is names =
       IfOk-weaker c _ _ (λ found. set_makes r n v w h l e (λ text j new. Looks text j P new found) (λ text j new. Looks text j (t ∷ P) new found) t k is names (λ cs s. lift_looks r.named (text_bytes r.hollow) t n cs _ _ P found s))
 
--- with the blanks around it
+-- with the whitespace around it
 pub looks_around : (a b s new : List ℕ) (P : Pointer) (found : Option Shape) → IsWhitespace a → IsWhitespace b → (i : Json) × Says s i → ((j : Json) → Says s j → Looks s j P new found) → (j : Json) → Says (a ++ (s ++ b)) j → Looks (a ++ (s ++ b)) j P (a ++ (new ++ b)) found
 looks_around a b s new P found h k (i, root) looked j says =
     let (same, shape) = looked i root in

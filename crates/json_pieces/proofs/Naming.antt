@@ -96,7 +96,7 @@ not_here ss cs i m k s is h l n e d none f =
     let rest : last_named k more ≡ None = ap (last_named k) (sym (drop_next cs i c more at) ∙ ap (λ x. drop x cs) (sym next)) ∙ none in
     ap (last_named k) at ∙ ap₂ (λ o b. or_else (option_map suc o) (cond b (Some zero) None)) rest (bytes_differ c.0 k (λ same. true≢false (sym ((d c.0 text).1 same) ∙ f)))
 
--- ---- an item
+-- ---- an element
 
 pub past_elements : (cs : List Child) (t : List ℕ) (i n : ℕ) → place_of t ≡ Some i → length cs ≡ n → n ≤ i → child t (tree_in false cs) ≡ None
 past_elements cs t i n e l h = ap (option_and_then (λ k. get_item k (elements_in cs))) e ∙ no_element cs i (drop_all i cs (omega (arith, l, h)))

@@ -112,7 +112,7 @@ put_whole new e x s ready is left same =
     let value : (w : Json) × IsTextOf x.now w = subst IsReady is ready in
     subst IsWhole (sym (ap view left ∙ view_closed s)) (tt, subst (λ y. (w : Json) × IsTextOf y w) (sym same) value)
 
--- ---- in the object or the list
+-- ---- in the object or the array
 
 pub taken : (e : Edit) (t : Bor (List ℕ)) (r : Row) (new : List ℕ) (done : Bool) → IsSound (row_view r) → e ≡ Take t → ((j : Json) → Says (tree_text (row_view r)) j → TakesOut (tree_text (row_view r)) j t.now new done) → (j : Json) → Says (tree_text (row_view r)) j → Changes e (tree_text (row_view r)) j new done
 taken e t r new done h is made j says = subst (λ x. Changes x (tree_text (row_view r)) j new done) (sym is) (by_done done (made j says))

@@ -16,7 +16,7 @@ pub record HasLost (old : List Seam) (number : ℕ) (trail : Text) (new : List S
   pub empty : text_bytes none ≡ []
   pub left : new ≡ slice_set old number (record { whitespace = seam.whitespace; name = seam.name; colons = seam.colons; trail = none })
 
--- that of this number has other blanks before it, of these bytes, in place of the text old_whitespace
+-- that of this number has other whitespace before it, of these bytes, in place of the text old_whitespace
 pub record HasGained (old : List Seam) (number : ℕ) (bytes : List ℕ) (old_whitespace : Text) (new : List Seam) : Type 0 where
   pub seam : Seam
   pub is : seam ≡ slice_index_or old number seam

@@ -1,4 +1,4 @@
-//! An object or a list, opened: one pass over its text.
+//! An object or an array, opened: one pass over its text.
 
 ghost use Rattle.std.specs.Prelude.{◌≡◌, IfOk, MatchOption, OnOk, List, length, ℕ};
 ghost use Rattle.json.specs.Json.{Json};
@@ -15,7 +15,7 @@ use crate::text::Text;
 use json_text::{Cut, Shape, cut_at, whitespace_at};
 use std::alloc::{AllocError, Global};
 
-/// The row of a text that is an object or a list.
+/// The row of a text that is an object or an array.
 fn row_of<'a>(alloc: Global, text: &'a str, named: bool) -> Result<Row<'a>, AllocError>
     requires { (cs : List Child) × IsTextOf text.now (tree_in named cs) }
     ensures { IfOk result (IsRowOf text.now) }
@@ -70,7 +70,7 @@ fn row_with<'a>(
     }
 }
 
-/// The row of a text; `None` where that is neither an object nor a list.
+/// The row of a text; `None` where that is neither an object nor an array.
 fn opened<'a>(alloc: Global, text: &'a str) -> Result<Option<Row<'a>>, AllocError>
     requires { (j : Json) × IsTextOf text.now j }
     ensures { IfOk result (λ found. MatchOption found ((j : Json) → Says text.now j → IsLeaf j)
@@ -111,7 +111,7 @@ fn owned<'a>(alloc: Global, row: &Row<'_>) -> Result<Row<'a>, AllocError>
     Ok(row_with(row.length, row.named, hollow, (seams, values)))
 }
 
-/// The row of a value that is closed, if it is an object or a list.
+/// The row of a value that is closed, if it is an object or an array.
 fn row_for<'a>(alloc: Global, node: &Node<'a>) -> Result<Option<Row<'a>>, AllocError>
     requires { IsWhole (view node.now) }
     ensures { IfOk result (λ found. MatchOption found (IsOpened (view node.now))
@@ -137,7 +137,7 @@ fn ask(alloc: Global, row: &mut Row<'_>) -> Result<(), AllocError>
     Ok(())
 }
 
-/// Opens the value, if it is an object or a list, so that a token can be looked for in it.
+/// Opens the value, if it is an object or an array, so that a token can be looked for in it.
 pub(crate) fn open(alloc: Global, node: &mut Node<'_>) -> Result<(), AllocError>
     requires { IsWhole (view node.old) }
     ensures whole { OnOk result (IsWhole (view node.new)) }

@@ -1,4 +1,4 @@
-//! A member or an item found in a row, taken out of it or put into it.
+//! A member or an element found in a row, taken out of it or put into it.
 
 ghost use Rattle.std.specs.Prelude.{◌≡◌, ◌<◌, ◌≤◌, ◌+◌, ◌^◌, [], false, length, vec_len, List, ℕ, true, Some, None, IfNone, IfOk, IfSome, MatchOption, OnOk};
 ghost use Rattle.jsonptr.specs.Places.{place_of};
@@ -36,7 +36,7 @@ pub(crate) fn resized(length: usize, less: usize, more: usize) -> Result<usize, 
     }
 }
 
-/// The number of the item that a token names, of so many.
+/// The number of the element that a token names, of so many.
 fn element_number(name: &str, count: usize) -> Option<usize>
     ensures place { IfSome result (λ n. place_of name.now ≡ Some n) }
     ensures within { IfSome result (λ n. n < count) }
@@ -50,7 +50,7 @@ fn element_number(name: &str, count: usize) -> Option<usize>
     }
 }
 
-/// The number of the member or item that a token names, if it is there.
+/// The number of the member or element that a token names, if it is there.
 pub(crate) fn number_of(row: &Row<'_>, name: &str) -> Option<usize>
     requires sound { IsSound (row_view row.now) }
     ensures number { (cs : List Child) → AllSuit row.now.named cs (row_pieces row.now)
@@ -74,7 +74,7 @@ impl<'a> Seam<'a> {
     }
 }
 
-/// Takes out one that is not the last: its blanks stay, before the next one.
+/// Takes out one that is not the last: its whitespace stays, before the next one.
 fn take_before(row: &mut Row<'_>, number: usize, name: &str)
     requires sound { IsSound (row_view row.old) }
     requires within { number + 1 < vec_len row.old.values }
@@ -92,7 +92,7 @@ fn take_before(row: &mut Row<'_>, number: usize, name: &str)
     row.length = length - (seam.len() + value.len() + 1);
 }
 
-/// Takes out the last of several: the blanks behind it stay, behind the one before.
+/// Takes out the last of several: the whitespace behind it stays, behind the one before.
 fn take_last(row: &mut Row<'_>, number: usize, name: &str)
     requires sound { IsSound (row_view row.old) }
     requires first { 0 < number }
@@ -127,8 +127,8 @@ fn take_alone(row: &mut Row<'_>, name: &str)
     row.length = 2;
 }
 
-/// Takes out the member or item of this number, the last of this name. Its blanks stay before the next
-/// one; of the last one the blanks behind it stay, behind the one before.
+/// Takes out the member or element of this number, the last of this name. Its whitespace stays before the
+/// next one; of the last one the whitespace behind it stays, behind the one before.
 fn take_part(row: &mut Row<'_>, number: usize, name: &str)
     requires sound { IsSound (row_view row.old) }
     requires within { number < vec_len row.old.values }
@@ -231,7 +231,7 @@ fn put_part<'a>(
     Ok(())
 }
 
-/// A seam of an item.
+/// A seam of an element.
 fn around<'a>(whitespace: Text<'a>, trail: Text<'a>) -> Seam<'a>
     ensures piece { (u : List ℕ) → piece_with result u ≡ element_between (text_bytes whitespace.entry) u (text_bytes trail.entry) }
     ensures length { seam_length result ≡ length (text_bytes whitespace.entry) + length (text_bytes trail.entry) }
@@ -259,7 +259,7 @@ fn labelled<'a>(whitespace: Text<'a>, name: Text<'a>, colons: Text<'a>, trail: T
     }
 }
 
-/// Takes the blanks out of an empty row.
+/// Takes the whitespace out of an empty row.
 fn hollowed<'a>(row: &mut Row<'a>) -> Text<'a>
     requires sound { IsSound (row_view row.old) }
     requires empty { vec_len row.old.values ≡ 0 }
@@ -275,7 +275,7 @@ fn hollowed<'a>(row: &mut Row<'a>) -> Text<'a>
     trail
 }
 
-/// Takes the blanks behind the last member or item, which has this number.
+/// Takes the whitespace behind the last member or element, which has this number.
 fn trail_of<'a>(row: &mut Row<'a>, number: usize) -> Text<'a>
     requires sound { IsSound (row_view row.old) }
     requires last { number < vec_len row.old.values }
@@ -348,7 +348,7 @@ fn next_member<'a>(
     Ok(())
 }
 
-/// Puts an item into an empty row.
+/// Puts an element into an empty row.
 fn first_element<'a>(row: &mut Row<'a>, value: Text<'a>) -> Result<(), AllocError>
     requires sound { IsSound (row_view row.old) }
     requires array { row.old.named ≡ false }
@@ -363,7 +363,7 @@ fn first_element<'a>(row: &mut Row<'a>, value: Text<'a>) -> Result<(), AllocErro
     Ok(())
 }
 
-/// Puts an item behind the last one, which has this number.
+/// Puts an element behind the last one, which has this number.
 fn next_element<'a>(
     alloc: Global,
     row: &mut Row<'a>,
@@ -384,8 +384,8 @@ fn next_element<'a>(
     Ok(())
 }
 
-/// Like whose blanks those before an item of this number are, once another comes before it: the second's
-/// before the first, if there is a second.
+/// Like whose whitespace that before an element of this number is, once another comes before it: the
+/// second's before the first, if there is a second.
 fn like_number(number: usize, count: usize) -> usize
     requires { number < count }
     ensures within { result < count }
@@ -395,7 +395,7 @@ fn like_number(number: usize, count: usize) -> usize
     if number == 0 && count > 1 { 1 } else { number }
 }
 
-/// Exchanges the blanks before an item, and answers with those that stood there.
+/// Exchanges the whitespace before an element, and answers with what stood there.
 fn whitespace_of<'a>(
     row: &mut Row<'a>,
     number: usize,
@@ -420,8 +420,8 @@ fn whitespace_of<'a>(
     Ok(old)
 }
 
-/// Puts an item before the one of this number. The blanks of that one go to the new one; blanks like
-/// these, or before the first like those of the second, stand before that one.
+/// Puts an element before the one of this number. The whitespace of that one goes to the new one;
+/// whitespace like it, or before the first like that of the second, stands before that one.
 fn element_before<'a>(
     alloc: Global,
     row: &mut Row<'a>,
@@ -467,7 +467,7 @@ fn put_member(alloc: Global, row: &mut Row<'_>, name: &str, value: &str) -> Resu
     Ok(())
 }
 
-/// Puts a value in as the item at a place, if a list of so many has it.
+/// Puts a value in as the element at a place, if an array of so many has it.
 fn put_element(
     alloc: Global,
     row: &mut Row<'_>,

@@ -40,7 +40,7 @@ impl<'a> Text<'a> {
         Ok(Text::Made(String::from_str(alloc, text)?))
     }
 
-    /// The blanks of a new member or item, by these of a neighbour.
+    /// The whitespace of a new member or element, by this of a neighbour.
     pub(crate) fn whitespace_like(&self, alloc: Global) -> Result<Text<'a>, AllocError>
         ensures { IfOk result (λ copy. text_bytes copy ≡ whitespace_like (text_bytes self.now)) }
     {

@@ -8,7 +8,7 @@ use Rattle.json_number.specs.Numbers.{SameNumber}
 abbrev pub HasNames : Members → Members → Type 0
 HasNames ms ns = (k : List ℕ) → get_member k ms ≡ None → get_member k ns ≡ None
 
--- atoms of one kind and value, lists item by item, and objects member by member, in any order: of several of one name the
+-- atoms of one kind and value, arrays element by element, and objects member by member, in any order: of several of one name the
 -- last counts
 abbrev mutual
   pub SameTree : Json → Json → Type 0

@@ -12,8 +12,8 @@ use json_number::same_number;
 use std::alloc::{AllocError, Global};
 use std::collections::BTreeMap;
 
-/// Whether two trees are the same: numbers by their value, exactly, strings byte by byte, lists item
-/// by item, and objects by their members, whatever their order; of several of one name the last
+/// Whether two trees are the same: numbers by their value, exactly, strings byte by byte, arrays element
+/// by element, and objects by their members, whatever their order; of several of one name the last
 /// counts.
 ///
 /// ```rust

@@ -27,7 +27,7 @@ further a r = record {
 pub alone : (v : Json) → Around v [] (spelled v) spelled
 alone v = record { before = []; is = sym (append-nil (spelled v)); there = λ w. sym (append-nil (spelled w)) }
 
--- ---- items
+-- ---- elements
 
 more_around : (n : ℕ) (js : Items) (v : Json) (ls : List Lexeme) → numbered n js ≡ Some (v, ls) → Around v ls (more_elements js) (λ w. more_elements (put_element n w js))
 more_around n no_items v ls e = absurd (none-some _ e)

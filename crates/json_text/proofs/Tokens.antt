@@ -117,7 +117,7 @@ no_place_no_child text t j o p says h n = ap (child t) p.is ∙ by_place (place_
     by_place None past = refl
     by_place (Some i) past = by_element i (get_item i p.elements) refl (past i refl)
 
--- ---- the text without the blanks around it
+-- ---- the text without the whitespace around it
 
 pub whole_found : (text : List ℕ) (j : Json) (s : Span) → Says text j → left_at text s.start ≡ left_at text 0 → left_at text s.end ≡ [] → IsCut text s → s.start ≤ s.end → s.end ≤ length text → IsStretch (take s.start text) (slice text s.start s.end) (drop s.end text) j (λ w. w)
 whole_found text j s says b e c h w =

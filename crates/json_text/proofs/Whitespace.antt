@@ -127,7 +127,7 @@ last_whitespace (x ∷ xs) e =
     let place : length xs ≡ length (x ∷ xs) - 1 = omega arith in
     inr (ap (λ n. is_space (get_or (x ∷ xs) n 32)) (sym place) ∙ whitespace_last x xs e)
 
--- it is the last byte of a text that ends with no blank
+-- it is the last byte of a text that doesn't end with whitespace
 pub closing_last : (b : Bool) (t : List ℕ) (i : ℕ) → IsSolid t i → IsTightEnd t → left_at t i ≡ closing b ∷ [] → drop i t ≡ closes b ∷ []
 unfolding lexemes_behind
 closing_last b t i solid tight left =

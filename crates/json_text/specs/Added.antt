@@ -21,7 +21,7 @@ use Rattle.json_text.specs.declared.fault.ChangeFault.TheVariants.{Text, Value, 
 abbrev pub HasNoComma : List ℕ → Type 0
 HasNoComma s = (ls : List Lexeme) → lex between s ≡ comma ∷ ls → ⊥
 
--- s ends with a member: its blanks stand behind a bracket or a comma, and its colon between its name and its value
+-- s ends with a member: its whitespace stands behind a bracket or a comma, and its colon between its name and its value
 pub record EndsWithMember (s whitespace colons : List ℕ) : Type 0 where
   pub lead : List ℕ
   pub name : List ℕ
@@ -32,7 +32,7 @@ pub record EndsWithMember (s whitespace colons : List ℕ) : Type 0 where
   pub colon : lex between colons ≡ colon ∷ []
   pub says : IsTight value × ((v : Json) × Says value v)
 
--- s ends with an item, whose blanks stand behind a bracket or a comma
+-- s ends with an element, whose whitespace stands behind a bracket or a comma
 pub record EndsWithElement (s whitespace : List ℕ) : Type 0 where
   pub lead : List ℕ
   pub value : List ℕ
@@ -40,7 +40,7 @@ pub record EndsWithElement (s whitespace : List ℕ) : Type 0 where
   pub tight : IsTightEnd lead × (lex between whitespace ≡ [])
   pub says : IsTight value × ((v : Json) × Says value v)
 
--- s begins with an item, and behind the comma after it stand the blanks of the next one
+-- s begins with an element, and behind the comma after it stands the whitespace of the next one
 pub record HasSecond (s whitespace : List ℕ) : Type 0 where
   pub value : List ℕ
   pub gap : List ℕ
@@ -50,7 +50,7 @@ pub record HasSecond (s whitespace : List ℕ) : Type 0 where
   pub comes : IsTightEnd gap × (lex between gap ≡ comma ∷ [])
   pub tight : (lex between whitespace ≡ []) × IsTightFront rest
 
--- s begins with an item, behind which no comma comes
+-- s begins with an element, behind which no comma comes
 pub record HasOne (s : List ℕ) : Type 0 where
   pub value : List ℕ
   pub rest : List ℕ
@@ -58,13 +58,13 @@ pub record HasOne (s : List ℕ) : Type 0 where
   pub says : (v : Json) × Says value v
   pub last : HasNoComma rest
 
--- before an item: the comma, and blanks like its own; before the first one like those of the second, if there is one
+-- before an element: the comma, and whitespace like its own; before the first one like that of the second, if there is one
 abbrev pub IsBeforeElement : List ℕ → List ℕ → List ℕ → Type 0
 IsBeforeElement front trail back = (whitespace : List ℕ) × (trail ≡ 44 ∷ whitespace_like whitespace) × IsTightFront back
     × (((lex between front ≡ token t.begin_array ∷ []) × HasSecond back whitespace)
     ⊎ ((lead : List ℕ) × (front ≡ lead ++ whitespace) × IsTightEnd lead × (lex between whitespace ≡ []) × (lex between front ≡ token t.begin_array ∷ [] → HasOne back)))
 
--- behind the last: the comma, blanks like its own, and for a member the name and a colon like that of the last
+-- behind the last: the comma, whitespace like its own, and for a member the name and a colon like that of the last
 abbrev pub IsBehindMember : List ℕ → List ℕ → List ℕ → List ℕ → List ℕ → Type 0
 IsBehindMember k front ahead trail back = (whitespace : List ℕ) × (colons : List ℕ) × EndsWithMember front whitespace colons × (ahead ≡ 44 ∷ (whitespace_like whitespace ++ (quoted k ++ colons_like colons))) × (trail ≡ []) × HasNoComma back
 
@@ -95,7 +95,7 @@ pub record IsPutInto (text : List ℕ) (v : Json) (t put grown : List ℕ) : Typ
   pub put_in : grown ≡ front ++ (ahead ++ (put ++ (trail ++ back)))
   pub alone : (new : List ℕ) (w : Json) → Says new w → (x : Json) × (add_child t w v ≡ Some x) × Says (front ++ (ahead ++ (new ++ (trail ++ back)))) x
 
--- in the text, which says j, the object or list where the tokens but the last lead has the value put in
+-- in the text, which says j, the object or array where the tokens but the last lead has the value put in
 pub record IsPutIn (text : List ℕ) (j : Json) (P : Pointer) (value : List ℕ) (wanted : Json) (new : List ℕ) : Type 0 where
   pub at : ParentStands text j P
   pub put : List ℕ

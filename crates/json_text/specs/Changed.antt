@@ -28,7 +28,7 @@ abbrev pub without : List ℕ → Members → Members
 without k no_members = no_members
 without k (member l j ms) = cond (bytes_eq l k) (without k ms) (member l j (without k ms))
 
--- an object with no member of this name, a list without the item at this place
+-- an object with no member of this name, an array without the element at this place
 abbrev pub remove_child : List ℕ → Json → Json
 remove_child t null = null
 remove_child t (boolean b) = boolean b
@@ -44,7 +44,7 @@ remove_at (t ∷ P) j = if_some (tree_at (front_of t P) j) (λ c. put_at (front_
 
 -- ---- added
 
--- the items with w before the one at n, or last
+-- the elements with w before the one at n, or last
 abbrev pub insert_element : ℕ → Json → Items → Items
 insert_element n w no_items = item w no_items
 insert_element zero w (item j js) = item w (item j js)
@@ -54,7 +54,7 @@ abbrev pub elements_len : Items → ℕ
 elements_len no_items = zero
 elements_len (item j js) = suc (elements_len js)
 
--- the place at which a token puts a new item among n: its index, or the end for `-`
+-- the place at which a token puts a new element among n: its index, or the end for `-`
 abbrev pub slot_in : List ℕ → ℕ → Option ℕ
 slot_in t n = if bytes_eq t next_token then Some n else option_and_then (λ i. if nat_le i n then Some i else None) (place_of t)
 
@@ -63,7 +63,7 @@ abbrev pub push_member : List ℕ → Json → Members → Members
 push_member k w no_members = member k w no_members
 push_member k w (member l j ms) = member l j (push_member k w ms)
 
--- an object whose last member of this name has the value w, or which has a new one, a list with w as an item more
+-- an object whose last member of this name has the value w, or which has a new one, an array with w as an element more
 abbrev pub add_child : List ℕ → Json → Json → Option Json
 add_child t w null = None
 add_child t w (boolean b) = None

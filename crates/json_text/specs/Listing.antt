@@ -1,4 +1,4 @@
--- The values in an object or a list, each with its text.
+-- The values in an object or an array, each with its text.
 use Rattle.std.specs.Prelude.{◌≡◌, ◌++◌, ℕ, zero, suc, List, [], ◌∷◌, length, drop, Bool, true, false, None, ⊤}
 use Rattle.std.specs.Borrow.{Bor}
 use Rattle.json.specs.Find.{get_member}
@@ -14,7 +14,7 @@ use Rattle.json_lexemes.specs.Spelled.{Says, spelled}
 use Rattle.json_text.specs.declared.listing.Shape.{Shape}
 use Rattle.json_text.specs.declared.listing.Shape.TheVariants.{Object, Array, String, Atom}
 
--- the text says j, and neither begins nor ends with a blank
+-- the text says j, and neither begins nor ends with whitespace
 abbrev pub IsTextOf : List ℕ → Json → Type 0
 IsTextOf s j = Says s j × IsTight s
 
@@ -32,7 +32,7 @@ AreTextsOfMembers [] no_members = ⊤
 AreTextsOfMembers (e ∷ es) (member k j ms) = IsTextOf e.0.now (string k) × IsTextOf e.1.now j × AreTextsOfMembers es ms
 AreTextsOfMembers es ms = ⊥
 
--- the texts of j's members, or of its items, in their order
+-- the texts of j's members, or of its elements, in their order
 abbrev pub AreTextsIn : Json → List Texts → Type 0
 AreTextsIn (array js) es = AreTextsOfElements es js
 AreTextsIn (object ms) es = AreTextsOfMembers es ms
@@ -48,7 +48,7 @@ abbrev pub AreStretchesOfMembers : List ℕ → Json → List Texts → Members 
 AreStretchesOfMembers text j (e ∷ es) (member k v ms) = (get_member k ms ≡ None → IsWrittenAt text j (k ∷ []) e.1.now) × AreStretchesOfMembers text j es ms
 AreStretchesOfMembers text j es ms = ⊤
 
--- the texts of j's members, or of its items, are the stretches of the text where these stand
+-- the texts of j's members, or of its elements, are the stretches of the text where these stand
 abbrev pub AreStretchesIn : List ℕ → Json → List Texts → Type 0
 AreStretchesIn text (array js) es = AreStretchesOfElements text (array js) zero es
 AreStretchesIn text (object ms) es = AreStretchesOfMembers text (object ms) es ms

@@ -10,7 +10,7 @@ use Rattle.json_lexemes.specs.Spelled.{Says}
 
 -- ---- in the tree
 
--- what a token names: of an object the member of this name, of several the last; of a list the item at this place
+-- what a token names: of an object the member of this name, of several the last; of an array the element at this place
 abbrev pub child : List ℕ → Json → Option Json
 child t null = None
 child t (boolean b) = None
@@ -55,7 +55,7 @@ put_at (t ∷ P) w j = if_some (child t j) (λ c. put_child t (put_at P w c) j) 
 
 -- ---- the stretch of a text
 
--- no blank stands at its front or its end
+-- no whitespace stands at its front or its end
 abbrev pub IsTight : List ℕ → Type 0
 IsTight s = (is_space (get_or s 0 32) ≡ false) × (is_space (get_or s (length s - 1) 32) ≡ false)
 
@@ -73,7 +73,7 @@ StandsBetween before s behind j P = (v : Json) × (tree_at P j ≡ Some v) × Is
 abbrev pub IsWrittenAt : List ℕ → Json → Pointer → List ℕ → Type 0
 IsWrittenAt text j P s = (before : List ℕ) × (behind : List ℕ) × (text ≡ before ++ (s ++ behind)) × StandsBetween before s behind j P
 
--- the object or list that all tokens of P but the last lead to in j, and where it stands in the text
+-- the object or array that all tokens of P but the last lead to in j, and where it stands in the text
 pub record ParentStands (text : List ℕ) (j : Json) (P : Pointer) : Type 0 where
   pub front : Pointer
   pub last : List ℕ

@@ -27,7 +27,7 @@ pub(crate) fn child(text: &[u8], name: &str) -> Option<Span>
     if first != b'[' {
         return None;
     }
-    // The length of a text fits a `usize`, so a place that doesn't has no item.
+    // The length of a text fits a `usize`, so a place that doesn't has no element.
     let _fits = text.len();
     match Index::parse(name) {
         Ok(Index::Num(number)) => element(text, open + 1, number),
@@ -36,7 +36,7 @@ pub(crate) fn child(text: &[u8], name: &str) -> Option<Span>
     }
 }
 
-/// The text with none of the blanks around it, where it is JSON.
+/// The text with none of the whitespace around it, where it is JSON.
 pub(crate) fn whole(text: &[u8]) -> Span
     ensures whole { (j : Json) → Says text.now j
         → IsStretch (take result.start text.now)

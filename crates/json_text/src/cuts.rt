@@ -1,4 +1,4 @@
-//! The members of an object, or the items of a list, each cut into its parts.
+//! The members of an object, or the elements of an array, each cut into its parts.
 
 ghost use Rattle.std.specs.Prelude.{◌≡◌, ◌≤◌, ◌++◌, ℕ, Bool, length, List, [], MatchOption, IfSome};
 ghost use Rattle.std.specs.Bool.{Decides};
@@ -15,24 +15,24 @@ use crate::listing::name_from;
 use crate::parts::part_from;
 use json_lexemes::{is_name, whitespace_end};
 
-/// A member or an item, as it stands in the text: its parts in their order, and nothing between them.
+/// A member or an element, as it stands in the text: its parts in their order, and nothing between them.
 #[derive(Clone, Copy, Debug, Drop)]
 pub struct Cut<'a> {
-    /// The blanks behind the bracket or the comma before it.
+    /// The whitespace behind the bracket or the comma before it.
     pub whitespace: &'a str,
-    /// A member's name as it is written, with its quotes; of an item nothing.
+    /// A member's name as it is written, with its quotes; of an element nothing.
     pub name: &'a str,
-    /// A member's colon, with the blanks around it; of an item nothing.
+    /// A member's colon, with the whitespace around it; of an element nothing.
     pub colons: &'a str,
     pub value: &'a str,
-    /// The blanks behind it.
+    /// The whitespace behind it.
     pub trail: &'a str,
-    /// The place behind the comma that follows, where the next one's blanks begin.
+    /// The place behind the comma that follows, where the next one's whitespace begins.
     pub next: Option<usize>,
 }
 
-/// The member or item whose blanks begin at `from`, right behind a bracket or a comma; `None` where the
-/// closing bracket follows the blanks.
+/// The member or element whose whitespace begins at `from`, right behind a bracket or a comma; `None`
+/// where the closing bracket follows the whitespace.
 pub fn cut_at<'a>(text: &'a str, from: usize, named: bool) -> Option<Cut<'a>>
     requires within { from ≤ length text.now }
     requires boundary { IsCharBoundary text.now from }
@@ -64,7 +64,7 @@ pub fn cut_at<'a>(text: &'a str, from: usize, named: bool) -> Option<Cut<'a>>
     })
 }
 
-/// The blanks from `from` on.
+/// The whitespace from `from` on.
 pub fn whitespace_at(text: &str, from: usize) -> &str
     requires within { from ≤ length text.now }
     requires boundary { IsCharBoundary text.now from }
@@ -80,7 +80,7 @@ pub fn is_name_text(text: &str, name: &str) -> bool
     !text.is_empty() && is_name(text.as_bytes(), 1, name.as_bytes())
 }
 
-/// The blanks before a value, its text, and the blanks behind it, of a text that is JSON.
+/// The whitespace before a value, its text, and the whitespace behind it, of a text that is JSON.
 pub fn split_off_whitespace<'a>(text: &'a str) -> (&'a str, &'a str, &'a str)
     ensures whole { text.now ≡ result.0.now ++ (result.1.now ++ result.2.now) }
     ensures value { (j : Json) → Says text.now j

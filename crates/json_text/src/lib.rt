@@ -3,7 +3,7 @@
 //! A text says a tree: of each number its text, of each string what its escapes stand for, and the
 //! members in their order, with names that come twice. [`value_text`] answers with the stretch of the
 //! text where a pointer leads, as it is written there. [`replace`] exchanges that stretch alone, and
-//! [`remove`] and [`add`] take a member or item out or put one in, in the style of its neighbours. A
+//! [`remove`] and [`add`] take a member or element out or put one in, in the style of its neighbours. A
 //! [`CheckedText`] is checked once, and does all this with no further check.
 //!
 //! ```rust

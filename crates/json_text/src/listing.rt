@@ -1,4 +1,4 @@
-//! The texts of the values in an object or in a list.
+//! The texts of the values in an object or in an array.
 
 ghost use Rattle.std.specs.Prelude.{◌≡◌, ◌≤◌, true, length, IfOk, IfSome, List};
 ghost use Rattle.std.specs.Str.{IsUtf8, IsCharBoundary};
@@ -62,9 +62,9 @@ pub(crate) fn name_from(text: &[u8], start: usize, named: bool) -> Span
     }
 }
 
-/// The texts of an object's members, each its name's and its value's, or of a list's items, each with
-/// an empty name, in their order and without the blanks around them. Any other value has none. The text
-/// is to be JSON.
+/// The texts of an object's members, each its name's and its value's, or of an array's elements, each
+/// with an empty name, in their order and without the whitespace around them. Any other value has none.
+/// The text is to be JSON.
 ///
 /// ```rust
 /// let found = child_texts(alloc, r#"{"a": 1.50, "b": [ ]}"#)?;

@@ -64,7 +64,7 @@ row_object hollow cs ps h e j says = is_object cs j (one_tree (row_text true hol
 pub row_no_object : (hollow : List ℕ) (cs : List Child) (ps : List Piece) → AllSuit false cs ps → IsWhitespace hollow → (j : Json) → Says (row_text false hollow ps) j → IsObject j → ⊥
 row_no_object hollow cs ps h e j says = not_object cs j (one_tree (row_text false hollow ps) (tree_in false cs) j (row_says false hollow cs ps h e) says)
 
--- an item
+-- an element
 pub element_gone : (hollow hollow2 : List ℕ) (cs : List Child) (ps : List Piece) (n : ℕ) (t : List ℕ) → AllSuit false cs ps → IsWhitespace hollow → IsNumberOf false cs t n → n < length ps → (taken n ps ≡ [] → hollow2 ≡ []) → IsWhitespace hollow2
     → (j : Json) → Says (row_text false hollow ps) j → IsWithout (row_text false hollow ps) j t (row_text false hollow2 (taken n ps))
 element_gone hollow hollow2 cs ps n t h e at l none whitespace j says =

@@ -1,4 +1,4 @@
--- A row with an item more before one of its items.
+-- A row with an element more before one of its elements.
 use Rattle.std.proofs.Common.{◌≡◌, inl, inr, ℕ, zero, suc, Bool, true, false, List, [], ◌∷◌, ◌++◌, length, take, drop, Some, refl, sym, ap, ◌∙◌, subst, arith, append_assoc, append-nil, length-append}
 use Rattle.json.specs.Json.{Json}
 use Rattle.json.specs.Lex.{comma, token, between, lex}
@@ -25,7 +25,7 @@ use Rattle.json_pieces.proofs.Rows.Put.{bare_element, element_suits, mark_end}
 
 -- ---- the text
 
--- what begins with the item p
+-- what begins with the element p
 abbrev from_element : Piece → List Piece → List ℕ
 from_element p post = p.name ++ (p.colons ++ (p.value ++ (p.trail ++ rest_text false post)))
 
@@ -37,7 +37,7 @@ new_text hollow like s pre p post = row_split false hollow pre (element_between 
 
 -- ---- the style
 
--- behind an item the bracket is not the last lexeme
+-- behind an element the bracket is not the last lexeme
 some_front : (cs : List Child) (c : Child) (o : Piece) (pre : List Piece) (whitespace : List ℕ) → Holds false c o → AllHold false cs pre → IsWhitespace whitespace → lex between (up_to 91 (o ∷ pre) ++ whitespace) ≡ token tokens.begin_array ∷ [] → ⊥
 some_front cs c o pre whitespace h k e is =
     let behind : List ℕ = pieces_text 44 pre ++ (44 ∷ whitespace) in

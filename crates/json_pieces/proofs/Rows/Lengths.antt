@@ -217,7 +217,7 @@ hollow_fits b hollow ss vs l =
     let size : length (row_text b hollow []) ≡ length hollow + 2 = simp length-append (omega arith) in
     subst (λ x. length (row_text b hollow x) ≡ length hollow + 2) (sym (no_pieces ss vs l)) size
 
--- before an item
+-- before an element
 pub put_own_size : (hollow hollow2 u : List ℕ) (ss : List Seam) (vs : List Node) (n : ℕ) (t : Seam) → AreSoundIn ss vs → n < length vs → (n ≡ 0 → length vs ≡ 1) → t ≡ get_or ss n t
     → length (row_text false hollow2 (element_put n u (pieces_in ss vs))) ≡ length (row_text false hollow (pieces_in ss vs)) + (length (whitespace_like (text_bytes t.whitespace)) + length u + 1)
 put_own_size hollow hollow2 u ss vs n t h l one e =

@@ -38,7 +38,7 @@ insert_sound (t ∷ ss) (w ∷ vs) (suc n) s v h k = (h.0, insert_sound ss vs n 
 
 -- ---- one is taken out
 
--- another seam in the place of t: with the blanks s before it; with those behind it
+-- another seam in the place of t: with the whitespace s before it; with that behind it
 abbrev pub HasWhitespace : List ℕ → Seam → Seam → Type 0
 HasWhitespace s t new = (u : List ℕ) → piece_with new u ≡ led s (piece_with t u)
 
@@ -60,7 +60,7 @@ two_there (suc n) (p ∷ ps) h = let r = two_there n ps (omega (arith, h)) in re
 taken_later : (n : ℕ) (p : Piece) (ps : List Piece) → HasTwo n ps → taken (suc n) (p ∷ ps) ≡ p ∷ taken n ps
 taken_later n p ps h = ap (taken_by (p ∷ take n ps)) h.is ∙ sym (ap (λ l. p ∷ taken_by (take n ps) l) h.is)
 
--- not the last: its blanks go to the next
+-- not the last: its whitespace goes to the next
 pub take_next : (ss : List Seam) (vs : List Node) (n : ℕ) (s t new : Seam) → AreSoundIn ss vs → suc n < length vs → s ≡ get_or ss n s → t ≡ get_or (remove ss n) n t → HasWhitespace (text_bytes s.whitespace) t new
     → pieces_in (slice_set (remove ss n) n new) (remove vs n) ≡ taken n (pieces_in ss vs)
 take_next [] [] n s t new h l e f k = absurd (omega (arith, l))
@@ -185,7 +185,7 @@ push_element_more ss vs m n s t new v hollow is h l e k q =
     let next : m ≡ suc n = omega (arith, is) in
     subst (λ x. pieces_in (insert (slice_set ss n new) x s) (insert vs x v) ≡ element_pushed hollow (tree_text (view v)) (pieces_in ss vs)) (sym next) (element_more ss vs n s t new v hollow h (l ∙ next) e k q)
 
--- ---- an item is put in before another
+-- ---- an element is put in before another
 
 abbrev pub IsElementBefore : Seam → Seam → Type 0
 IsElementBefore t s = (u : List ℕ) → piece_with s u ≡ element_between (text_bytes t.whitespace) u []
@@ -221,7 +221,7 @@ one_there n [] h = absurd (omega (arith, h))
 one_there zero (p ∷ ps) h = record { first = p; rest = ps; is = refl }
 one_there (suc n) (p ∷ ps) h = let r = one_there n ps (omega (arith, h)) in record { first = r.first; rest = r.rest; is = r.is }
 
--- not the first, or alone: its own blanks
+-- not the first, or alone: its own whitespace
 pub own_like : (ps : List Piece) (n : ℕ) (p : Piece) (rest : List Piece) → drop n ps ≡ p ∷ rest → (n ≡ 0 → length ps ≡ 1) → neighbour_whitespace (take n ps) p rest ≡ p.whitespace
 own_like [] zero p rest e one = absurd (no_cons p rest e)
 own_like [] (suc n) p rest e one = absurd (no_cons p rest e)
@@ -240,7 +240,7 @@ put_element_own ss vs n s t new v h l one e k m =
     put_shape ss vs n s t new v (whitespace_like (text_bytes t.whitespace)) r.first r.rest h e k m r.is
     ∙ ap (λ x. take n ps ++ (element_between r.first.whitespace u [] ∷ led (whitespace_like x) r.first ∷ r.rest)) like ∙ sym (ap (element_put_by u (take n ps)) r.is)
 
--- the first of several: the blanks of the second, which has the seam o
+-- the first of several: the whitespace of the second, which has the seam o
 pub put_element_first : (ss : List Seam) (vs : List Node) (s t o new : Seam) (v : Node) → AreSoundIn ss vs → 1 < length vs → t ≡ get_or ss 0 t → o ≡ get_or ss 1 o → HasWhitespace (whitespace_like (text_bytes o.whitespace)) t new → IsElementBefore t s
     → pieces_in (insert (slice_set ss 0 new) 0 s) (insert vs 0 v) ≡ element_put 0 (tree_text (view v)) (pieces_in ss vs)
 put_element_first [] [] s t o new v h l e f k m = absurd (omega (arith, l))

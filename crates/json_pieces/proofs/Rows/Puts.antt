@@ -177,7 +177,7 @@ lost_count ss n trail ts o = ap length o.left ∙ set_count ss n _
     set_count (t ∷ ss) zero s = refl
     set_count (t ∷ ss) (suc n) s = ap suc (set_count ss n s)
 
--- ---- an item before another
+-- ---- an element before another
 
 pub gained_count : (ss : List Seam) (n : ℕ) (bytes : List ℕ) (old : Text) (ts : List Seam) → HasGained ss n bytes old ts → length ts ≡ length ss
 gained_count ss n bytes old ts o = ap length o.left ∙ set_count ss n _
@@ -187,7 +187,7 @@ gained_count ss n bytes old ts o = ap length o.left ∙ set_count ss n _
     set_count (t ∷ ss) zero s = refl
     set_count (t ∷ ss) (suc n) s = ap suc (set_count ss n s)
 
--- x is the seam whose blanks come before the item of number n
+-- x is the seam whose whitespace comes before the element of number n
 pub record IsLike (ss : List Seam) (count n : ℕ) (like : ℕ) (x : Seam) : Type 0 where
   pub is : x ≡ get_or ss like x
   pub within : like < count

@@ -37,7 +37,7 @@ pub tight_end : (s v : List ℕ) → IsTightEnd v → IsTightEnd (s ++ v)
 tight_end [] v e = e
 tight_end (x ∷ s) v e = further_end x (s ++ v) (tight_end s v e)
 
--- ---- a piece whose value may have blanks around it
+-- ---- a piece whose value may have whitespace around it
 
 pub record Holds (b : Bool) (c : Child) (p : Piece) : Type 0 where
   pub whitespace : IsWhitespace p.whitespace
@@ -153,7 +153,7 @@ row_holds b hollow (c ∷ cs) (p ∷ ps) h e =
     opens_lex b ((piece_text p ++ pieces_text 44 ps) ++ (closes b ∷ []))
     ∙ ap (λ l. opening b ∷ l) (ap (lex between) (append_assoc (piece_text p) (pieces_text 44 ps) (closes b ∷ [])) ∙ first_lexes b c cs p ps h.0 h.1) ∙ sym (spelled_in b (c ∷ cs))
 
--- ---- a row of texts with no blanks around them
+-- ---- a row of texts with no whitespace around them
 
 pub row_says : (b : Bool) (hollow : List ℕ) (cs : List Child) (ps : List Piece) → AllSuit b cs ps → IsWhitespace hollow → Says (row_text b hollow ps) (tree_in b cs)
 row_says b hollow cs ps h e = row_holds b hollow cs ps (all_hold b cs ps h) e

@@ -183,6 +183,6 @@ next_taken text v t b hollow hollow2 ps n c more y r at e none whitespace2 =
 pub all_taken : (text : List ℕ) (v : Json) (t : List ℕ) (b : Bool) (hollow : List ℕ) (ps : List Piece) → IsObject v → (r : IsLessRow text v t b hollow ps) → child t (tree_in b r.children) ≡ None → IsWithout text v t (row_text b hollow ps)
 all_taken text v t b hollow ps y r none = all_gone text v t (row_text b hollow ps) y (r.cut, tree_in b r.children, row_says b hollow r.children ps r.suits r.whitespace, r.less) none
 
--- of a list there was one
+-- of an array there was one
 pub one_taken : (text : List ℕ) (v : Json) (t : List ℕ) (b : Bool) (hollow : List ℕ) (ps : List Piece) → ¬ IsObject v → IsLessRow text v t b hollow ps → IsWithout text v t (row_text b hollow ps)
 one_taken text v t b hollow ps n r = one_gone text v t (row_text b hollow ps) n (r.cut, tree_in b r.children, row_says b hollow r.children ps r.suits r.whitespace, r.less)

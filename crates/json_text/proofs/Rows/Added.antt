@@ -36,7 +36,7 @@ at_end t k put ahead i n r (cs, says, inside) last o a none v is =
 pub same_last : (copy t : List ℕ) (b : Bool) (n : ℕ) (r : Numbered) (i : ℕ) → copy ≡ t → ((cs : List Child) → IsInside copy b cs i → IsLast copy b cs n r) → (cs : List Child) → IsInside t b cs i → IsLast t b cs n r
 same_last copy t b n r i e f = subst (λ x. (cs : List Child) → IsInside x b cs i → IsLast x b cs n r) e f
 
--- ---- items
+-- ---- elements
 
 pub chosen_slot : (t k : List ℕ) (index : Index) (count m : ℕ) (cs : List Child) → IsIndexText k index → count ≡ length cs → m ≡ place_in index count → m ≤ count → slot_in k (length cs) ≡ Some m
 chosen_slot t k index count m cs x e p h = subst (λ n. slot_in k n ≡ Some m) e (slot_by k index count m x p h)

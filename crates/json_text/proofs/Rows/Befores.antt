@@ -1,4 +1,4 @@
--- An item before another.
+-- An element before another.
 use Rattle.std.proofs.Common.{◌≡◌, ◌⊎◌, ℕ, zero, suc, ◌+◌, ◌<◌, ◌≤◌, ◌^◌, Bool, true, false, List, [], ◌∷◌, ◌++◌, length, take, drop, Option, Some, None, option_and_then, if◌then◌else◌, refl, sym, ap, ap₂, ◌∙◌, subst, inl, inr, arith, length-append, length-drop, take-append-drop}
 use Rattle.std.proofs.lemmas.Bool.{cases_Bool, cases_eq}
 use Rattle.std.proofs.lemmas.Option.{none-some}
@@ -86,7 +86,7 @@ nothing_added k w cs e = ap (option_map (λ m. array (insert_element m w (elemen
 pub last_count : (t : List ℕ) (cs : List Child) (n : ℕ) (r : Numbered) → IsLast t false cs n r → length cs ≡ n + 1
 last_count t cs n r l = omega (arith, ap length l.last, length-drop (n + 1) cs, ap length l.numbered.part.is, length-drop n cs)
 
--- ---- before an item
+-- ---- before an element
 
 nothing : (n : ℕ) (c : Child) (more : List Child) → drop n [] ≡ c ∷ more → ⊥
 nothing zero c more e = absurd (omega (arith, ap length e))

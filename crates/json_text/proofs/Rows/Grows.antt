@@ -175,7 +175,7 @@ first_member t k put cs i says none (left, begins, back) w =
       );
     }
 
--- ---- an item behind the last, or alone
+-- ---- an element behind the last, or alone
 
 styled_element : (k : List ℕ) (cs : List Child) (front ahead trail back : List ℕ) → (cs ≡ [] → ⊥) → IsBehindElement front ahead trail back → IsStyled k (tree_in false cs) front ahead trail back
 styled_element k [] front ahead trail back n s = absurd (n refl)

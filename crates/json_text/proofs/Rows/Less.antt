@@ -1,4 +1,4 @@
--- The text of an object or a list with one child cut out.
+-- The text of an object or an array with one child cut out.
 use Rattle.std.proofs.Common.{◌≡◌, ℕ, ◌≤◌, Bool, true, false, List, [], ◌∷◌, ◌++◌, length, take, drop, get_or, Some, None, option_and_then, refl, sym, ap, ap₂, ◌∙◌, subst, arith, take-append-drop}
 use Rattle.std.specs.Prelude.{option_map}
 use Rattle.json.specs.Json.{Json, array}

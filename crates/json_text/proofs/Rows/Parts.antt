@@ -20,7 +20,7 @@ abbrev pub tail : List Lexeme → List Lexeme
 tail [] = []
 tail (l ∷ ls) = ls
 
--- ---- an item
+-- ---- an element
 
 pub none_at_bracket : (t : List ℕ) (b : Bool) (cs : List Child) (i : ℕ) → b ≡ false → i < length t → get_or t i 32 ≡ 93 → left_at t i ≡ inside b cs → cs ≡ []
 none_at_bracket t true cs i f h c e = absurd (true≢false f)

@@ -1,4 +1,4 @@
--- A member or an item, cut from its text.
+-- A member or an element, cut from its text.
 use Rattle.std.proofs.Common.{◌≡◌, ◌≢◌, inl, ℕ, ◌+◌, ◌-◌, ◌<◌, ◌≤◌, Bool, true, false, List, [], ◌∷◌, ◌++◌, length, take, drop, get_or, Option, Some, None, refl, sym, ap, ◌∙◌, subst, arith, append_assoc, take-append-drop}
 use Rattle.std.specs.Prelude.{IfSome, MatchOption}
 use Rattle.std.specs.Str.{IsUtf8, IsCharBoundary}
@@ -156,7 +156,7 @@ first_cut t b cs from start k p name j a c h next =
         subst (λ x. MatchOption x ((a.part.more ≡ []) × (drop from t ≡ piece_text (piece_of c) ++ (closes b ∷ []))) (λ g. (drop from t ≡ piece_text (piece_of c) ++ (44 ∷ drop g t)) × (left_at t g ≡ inside b a.part.more) × (mode_at t g ≡ between) × (a.part.more ≢ []))) (sym is)
         (whole ∙ ap (λ l. piece_text (piece_of c) ++ l) behind, more, mode, λ none. comma_is_not_closing b (sym e.1 ∙ ap (others b) none))
 
--- no child is left: blanks, and the bracket
+-- no child is left: whitespace, and the bracket
 pub closes_there : (t : List ℕ) (b : Bool) (from start : ℕ) → IsTight t → from ≤ start → start ≤ length t → mode_at t from ≡ between → mode_at t start ≡ between → left_at t start ≡ left_at t from → IsSolid t start → left_at t from ≡ closing b ∷ [] → ClosesAt t b from (slice t from start)
 closes_there t b from start tight low high begins starts same solid left =
     let last : drop start t ≡ closes b ∷ [] = closing_last b t start solid tight.1 (same ∙ left) in (
@@ -194,7 +194,7 @@ pub named_by : (s copy k name : List ℕ) (is : Bool) → IsTextOf s (string k) 
 named_by s copy k name is h e d =
     (λ t. same_Some k copy (sym (name_content s k h) ∙ d.0 t) ∙ e, λ t. d.1 (name_content s k h ∙ ap Some (t ∙ sym e)))
 
--- ---- the blanks around a text
+-- ---- the whitespace around a text
 
 pub whitespace_around : (t copy a d : List ℕ) (i k : ℕ) → copy ≡ t → i ≤ length copy → left_at copy i ≡ left_at copy 0 → mode_at copy i ≡ between → left_at copy k ≡ [] → a ≡ slice t 0 i → d ≡ drop k t → IsWhitespace a × IsWhitespace d
 whitespace_around t copy a d i k e high same begins ends f g =

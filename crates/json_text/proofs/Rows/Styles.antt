@@ -3,7 +3,7 @@ use Rattle.std.proofs.Common.{ℕ, Bool, true, false, List, [], ◌∷◌, lengt
 use Rattle.std.specs.Prelude.{if◌then◌else◌, nat_le}
 use Rattle.json_text.specs.Styled.{colons_like, most_whitespace, whitespace_like}
 
--- what holds of the blanks and of none holds of those taken over
+-- what holds of the whitespace and of none holds of what is taken over
 pub by_whitespace : (P : List ℕ → Type 0) (s : List ℕ) → P s → P [] → P (whitespace_like s)
 by_whitespace P s h e = by_case (nat_le (length s) most_whitespace)
   where

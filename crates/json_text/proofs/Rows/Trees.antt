@@ -1,4 +1,4 @@
--- A row as the members of an object, or as the items of a list.
+-- A row as the members of an object, or as the elements of an array.
 use Rattle.std.proofs.Common.{◌≡◌, ℕ, zero, suc, ◌+◌, ◌-◌, ◌<◌, ◌≤◌, ◌^◌, Bool, true, false, cond, List, [], ◌∷◌, ◌++◌, length, take, drop, get_or, Option, Some, None, refl, sym, ap, ap₂, ◌∙◌, subst, inl, arith}
 use Rattle.std.proofs.lemmas.Option.{none-some, same_Some}
 use Rattle.std.specs.Prelude.{option_map, option_and_then}
@@ -44,7 +44,7 @@ pub spelled_in : (b : Bool) (cs : List Child) → spelled (tree_in b cs) ≡ ope
 spelled_in true cs = ap (λ l. token t.begin_object ∷ l) (first_members_in cs)
 spelled_in false cs = ap (λ l. token t.begin_array ∷ l) (first_elements_in cs)
 
--- ---- the row of an object, and of a list
+-- ---- the row of an object, and of an array
 
 members_row : Members → List Child
 members_row no_members = []
@@ -125,7 +125,7 @@ named_at k (c ∷ cs) n e = by_tail (last_named k cs) (bytes_eq c.0 k) refl refl
 pub no_member : (k : List ℕ) (cs : List Child) → last_named k cs ≡ None → child k (object (members_in cs)) ≡ None
 no_member k cs e = sym (named_is k (members_in cs)) ∙ ap (option_map (λ p. p.0)) (none_named k cs e)
 
--- ---- an item
+-- ---- an element
 
 pub record ElementAt (cs : List Child) (n : ℕ) (c : Child) (more : List Child) : Type 0 where
   pub value : numbered n (elements_in cs) ≡ Some (c.1, others false more)
