@@ -27,7 +27,7 @@ static void expect_changes(void) {
          "{\r\n\t\"a\" : 1e400,\r\n\t\"b\":\t-0.0\r\n}\r\n"},
         {LAYOUT, "[{\"op\":\"replace\",\"path\":\"\",\"value\":{ \"c\" : 1E+2 }}]", "{ \"c\" : 1E+2 }\r\n"},
         {" \n1\t", "[{\"op\":\"add\",\"path\":\"\",\"value\":\"\\u0031\"}]", " \n\"\\u0031\"\t"},
-        /* what goes with a new member or item is as beside its neighbour */
+        /* what goes with a new member or element is as beside its neighbour */
         {LAYOUT, "[{\"op\":\"add\",\"path\":\"/c\",\"value\":{\"d\":1.50}}]",
          "{\r\n\t\"a\" : 1e400,\r\n\t\"b\":\t[ ],\r\n\t\"c\":\t{\"d\":1.50}\r\n}\r\n"},
         {"[\n  1\n]", "[{\"op\":\"add\",\"path\":\"/-\",\"value\":2}]", "[\n  1,\n  2\n]"},
@@ -290,19 +290,19 @@ static void expect_merged_within(const char *document, const char *patch, size_t
         fail("status %d, %zu bytes, kind %d for a merge", status, report.size, report.kind);
 }
 
-/* The bytes of a merge: many new members beside a member with 60,000 blanks take none of them over, and
-   make the bytes of both texts, but for two braces, and a comma. Of 14 blanks each takes them over. */
+/* The bytes of a merge: many new members beside a member with 60,000 spaces take none of them over, and
+   make the bytes of both texts, but for two braces, and a comma. Of 14 spaces each takes them over. */
 static void expect_merged_bytes(void) {
-    enum { BLANKS = 60000, MEMBERS = 6000 };
-    static char document[BLANKS + 9], patch[MEMBERS * 12];
+    enum { SPACES = 60000, MEMBERS = 6000 };
+    static char document[SPACES + 9], patch[MEMBERS * 12];
     size_t length = 0;
     document[0] = '{';
-    memset(document + 1, ' ', BLANKS);
-    memcpy(document + 1 + BLANKS, "\"a\":1}", 7);
+    memset(document + 1, ' ', SPACES);
+    memcpy(document + 1 + SPACES, "\"a\":1}", 7);
     for (int i = 0; i < MEMBERS; i++)
         length += (size_t)snprintf(patch + length, sizeof patch - length, "%c\"m%d\":1", i ? ',' : '{', i);
     patch[length++] = '}';
-    expect_merged_within(document, patch, 0, BLANKS + 7 + length - 1);
+    expect_merged_within(document, patch, 0, SPACES + 7 + length - 1);
     const char *near = "{              \"a\":1}", *two = "{\"b\":2,\"c\": 3  }";
     expect_merged_within(near, two, 24, 61);
     expect_merged_within(near, two, 23, 0);

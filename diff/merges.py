@@ -67,16 +67,16 @@ class Merges(Texts):
         names += [self.random.choice(NAMES) for _ in range(self.random.choice((0, 0, 1, 2)))]
         self.random.shuffle(names)
         return self.row("{}", [
-            self.string(name) + self.blanks() + ":" + self.blanks() + self.member_value(text, there.get(name)) for name in names])
+            self.string(name) + self.whitespace() + ":" + self.whitespace() + self.member_value(text, there.get(name)) for name in names])
 
     def next(self):
         """A text, a merge patch, and whether a byte of one is changed or cut off."""
         text = self.text(4)
         if self.random.random() < 0.7:
-            text = self.blanks() + self.row("{}", [self.string(name) + ":" + self.blanks() + self.value(3) for name in self.names()]) + self.blanks()
+            text = self.whitespace() + self.row("{}", [self.string(name) + ":" + self.whitespace() + self.value(3) for name in self.names()]) + self.whitespace()
         whole = read(text)
         if whole.kind == "object" and self.random.random() < 0.9:
-            patch = self.blanks() + self.patch_for(text, whole) + self.blanks()
+            patch = self.whitespace() + self.patch_for(text, whole) + self.whitespace()
         else:
             patch = self.text(3)
             self.came["no object"] += read(patch).kind != "object"

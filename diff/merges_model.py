@@ -2,13 +2,13 @@
 the bytes.
 
 The value is RFC 7396's, over what Python's json reads. Of the bytes the model says which are kept, which are
-put in, and in which order. How many blanks a member brings along that is new to its object it leaves open, and
-how its name is spelled."""
+put in, and in which order. How much whitespace a member brings along that is new to its object it leaves open,
+and how its name is spelled."""
 from decimal import Decimal
 import json
 import re
 
-from texts_model import BLANKS, STRING, Node, read
+from texts_model import STRING, WHITESPACE, Node, read
 
 # RFC 7396, appendix A: the document, the merge patch, and the result
 EXAMPLES = [
@@ -67,15 +67,16 @@ def merged_value(target, patch):
 
 
 class Member:
-    """A member as it is written: `lead` are the blanks before it, behind the bracket or the comma, and `trail`
-    those behind its value; None where that is left open. So are the name and the colon, of one that is new."""
+    """A member as it is written: `lead` is the whitespace before it, behind the bracket or the comma, and
+    `trail` that behind its value; None where that is left open. So are the name and the colon, of one that
+    is new."""
 
     def __init__(self, lead, said, head, value, trail):
         self.lead, self.said, self.head, self.value, self.trail = lead, said, head, value, trail
 
 
 class Object:
-    """An object as it is written. `inside` are the blanks in one that has no member."""
+    """An object as it is written. `inside` is the whitespace in one that has no member."""
 
     def __init__(self, members, inside):
         self.members, self.inside = members, inside
@@ -84,9 +85,9 @@ class Object:
         return next((member for member in reversed(self.members) if member.said == name), None)
 
 
-def blanks_behind(text, at):
+def whitespace_behind(text, at):
     end = at
-    while text[end] in BLANKS:
+    while text[end] in WHITESPACE:
         end += 1
     return text[at:end]
 
@@ -97,7 +98,7 @@ def written(text, node: Node):
         return text[node.start:node.end]
     members, behind = [], node.start + 1
     for start, said, _, child in node.parts:
-        trail = blanks_behind(text, child.end)
+        trail = whitespace_behind(text, child.end)
         members.append(Member(text[behind:start], said, text[start:child.start], written(text, child), trail))
         behind = child.end + len(trail) + 1
     return Object(members, "" if members else text[node.start + 1:node.end - 1])
@@ -135,7 +136,7 @@ def merge_member(into, member):
 
 
 def take(into, member):
-    """With the comma and the blanks up to the next member; the last with those before it."""
+    """With the comma and the whitespace up to the next member; the last with that before it."""
     number = into.members.index(member)
     if number + 1 < len(into.members):
         into.members[number + 1].lead = member.lead
@@ -152,7 +153,7 @@ def put(into, member):
     into.members.append(member)
 
 
-# ---- what is wanted, as a row of pieces: texts, None for any blanks, and names by what they say
+# ---- what is wanted, as a row of pieces: texts, None for any whitespace, and names by what they say
 
 
 def pieces_of(value):
@@ -178,7 +179,7 @@ def fits(pieces, new):
     at = 0
     for piece in pieces:
         if piece is None:
-            at = re.compile(f"[{BLANKS}]*").match(new, at).end()
+            at = re.compile(f"[{WHITESPACE}]*").match(new, at).end()
         elif isinstance(piece, tuple):
             name = STRING.match(new, at)
             if not name or json.loads(name[0]) != piece[1]:

@@ -29,8 +29,8 @@ LARGE = 5_000
 
 
 def levels(node):
-    """How many objects and lists are open at once, at most."""
-    if node.kind not in ("object", "list"):
+    """How many objects and arrays are open at once, at most."""
+    if node.kind not in ("object", "array"):
         return 0
     return 1 + max((levels(child) for *_, child in node.parts), default=0)
 

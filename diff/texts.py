@@ -4,8 +4,8 @@
     diff/texts.py [--seed S] [--cases N] --ours PROGRAM [--rust PROGRAM] [--wide] [--spoil]
 
 PROGRAM is that of diff/texts.rt.txt, which `diff/build FOLDER json_patch_texts diff/texts.rt.txt
-json_patch_text` proves and builds. The texts have blanks of all kinds anywhere, names and strings with
-escapes, names that come twice, decimals and exponents of any size, and empty objects and lists. Each
+json_patch_text` proves and builds. The texts have whitespace of all kinds anywhere, names and strings with
+escapes, names that come twice, decimals and exponents of any size, and empty objects and arrays. Each
 answer has to be the model's (`texts_model`), byte by byte, and each refusal its number, path and kind.
 In one case of eight a byte of the text or of the patch is changed or cut off: then there has to be an answer
 or a named refusal. With `--rust`, the program of diff/run.py round the Rust crate, each case whose numbers are
@@ -45,7 +45,7 @@ class Texts:
         self.random = random.Random(seed)
         self.style = 0
 
-    def blanks(self):
+    def whitespace(self):
         if self.style == 0:
             return ""
         return "".join(self.random.choice(" \t\n\r ") for _ in range(self.random.choice((0, 0, 1, 2))))
@@ -73,16 +73,16 @@ class Texts:
         members = []
         for _ in range(count):
             name = self.string(self.random.choice(NAMES))
-            members.append(name + self.blanks() + ":" + self.blanks() + self.value(depth - 1))
+            members.append(name + self.whitespace() + ":" + self.whitespace() + self.value(depth - 1))
         return self.row("{}", members)
 
     def row(self, brackets, parts):
-        inside = ",".join(self.blanks() + part + self.blanks() for part in parts) if parts else self.blanks()
+        inside = ",".join(self.whitespace() + part + self.whitespace() for part in parts) if parts else self.whitespace()
         return brackets[0] + inside + brackets[1]
 
     def text(self, depth):
         self.style = self.random.randrange(3)
-        return self.blanks() + self.value(depth) + self.blanks()
+        return self.whitespace() + self.value(depth) + self.whitespace()
 
     def pointer(self, text):
         """One that leads somewhere, mostly."""
@@ -102,7 +102,7 @@ class Texts:
         members = []
         for _ in range(self.random.randrange(30, 70)):
             name = self.random.choice(NAMES) if self.random.random() < 0.2 else f"n{self.random.randrange(60)}/\u00e9"
-            members.append(self.string(name) + self.blanks() + ":" + self.blanks() + self.value(1))
+            members.append(self.string(name) + self.whitespace() + ":" + self.whitespace() + self.value(1))
         row = self.row("{}", members)
         return self.row("{}", ['"w":' + row]) if self.random.random() < 0.3 else row
 
@@ -145,14 +145,14 @@ class Texts:
 
     def written(self, operations):
         """The patch as a text."""
-        items = []
+        elements = []
         for operation, put in operations:
-            members = [self.string(name) + ":" + self.blanks() + self.string(said) for name, said in operation.items()]
+            members = [self.string(name) + ":" + self.whitespace() + self.string(said) for name, said in operation.items()]
             if put is not None:
-                members.append('"value":' + self.blanks() + put + self.blanks())
+                members.append('"value":' + self.whitespace() + put + self.whitespace())
             self.random.shuffle(members)
-            items.append("{" + ",".join(members) + "}")
-        return self.row("[]", items)
+            elements.append("{" + ",".join(members) + "}")
+        return self.row("[]", elements)
 
     def broken(self, text):
         """With a byte of it changed, or its end cut off."""

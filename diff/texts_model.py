@@ -6,7 +6,7 @@ from decimal import Decimal
 import json
 import re
 
-BLANKS = " \t\n\r"
+WHITESPACE = " \t\n\r"
 WORD = re.compile(r"[^\s,:\[\]{}\"]+")
 STRING = re.compile(r'"(?:[^"\\]|\\.)*"')
 INDEX = re.compile(r"(0|[1-9][0-9]*)\Z")
@@ -17,22 +17,22 @@ class Refused(Exception):
 
 
 class Node:
-    """A value in a text: `kind` is "object", "list", "string", "number" or a literal. Of an object or a
-    list `parts` are the members or items, each (start, name, name's end, node)."""
+    """A value in a text: `kind` is "object", "array", "string", "number" or a literal. Of an object or
+    an array `parts` are the members or elements, each (start, name, name's end, node)."""
 
     def __init__(self, kind, start):
         self.kind, self.start, self.end, self.parts, self.said = kind, start, None, [], None
 
 
-def blank_end(text, at):
-    while at < len(text) and text[at] in BLANKS:
+def whitespace_end(text, at):
+    while at < len(text) and text[at] in WHITESPACE:
         at += 1
     return at
 
 
 def read(text):
-    node = value(text, blank_end(text, 0))
-    assert blank_end(text, node.end) == len(text)
+    node = value(text, whitespace_end(text, 0))
+    assert whitespace_end(text, node.end) == len(text)
     return node
 
 
@@ -51,19 +51,19 @@ def value(text, at):
 
 
 def row(text, at):
-    node = Node("object" if text[at] == "{" else "list", at)
-    at = blank_end(text, at + 1)
+    node = Node("object" if text[at] == "{" else "array", at)
+    at = whitespace_end(text, at + 1)
     while text[at] not in "}]":
         start, name, name_end = at, None, None
         if node.kind == "object":
             name_end = STRING.match(text, at).end()
             name = json.loads(text[at:name_end])
-            at = blank_end(text, blank_end(text, name_end) + 1)
+            at = whitespace_end(text, whitespace_end(text, name_end) + 1)
         child = value(text, at)
         node.parts.append((start, name, name_end, child))
-        at = blank_end(text, child.end)
+        at = whitespace_end(text, child.end)
         if text[at] == ",":
-            at = blank_end(text, at + 1)
+            at = whitespace_end(text, at + 1)
     node.end = at + 1
     return node
 
@@ -72,10 +72,10 @@ def row(text, at):
 
 
 def number_of(node, token):
-    """The number of the member or item that the token names, or None."""
+    """The number of the member or element that the token names, or None."""
     if node.kind == "object":
         return max((n for n, part in enumerate(node.parts) if part[1] == token), default=None)
-    if node.kind == "list" and INDEX.match(token) and int(token) < len(node.parts):
+    if node.kind == "array" and INDEX.match(token) and int(token) < len(node.parts):
         return int(token)
     return None
 
@@ -100,8 +100,8 @@ def plain(node):
     """What is equal exactly where two nodes say the same."""
     if node.kind == "object":
         return ("object", frozenset({name: plain(child) for _, name, _, child in node.parts}.items()))
-    if node.kind == "list":
-        return ("list", tuple(plain(child) for *_, child in node.parts))
+    if node.kind == "array":
+        return ("array", tuple(plain(child) for *_, child in node.parts))
     if node.kind == "number":
         return ("number", number(node.said))
     return (node.kind, node.said)
@@ -123,12 +123,12 @@ def replaced(text, node, put):
 
 
 def before(node, number):
-    """The end of the member or item before, or of the bracket."""
+    """The end of the member or element before, or of the bracket."""
     return node.parts[number - 1][3].end if number else node.start + 1
 
 
 def cut(text, node, number):
-    """Without the member or item of this number, and what goes with it."""
+    """Without the member or element of this number, and what goes with it."""
     start, child = node.parts[number][0], node.parts[number][3]
     if number + 1 < len(node.parts):
         return text[:start] + text[node.parts[number + 1][0]:]
@@ -138,10 +138,10 @@ def cut(text, node, number):
 
 
 def gap(text, node, number):
-    """The blanks before a member or an item, behind the bracket or the comma."""
+    """The whitespace before a member or an element, behind the bracket or the comma."""
     start = node.parts[number][0]
     comma = before(node, number)
-    return text[(blank_end(text, comma) + 1 if number else comma):start]
+    return text[(whitespace_end(text, comma) + 1 if number else comma):start]
 
 
 def removed(text, tokens):
@@ -152,7 +152,7 @@ def removed(text, tokens):
         number = number_of(parent, tokens[-1])
         text = cut(text, parent, number)
         parent = at_tokens(read(text), tokens[:-1])
-        if parent.kind == "list" or number_of(parent, tokens[-1]) is None:
+        if parent.kind == "array" or number_of(parent, tokens[-1]) is None:
             return text
 
 
@@ -168,7 +168,7 @@ def added(text, tokens, put):
         return replaced(text, whole, put)
     parent = at_tokens(whole, tokens[:-1])
     token = tokens[-1]
-    if parent is None or parent.kind not in ("object", "list"):
+    if parent is None or parent.kind not in ("object", "array"):
         raise Refused
     count = len(parent.parts)
     if parent.kind == "object":

@@ -654,19 +654,19 @@ NO_PLACE = "no such place"
 # a text, the place and the value of a change, and the answer
 TEXT_CHANGES = {
     "add_to_text": {
-        "an item": (TEXT, "/list/1", "7", '{"name": "x", "list": [1.50, 7, 2] }'),
+        "an element": (TEXT, "/list/1", "7", '{"name": "x", "list": [1.50, 7, 2] }'),
         "a member": (TEXT, "/new", ' {"a":null} ', '{"name": "x", "list": [1.50, 2], "new": {"a":null} }'),
-        "an item where there is none": ('{"a/b":[ ]}', "/a~1b/-", "true", '{"a/b":[true ]}'),
+        "an element where there is none": ('{"a/b":[ ]}', "/a~1b/-", "true", '{"a/b":[true ]}'),
         "the whole": (" [1]  ", "", "2", " 2  "),
         "below a string": (TEXT, "/name/0", "7", NO_PLACE),
         "no JSON": ('{"list": [1,', "/list/0", "7", "the text is not JSON"),
     },
     "replace_in_text": {
-        "an item": (TEXT, "/list/0", "1e1", '{"name": "x", "list": [1e1, 2] }'),
+        "an element": (TEXT, "/list/0", "1e1", '{"name": "x", "list": [1e1, 2] }'),
         "a member that isn't there": (TEXT, "/new", "7", NO_PLACE),
     },
     "remove_from_text": {
-        "an item": (TEXT, "/list/0", None, '{"name": "x", "list": [2] }'),
+        "an element": (TEXT, "/list/0", None, '{"name": "x", "list": [2] }'),
         "members of one name": ('{ "a": 1, "b": 2, "\\u0061": 3 }', "/a", None, '{ "b": 2 }'),
         "the whole": (TEXT, "", None, NO_PLACE),
     },

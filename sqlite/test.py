@@ -182,8 +182,8 @@ class Calls(Sql):
         self.assertEqual(self.of(MERGE, '{ "a": 1}', '{"b":2}', 1, 1), '{ "a": 1, "b": 2}')
         self.assertFails("merge patch is over the limits: it copies too much", MERGE, '{ "a": 1}', '{"b":2}', 1, 0)
 
-    def test_blanks_do_not_multiply(self):
-        """New members beside one with many blanks; an undo that would take them over again and again."""
+    def test_whitespace_does_not_multiply(self):
+        """New members beside one with much whitespace; an undo that would take it over again and again."""
         wide, many = "{" + " " * 60_000 + '"a":1}', json.dumps({f"m{number}": 1 for number in range(6_000)}, separators=(",", ":"))
         self.assertEqual(len(self.of(MERGE, wide, many, 2, 0)), len(wide) + len(many) - 1)
         old = "{" + " " * 1_000_000 + '"m0":0' + "".join(f',"m{number}":0' for number in range(1, 80)) + "}"

@@ -142,7 +142,7 @@ class Texts(unittest.TestCase):
             self.assertEqual((caught.exception.kind, isinstance(caught.exception, InvalidJsonPatch)), (kind, patch != {}))
 
     def test_merges_within(self):
-        """A merge leaves at most the bytes of both texts and so many more; many blanks aren't taken over."""
+        """A merge leaves at most the bytes of both texts and so many more; much whitespace isn't taken over."""
         wide, many = "{" + " " * 60_000 + '"a":1}', {f"m{number}": 1 for number in range(6_000)}
         made = merge_text(wide, many, limits=Limits(copied=0))
         self.assertEqual(made, wide[:-1] + "," + json.dumps(many, separators=(",", ":"))[1:])
@@ -155,8 +155,8 @@ class Texts(unittest.TestCase):
 
     def test_differences_of_texts(self):
         """A patch that leads from one document to another is over no limits whose `copied` is 256 for each operation."""
-        for blanks in (0, 60, 128, 129, 5_000):
-            new = "{" + " " * blanks + '"m0"' + " " * blanks + ": [" + " " * blanks + "1]}"
+        for spaces in (0, 60, 128, 129, 5_000):
+            new = "{" + " " * spaces + '"m0"' + " " * spaces + ": [" + " " * spaces + "1]}"
             wanted = {"m0": [0, 1, 2], **{f"m{number}": 0 for number in range(1, 80)}}
             patch = make_patch(json.loads(new), wanted)
             made = apply_text(new, patch, limits=Limits(copied=256 * len(patch.patch)))

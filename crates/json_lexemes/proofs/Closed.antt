@@ -9,7 +9,7 @@ use Rattle.json.specs.Word.{is_operator, is_space}
 use Rattle.json.specs.Lex.{Lexeme, token, comma, colon, string_token, Class, quote, backslash, operator, space, other, class, Mode, between, in_word, in_string, in_escape, lex, lex_byte}
 use Rattle.json.specs.Json.{Json, null, boolean, number, string, array, object, Items, no_items, item, Members, no_members, member}
 use Rattle.json_lexemes.specs.Lexing.{next_mode, after, Outside}
-use Rattle.json_lexemes.specs.Spelled.{spelled, first_items, more_items, first_members, more_members, Says}
+use Rattle.json_lexemes.specs.Spelled.{spelled, first_elements, more_elements, first_members, more_members, Says}
 use Rattle.json_lexemes.proofs.Contents.{mode, is_found, hex, not_this}
 
 abbrev pub IsGood : Lexeme → Type 0
@@ -177,16 +177,16 @@ mutual
   good_spelled (boolean b) = (tt, tt)
   good_spelled (number s) = (tt, tt)
   good_spelled (string s) = (tt, tt)
-  good_spelled (array js) = (tt, good_first_items js)
+  good_spelled (array js) = (tt, good_first_elements js)
   good_spelled (object ms) = (tt, good_first_members ms)
 
-  good_first_items : (js : Items) → AreGood (first_items js)
-  good_first_items no_items = (tt, tt)
-  good_first_items (item j js) = AreGood-append (spelled j) _ (good_spelled j) (good_more_items js)
+  good_first_elements : (js : Items) → AreGood (first_elements js)
+  good_first_elements no_items = (tt, tt)
+  good_first_elements (item j js) = AreGood-append (spelled j) _ (good_spelled j) (good_more_elements js)
 
-  good_more_items : (js : Items) → AreGood (more_items js)
-  good_more_items no_items = (tt, tt)
-  good_more_items (item j js) = (tt, AreGood-append (spelled j) _ (good_spelled j) (good_more_items js))
+  good_more_elements : (js : Items) → AreGood (more_elements js)
+  good_more_elements no_items = (tt, tt)
+  good_more_elements (item j js) = (tt, AreGood-append (spelled j) _ (good_spelled j) (good_more_elements js))
 
   good_first_members : (ms : Members) → AreGood (first_members ms)
   good_first_members no_members = (tt, tt)

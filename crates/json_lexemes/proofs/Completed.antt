@@ -8,7 +8,7 @@ use Rattle.json.specs.Token as tokens
 use Rattle.json.specs.Lex.{Lexeme, token, comma, colon, in_string, lex, operator_lexeme}
 use Rattle.json.specs.Word.{is_operator}
 use Rattle.json_lexemes.specs.Places.{left_at}
-use Rattle.json_lexemes.specs.Spelled.{spelled, more_items, more_members}
+use Rattle.json_lexemes.specs.Spelled.{spelled, more_elements, more_members}
 use Rattle.json_lexemes.specs.Grammar.{HasContent, Spells, Named, Opens, Continues, opening, closing, Completes, Begins, innermost}
 use Rattle.json_lexemes.proofs.Steps.{operator_left}
 use Rattle.json_lexemes.proofs.Ended.{here, string_spells}
@@ -29,7 +29,7 @@ opens_begins t n true os i k (ls, e, (s, f)) (j, rest, g, d, (after, (ms, h, md)
 opens_begins t n false os i k (ls, e, f) (j, rest, g, d, (after, (js, h, jd), c)) = (
   array (item j js),
   after,
-  e ∙ ap (λ l. token tokens.begin_array ∷ l) (f ∙ g ∙ ap (λ l. spelled j ++ l) h ∙ sym (append_assoc (spelled j) (more_items js) after)),
+  e ∙ ap (λ l. token tokens.begin_array ∷ l) (f ∙ g ∙ ap (λ l. spelled j ++ l) h ∙ sym (append_assoc (spelled j) (more_elements js) after)),
   omega (arith, d, jd),
   c,
 )
@@ -42,7 +42,7 @@ continues_completes t n true os i k (ls, e, (s, f)) (j, rest, g, d, (after, (ms,
 )
 continues_completes t n false os i k (ls, e, f) (j, rest, g, d, (after, (js, h, jd), c)) = (
   after,
-  (item j js, e ∙ ap (λ l. comma ∷ l) (f ∙ g ∙ ap (λ l. spelled j ++ l) h ∙ sym (append_assoc (spelled j) (more_items js) after)), omega (arith, d, jd)),
+  (item j js, e ∙ ap (λ l. comma ∷ l) (f ∙ g ∙ ap (λ l. spelled j ++ l) h ∙ sym (append_assoc (spelled j) (more_elements js) after)), omega (arith, d, jd)),
   c,
 )
 
@@ -63,7 +63,7 @@ pub named_by : (t : List ℕ) (i k : ℕ) (r : Option ℕ) → i < length t → 
 named_by t i k None h q l c a = tt
 named_by t i k (Some m) h q l c a = let s = string_spells t i k h q l c in (s.0, s.1 ∙ ap (λ ls. token (tokens.string s.0) ∷ ls) a)
 
--- an opening bracket, read with a blank past the end
+-- an opening bracket, read with a space past the end
 pub record Bracket (t : List ℕ) (i c : ℕ) : Type 0 where
   pub here : i < length t
   pub either : (get_or t i 0 ≡ 123) ⊎ (get_or t i 0 ≡ 91)
@@ -80,13 +80,13 @@ opening_left t i k h (inr e) l = operator_left t i 91 h e refl ∙ ap₂ (λ x l
 pub byte_left : (t : List ℕ) (i j x : ℕ) (l : Lexeme) → (32 ≡ x → ⊥) → get_or t j 32 ≡ x → is_operator x ≡ true → operator_lexeme x ≡ l → left_at t j ≡ left_at t i → left_at t i ≡ l ∷ left_at t (j + 1)
 byte_left t i j x l n e o f same = let h = here t j x n e in sym same ∙ operator_left t j x h.0 h.1 o ∙ ap (λ k. k ∷ left_at t (j + 1)) f
 
-pub no_blank : (x : ℕ) → is_operator x ≡ true → 32 ≡ x → ⊥
-no_blank x o e = false≢true (ap is_operator e ∙ o)
+pub no_whitespace : (x : ℕ) → is_operator x ≡ true → 32 ≡ x → ⊥
+no_whitespace x o e = false≢true (ap is_operator e ∙ o)
 
 pub empty_whole : (t : List ℕ) (room : Bool) (i k c x : ℕ) → room ≡ true → Bracket t i c → left_at t k ≡ left_at t (i + 1) → get_or t k 32 ≡ x → operator_lexeme x ≡ closing (c == 123) → is_operator x ≡ true
     → Spells t (cond room 1 0) i (k + 1)
 empty_whole t room i k c x r b l e f o =
-    let closes = byte_left t k k x _ (no_blank x o) e o f refl in
+    let closes = byte_left t k k x _ (no_whitespace x o) e o f refl in
     subst (λ n. Spells t n i (k + 1)) (sym (ap (λ y. cond y 1 0) r))
     (empty_spells t (c == 123) i (k + 1) (opening_left t i k b.here b.either l ∙ ap₂ (λ y ls. opening y ∷ ls) (sym b.same) closes))
 

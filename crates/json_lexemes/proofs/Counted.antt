@@ -1,10 +1,10 @@
--- A list has fewer items than its text has bytes.
+-- An array has fewer elements than its text has bytes.
 use Rattle.std.proofs.Common.{◌≡◌, ℕ, zero, suc, ◌<◌, ◌≤◌, List, [], ◌∷◌, length, Some, ap, arith, length-append}
 use Rattle.std.proofs.lemmas.Option.{none-some}
 use Rattle.json.specs.Json.{Json, null, boolean, number, string, array, object, Items, no_items, item}
 use Rattle.json.specs.Find.{get_item}
 use Rattle.json.specs.Lex.{Class, quote, backslash, operator, space, other, class, Mode, between, in_word, in_string, in_escape, lex, lex_byte}
-use Rattle.json_lexemes.specs.Spelled.{spelled, first_items, more_items, Says}
+use Rattle.json_lexemes.specs.Spelled.{spelled, first_elements, more_elements, Says}
 
 byte_step : (m : Mode) (c : Class) (x : ℕ) (xs : List ℕ) → ((n : Mode) → length (lex n xs) ≤ length xs) → length (lex_byte m c x xs (λ n. lex n xs)) ≤ suc (length xs)
 byte_step between quote x xs h = omega (arith, h in_string)
@@ -37,17 +37,17 @@ some_lexeme (string s) = omega arith
 some_lexeme (array js) = omega arith
 some_lexeme (object ms) = omega arith
 
-in_more : (n : ℕ) (js : Items) (v : Json) → get_item n js ≡ Some v → suc n < length (more_items js)
+in_more : (n : ℕ) (js : Items) (v : Json) → get_item n js ≡ Some v → suc n < length (more_elements js)
 in_more n no_items v e = absurd (none-some _ e)
-in_more zero (item j js) v e = omega (arith, some_lexeme j, length-append (spelled j) (more_items js))
-in_more (suc n) (item j js) v e = omega (arith, in_more n js v e, length-append (spelled j) (more_items js))
+in_more zero (item j js) v e = omega (arith, some_lexeme j, length-append (spelled j) (more_elements js))
+in_more (suc n) (item j js) v e = omega (arith, in_more n js v e, length-append (spelled j) (more_elements js))
 
-in_first : (n : ℕ) (js : Items) (v : Json) → get_item n js ≡ Some v → n < length (first_items js)
+in_first : (n : ℕ) (js : Items) (v : Json) → get_item n js ≡ Some v → n < length (first_elements js)
 in_first n no_items v e = absurd (none-some _ e)
-in_first zero (item j js) v e = omega (arith, some_lexeme j, length-append (spelled j) (more_items js))
-in_first (suc n) (item j js) v e = omega (arith, in_more n js v e, length-append (spelled j) (more_items js))
+in_first zero (item j js) v e = omega (arith, some_lexeme j, length-append (spelled j) (more_elements js))
+in_first (suc n) (item j js) v e = omega (arith, in_more n js v e, length-append (spelled j) (more_elements js))
 
-pub item_within : (text : List ℕ) (n : ℕ) (js : Items) (v : Json) → Says text (array js) → get_item n js ≡ Some v → n < length text
-item_within text n js v says e =
-    let size : length (lex between text) ≡ suc (length (first_items js)) = ap length says in
+pub element_within : (text : List ℕ) (n : ℕ) (js : Items) (v : Json) → Says text (array js) → get_item n js ≡ Some v → n < length text
+element_within text n js v says e =
+    let size : length (lex between text) ≡ suc (length (first_elements js)) = ap length says in
     omega (arith, size, lexemes between text, in_first n js v e)

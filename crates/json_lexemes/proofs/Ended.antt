@@ -21,7 +21,7 @@ use Rattle.json_lexemes.proofs.Wide.{free_along}
 use Rattle.json_lexemes.proofs.Inside.{four, unit_at, quote_is, backslash_is, plain_is}
 use Rattle.json_lexemes.proofs.Steps.{drop_step, escaped, string_closes, string_escapes, string_passes}
 
--- a byte that is read with a blank past the end
+-- a byte that is read with a space past the end
 pub here : (t : List ℕ) (i x : ℕ) → (32 ≡ x → ⊥) → get_or t i 32 ≡ x → (i < length t) × (get_or t i 0 ≡ x)
 here t i x n e = by_place (cases_lt i (length t))
   where

@@ -10,7 +10,7 @@ mod Ascii
 pub mod Closed
 pub mod FirstBytes
 pub mod Members
-pub mod Listed
+pub mod Elements
 pub mod Counted
 pub mod Trimmed
 pub mod Respelled

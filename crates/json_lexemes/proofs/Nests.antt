@@ -9,7 +9,7 @@ use Rattle.json.specs.Token as t
 use Rattle.json.specs.Tree.{depth, items_depth, members_depth}
 use Rattle.json.proofs.Nesting.{value-depth}
 use Rattle.json_lexemes.specs.Skipped.{nesting, most_open}
-use Rattle.json_lexemes.specs.Spelled.{spelled, first_items, more_items, first_members, more_members, IsShallowText, Says}
+use Rattle.json_lexemes.specs.Spelled.{spelled, first_elements, more_elements, first_members, more_members, IsShallowText, Says}
 use Rattle.json_lexemes.proofs.Parsed.{Says-document}
 use Rattle.json_lexemes.proofs.Read.{document-Says, value-Says}
 use Rattle.json_lexemes.proofs.Steps.{most_least}
@@ -27,17 +27,17 @@ mutual
   most_spelled (boolean b) n ls = omega (arith, most_least n ls)
   most_spelled (number s) n ls = omega (arith, most_least n ls)
   most_spelled (string s) n ls = omega (arith, most_least n ls)
-  most_spelled (array js) n ls = omega (arith, most_first_items js n ls)
+  most_spelled (array js) n ls = omega (arith, most_first_elements js n ls)
   most_spelled (object ms) n ls = omega (arith, most_first_members ms n ls)
 
-  most_first_items : (js : Items) (n : ℕ) (ls : List Lexeme) → most_open (suc n) (first_items js ++ ls) ≡ max (suc n + items_depth js) (most_open n ls)
-  most_first_items no_items n ls = omega arith
-  most_first_items (item j js) n ls = joined (suc n) (spelled j) (more_items js) ls (depth j) (items_depth js) (most_open n ls) (most_spelled j (suc n) (more_items js ++ ls)) (most_more_items js n ls)
+  most_first_elements : (js : Items) (n : ℕ) (ls : List Lexeme) → most_open (suc n) (first_elements js ++ ls) ≡ max (suc n + items_depth js) (most_open n ls)
+  most_first_elements no_items n ls = omega arith
+  most_first_elements (item j js) n ls = joined (suc n) (spelled j) (more_elements js) ls (depth j) (items_depth js) (most_open n ls) (most_spelled j (suc n) (more_elements js ++ ls)) (most_more_elements js n ls)
 
-  most_more_items : (js : Items) (n : ℕ) (ls : List Lexeme) → most_open (suc n) (more_items js ++ ls) ≡ max (suc n + items_depth js) (most_open n ls)
-  most_more_items no_items n ls = omega arith
-  most_more_items (item j js) n ls =
-      let e = joined (suc n) (spelled j) (more_items js) ls (depth j) (items_depth js) (most_open n ls) (most_spelled j (suc n) (more_items js ++ ls)) (most_more_items js n ls) in
+  most_more_elements : (js : Items) (n : ℕ) (ls : List Lexeme) → most_open (suc n) (more_elements js ++ ls) ≡ max (suc n + items_depth js) (most_open n ls)
+  most_more_elements no_items n ls = omega arith
+  most_more_elements (item j js) n ls =
+      let e = joined (suc n) (spelled j) (more_elements js) ls (depth j) (items_depth js) (most_open n ls) (most_spelled j (suc n) (more_elements js ++ ls)) (most_more_elements js n ls) in
       omega (arith, e)
 
   most_first_members : (ms : Members) (n : ℕ) (ls : List Lexeme) → most_open (suc n) (first_members ms ++ ls) ≡ max (suc n + members_depth ms) (most_open n ls)

@@ -17,30 +17,30 @@ IfRead (Some a) P = P a
 abbrev Gives : Parse Json → Type 0
 Gives p = (ts : List t.Token) → IfRead (p ts) (λ q. ts ≡ json_tokens q.0 ++ q.1)
 
-abbrev GivesItems : Parse Items → Type 0
-GivesItems p = (ts : List t.Token) → IfRead (p ts) (λ q. ts ≡ items_tokens q.0 ++ q.1)
+abbrev GivesElements : Parse Items → Type 0
+GivesElements p = (ts : List t.Token) → IfRead (p ts) (λ q. ts ≡ items_tokens q.0 ++ q.1)
 
 abbrev GivesMembers : Parse Members → Type 0
 GivesMembers p = (ts : List t.Token) → IfRead (p ts) (λ q. ts ≡ members_tokens q.0 ++ q.1)
 
-one_item : (ts : List t.Token) (more : Parse Items) (o : Option (Json × List t.Token)) → IfRead o (λ q. ts ≡ json_tokens q.0 ++ q.1) → GivesItems more
+one_element : (ts : List t.Token) (more : Parse Items) (o : Option (Json × List t.Token)) → IfRead o (λ q. ts ≡ json_tokens q.0 ++ q.1) → GivesElements more
     → IfRead (option_and_then (λ q. parse_map (item q.0) (more q.1)) o) (λ q. ts ≡ items_tokens q.0 ++ q.1)
-one_item ts more None h m = tt
-one_item ts more (Some q) h m = go (more q.1) (m q.1)
+one_element ts more None h m = tt
+one_element ts more (Some q) h m = go (more q.1) (m q.1)
   where
     go : (r : Option (Items × List t.Token)) → IfRead r (λ s. q.1 ≡ items_tokens s.0 ++ s.1) → IfRead (parse_map (item q.0) r) (λ s. ts ≡ items_tokens s.0 ++ s.1)
     go None k = tt
     go (Some s) k = h ∙ ap (λ l. json_tokens q.0 ++ l) k ∙ sym (append_assoc (json_tokens q.0) (items_tokens s.0) s.1)
 
-items_turn : (p : Parse Json) (more : Parse Items) (ts : List t.Token) (o : Option (List t.Token)) → after_end_array ts ≡ o → Gives p → GivesItems more
+elements_turn : (p : Parse Json) (more : Parse Items) (ts : List t.Token) (o : Option (List t.Token)) → after_end_array ts ≡ o → Gives p → GivesElements more
     → IfRead (items_step p more ts o) (λ q. ts ≡ items_tokens q.0 ++ q.1)
-items_turn p more ts None e g m = one_item ts more (p ts) (g ts) m
-items_turn p more ts (Some rest) e g m = closed_array ts rest e
+elements_turn p more ts None e g m = one_element ts more (p ts) (g ts) m
+elements_turn p more ts (Some rest) e g m = closed_array ts rest e
 
-items_give : (p : Parse Json) → Gives p → (n : ℕ) → GivesItems (items p n)
+elements_give : (p : Parse Json) → Gives p → (n : ℕ) → GivesElements (items p n)
 unfolding items
-items_give p g zero ts = tt
-items_give p g (suc n) ts = items_turn p (items p n) ts (after_end_array ts) refl g (items_give p g n)
+elements_give p g zero ts = tt
+elements_give p g (suc n) ts = elements_turn p (items p n) ts (after_end_array ts) refl g (elements_give p g n)
 
 one_member : (k : List ℕ) (ts : List t.Token) (more : Parse Members) (o : Option (Json × List t.Token)) → IfRead o (λ q. ts ≡ json_tokens q.0 ++ q.1) → GivesMembers more
     → IfRead (option_and_then (λ q. parse_map (member k q.0) (more q.1)) o) (λ q. t.key k ∷ ts ≡ members_tokens q.0 ++ q.1)
@@ -71,7 +71,7 @@ in_object : (ts : List t.Token) (o : Option (Members × List t.Token)) → IfRea
 in_object ts None h = tt
 in_object ts (Some q) h = ap (λ l. t.begin_object ∷ l) h
 
-gives_with : (a : Parse Items) (o : Parse Members) → GivesItems a → GivesMembers o → Gives (value_with a o)
+gives_with : (a : Parse Items) (o : Parse Members) → GivesElements a → GivesMembers o → Gives (value_with a o)
 gives_with a o f g [] = tt
 gives_with a o f g (t.begin_object ∷ ts) = in_object ts (o ts) (g ts)
 gives_with a o f g (t.end_object ∷ ts) = tt
@@ -87,7 +87,7 @@ gives_with a o f g (t.bad ∷ ts) = tt
 pub value_gives : (d : ℕ) → Gives (value d)
 unfolding value
 value_gives zero = gives_with (λ ts. None) (λ ts. None) (λ ts. tt) (λ ts. tt)
-value_gives (suc d) = gives_with (λ ts. items (value d) (length ts) ts) (λ ts. members (value d) (length ts) ts) (λ ts. items_give (value d) (value_gives d) (length ts) ts) (λ ts. members_give (value d) (value_gives d) (length ts) ts)
+value_gives (suc d) = gives_with (λ ts. items (value d) (length ts) ts) (λ ts. members (value d) (length ts) ts) (λ ts. elements_give (value d) (value_gives d) (length ts) ts) (λ ts. members_give (value d) (value_gives d) (length ts) ts)
 
 -- ---- the whole text
 
@@ -112,12 +112,12 @@ mutual
   good_tokens (boolean b) = (tt, tt)
   good_tokens (number s) = (tt, tt)
   good_tokens (string s) = (tt, tt)
-  good_tokens (array js) = (tt, good_items js)
+  good_tokens (array js) = (tt, good_elements js)
   good_tokens (object ms) = (tt, good_members ms)
 
-  good_items : (js : Items) → AreGood (items_tokens js)
-  good_items no_items = (tt, tt)
-  good_items (item j js) = AreGood-append (json_tokens j) _ (good_tokens j) (good_items js)
+  good_elements : (js : Items) → AreGood (items_tokens js)
+  good_elements no_items = (tt, tt)
+  good_elements (item j js) = AreGood-append (json_tokens j) _ (good_tokens j) (good_elements js)
 
   good_members : (ms : Members) → AreGood (members_tokens ms)
   good_members no_members = (tt, tt)

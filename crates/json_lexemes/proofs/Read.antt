@@ -6,11 +6,11 @@ use Rattle.json.specs.Token as t
 use Rattle.json.specs.Lex.{Lexeme, Place, fresh, after_value, after_comma, after_key, begins_colon, may_begin, punctuate, tokens}
 use Rattle.json.specs.Tree.{json_tokens, items_tokens, members_tokens, depth}
 use Rattle.json.proofs.Printed.Trees.{value-json_tokens}
-use Rattle.json_lexemes.specs.Spelled.{spelled, first_items, more_items, first_members, more_members, Says}
+use Rattle.json_lexemes.specs.Spelled.{spelled, first_elements, more_elements, first_members, more_members, Says}
 
-no_colon_items : (js : Items) (ls : List Lexeme) → begins_colon (more_items js ++ ls) ≡ false
-no_colon_items no_items ls = refl
-no_colon_items (item j js) ls = refl
+no_colon_elements : (js : Items) (ls : List Lexeme) → begins_colon (more_elements js ++ ls) ≡ false
+no_colon_elements no_items ls = refl
+no_colon_elements (item j js) ls = refl
 
 no_colon_members : (ms : Members) (ls : List Lexeme) → begins_colon (more_members ms ++ ls) ≡ false
 no_colon_members no_members ls = refl
@@ -33,8 +33,8 @@ mutual
   punctuate-spelled (number s) after_comma ls b c = refl
   punctuate-spelled (string s) fresh ls b c = rw c refl
   punctuate-spelled (string s) after_comma ls b c = rw c refl
-  punctuate-spelled (array js) fresh ls b c = ap (λ l. t.begin_array ∷ l) (punctuate-first_items js ls c)
-  punctuate-spelled (array js) after_comma ls b c = ap (λ l. t.begin_array ∷ l) (punctuate-first_items js ls c)
+  punctuate-spelled (array js) fresh ls b c = ap (λ l. t.begin_array ∷ l) (punctuate-first_elements js ls c)
+  punctuate-spelled (array js) after_comma ls b c = ap (λ l. t.begin_array ∷ l) (punctuate-first_elements js ls c)
   punctuate-spelled (object ms) fresh ls b c = ap (λ l. t.begin_object ∷ l) (punctuate-first_members ms ls c)
   punctuate-spelled (object ms) after_comma ls b c = ap (λ l. t.begin_object ∷ l) (punctuate-first_members ms ls c)
   punctuate-spelled null after_value ls b c = absurd (false≢true b)
@@ -50,13 +50,13 @@ mutual
   punctuate-spelled (object ms) after_value ls b c = absurd (false≢true b)
   punctuate-spelled (object ms) after_key ls b c = absurd (false≢true b)
 
-  punctuate-first_items : (js : Items) (ls : List Lexeme) → begins_colon ls ≡ false → punctuate fresh (first_items js ++ ls) ≡ items_tokens js ++ punctuate after_value ls
-  punctuate-first_items no_items ls c = refl
-  punctuate-first_items (item j js) ls c = joined (spelled j) (more_items js) ls (json_tokens j) (items_tokens js) fresh (punctuate-spelled j fresh (more_items js ++ ls) refl (no_colon_items js ls)) (punctuate-more_items js ls c)
+  punctuate-first_elements : (js : Items) (ls : List Lexeme) → begins_colon ls ≡ false → punctuate fresh (first_elements js ++ ls) ≡ items_tokens js ++ punctuate after_value ls
+  punctuate-first_elements no_items ls c = refl
+  punctuate-first_elements (item j js) ls c = joined (spelled j) (more_elements js) ls (json_tokens j) (items_tokens js) fresh (punctuate-spelled j fresh (more_elements js ++ ls) refl (no_colon_elements js ls)) (punctuate-more_elements js ls c)
 
-  punctuate-more_items : (js : Items) (ls : List Lexeme) → begins_colon ls ≡ false → punctuate after_value (more_items js ++ ls) ≡ items_tokens js ++ punctuate after_value ls
-  punctuate-more_items no_items ls c = refl
-  punctuate-more_items (item j js) ls c = joined (spelled j) (more_items js) ls (json_tokens j) (items_tokens js) after_comma (punctuate-spelled j after_comma (more_items js ++ ls) refl (no_colon_items js ls)) (punctuate-more_items js ls c)
+  punctuate-more_elements : (js : Items) (ls : List Lexeme) → begins_colon ls ≡ false → punctuate after_value (more_elements js ++ ls) ≡ items_tokens js ++ punctuate after_value ls
+  punctuate-more_elements no_items ls c = refl
+  punctuate-more_elements (item j js) ls c = joined (spelled j) (more_elements js) ls (json_tokens j) (items_tokens js) after_comma (punctuate-spelled j after_comma (more_elements js ++ ls) refl (no_colon_elements js ls)) (punctuate-more_elements js ls c)
 
   punctuate-first_members : (ms : Members) (ls : List Lexeme) → begins_colon ls ≡ false → punctuate fresh (first_members ms ++ ls) ≡ members_tokens ms ++ punctuate after_value ls
   punctuate-first_members no_members ls c = refl

@@ -6,7 +6,7 @@ use Rattle.json.specs.Token as t
 use Rattle.json.specs.Print.{begins, ends}
 use Rattle.json.specs.Lex.{Lexeme, token, comma, colon, Place, fresh, after_value, after_comma, after_key, begins_colon, place_token, punctuate}
 use Rattle.json.specs.Tree.{json_tokens, items_tokens, members_tokens}
-use Rattle.json_lexemes.specs.Spelled.{spelled, first_items, more_items, first_members, more_members}
+use Rattle.json_lexemes.specs.Spelled.{spelled, first_elements, more_elements, first_members, more_members}
 
 abbrev pub IsGood : t.Token → Type 0
 IsGood t.begin_object = ⊤
@@ -135,7 +135,7 @@ mutual
   respell-json (boolean b) ts = refl
   respell-json (number s) ts = refl
   respell-json (string s) ts = refl
-  respell-json (array js) ts = ap (λ l. token t.begin_array ∷ l) (respell-first_items js ts)
+  respell-json (array js) ts = ap (λ l. token t.begin_array ∷ l) (respell-first_elements js ts)
   respell-json (object ms) ts = ap (λ l. token t.begin_object ∷ l) (respell-first_members ms ts)
 
   -- after a value there is a comma more
@@ -144,16 +144,16 @@ mutual
   respell-next (boolean b) ts = refl
   respell-next (number s) ts = refl
   respell-next (string s) ts = refl
-  respell-next (array js) ts = ap (λ l. comma ∷ token t.begin_array ∷ l) (respell-first_items js ts)
+  respell-next (array js) ts = ap (λ l. comma ∷ token t.begin_array ∷ l) (respell-first_elements js ts)
   respell-next (object ms) ts = ap (λ l. comma ∷ token t.begin_object ∷ l) (respell-first_members ms ts)
 
-  respell-first_items : (js : Items) (ts : List t.Token) → respell false (items_tokens js ++ ts) ≡ first_items js ++ respell true ts
-  respell-first_items no_items ts = refl
-  respell-first_items (item j js) ts = join_spelled (spelled j) (more_items js) (json_tokens j) (items_tokens js) false ts (respell-json j (items_tokens js ++ ts)) (respell-more_items js ts)
+  respell-first_elements : (js : Items) (ts : List t.Token) → respell false (items_tokens js ++ ts) ≡ first_elements js ++ respell true ts
+  respell-first_elements no_items ts = refl
+  respell-first_elements (item j js) ts = join_spelled (spelled j) (more_elements js) (json_tokens j) (items_tokens js) false ts (respell-json j (items_tokens js ++ ts)) (respell-more_elements js ts)
 
-  respell-more_items : (js : Items) (ts : List t.Token) → respell true (items_tokens js ++ ts) ≡ more_items js ++ respell true ts
-  respell-more_items no_items ts = refl
-  respell-more_items (item j js) ts = join_spelled (comma ∷ spelled j) (more_items js) (json_tokens j) (items_tokens js) true ts (respell-next j (items_tokens js ++ ts)) (respell-more_items js ts)
+  respell-more_elements : (js : Items) (ts : List t.Token) → respell true (items_tokens js ++ ts) ≡ more_elements js ++ respell true ts
+  respell-more_elements no_items ts = refl
+  respell-more_elements (item j js) ts = join_spelled (comma ∷ spelled j) (more_elements js) (json_tokens j) (items_tokens js) true ts (respell-next j (items_tokens js ++ ts)) (respell-more_elements js ts)
 
   respell-first_members : (ms : Members) (ts : List t.Token) → respell false (members_tokens ms ++ ts) ≡ first_members ms ++ respell true ts
   respell-first_members no_members ts = refl

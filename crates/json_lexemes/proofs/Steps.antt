@@ -74,27 +74,27 @@ each_operator P a b c d e f x h = g5 (or_cases _ _ h)
     g5 (inl i) = g4b (or_cases _ _ i)
     g5 (inr i) = at 44 i f
 
--- ---- blanks
+-- ---- whitespace
 
-pub blank_left : (t : List ℕ) (i : ℕ) → i < length t → is_space (get_or t i 0) ≡ true → left_at t (i + 1) ≡ left_at t i
+pub whitespace_left : (t : List ℕ) (i : ℕ) → i < length t → is_space (get_or t i 0) ≡ true → left_at t (i + 1) ≡ left_at t i
 unfolding lex
-blank_left t i h s =
+whitespace_left t i h s =
     sym (ap (lex between) (drop_step t i h) ∙ ap (λ c. lex_byte between c (get_or t i 0) (drop (i + 1) t) (λ m. lex m (drop (i + 1) t))) (space_class (get_or t i 0) s))
 
-blank_mode : (m : Mode) (c : Class) → c ≡ space → ((m ≡ between) ⊎ (m ≡ in_word)) → next_mode m c ≡ between
-blank_mode m c e (inl f) = ap₂ next_mode f e
-blank_mode m c e (inr f) = ap₂ next_mode f e
+whitespace_mode : (m : Mode) (c : Class) → c ≡ space → ((m ≡ between) ⊎ (m ≡ in_word)) → next_mode m c ≡ between
+whitespace_mode m c e (inl f) = ap₂ next_mode f e
+whitespace_mode m c e (inr f) = ap₂ next_mode f e
 
 pub end_modes : (t : List ℕ) (i : ℕ) → i < length t → IsEnd t i → (mode_at t i ≡ between) ⊎ (mode_at t i ≡ in_word)
 end_modes t i h (inl e) = inl e
 end_modes t i h (inr (inl e)) = inr e.0
 end_modes t i h (inr (inr e)) = let never : ⊥ = omega arith in absurd never
 
-pub blank_end : (t : List ℕ) (i : ℕ) → i < length t → is_space (get_or t i 0) ≡ true → IsEnd t i → IsEnd t (i + 1)
-blank_end t i h s e = inl (mode_step t i h ∙ blank_mode (mode_at t i) _ (space_class (get_or t i 0) s) (end_modes t i h e))
+pub whitespace_end : (t : List ℕ) (i : ℕ) → i < length t → is_space (get_or t i 0) ≡ true → IsEnd t i → IsEnd t (i + 1)
+whitespace_end t i h s e = inl (mode_step t i h ∙ whitespace_mode (mode_at t i) _ (space_class (get_or t i 0) s) (end_modes t i h e))
 
-pub blank_between : (t : List ℕ) (i : ℕ) → i < length t → is_space (get_or t i 0) ≡ true → mode_at t i ≡ between → mode_at t (i + 1) ≡ between
-blank_between t i h s e = mode_step t i h ∙ blank_mode (mode_at t i) _ (space_class (get_or t i 0) s) (inl e)
+pub whitespace_between : (t : List ℕ) (i : ℕ) → i < length t → is_space (get_or t i 0) ≡ true → mode_at t i ≡ between → mode_at t (i + 1) ≡ between
+whitespace_between t i h s e = mode_step t i h ∙ whitespace_mode (mode_at t i) _ (space_class (get_or t i 0) s) (inl e)
 
 -- ---- strings
 
@@ -286,7 +286,7 @@ operator_next m c e (inr f) = ap₂ next_mode f e
 pub operator_end : (t : List ℕ) (i : ℕ) → i < length t → is_operator (get_or t i 0) ≡ true → IsEnd t i → mode_at t (i + 1) ≡ between
 operator_end t i h o e = mode_step t i h ∙ operator_next (mode_at t i) _ (operator_class (get_or t i 0) o) (end_modes t i h e)
 
--- where neither an operator nor a blank stands, no word has just ended
+-- where neither an operator nor whitespace stands, no word has just ended
 pub begins_here : (t : List ℕ) (i : ℕ) → i < length t → is_operator (get_or t i 0) ≡ false → is_space (get_or t i 0) ≡ false → IsEnd t i → mode_at t i ≡ between
 begins_here t i h o s (inl e) = e
 begins_here t i h o s (inr (inl e)) = absurd (true≢false (sym e.1 ∙ ap ends_word (drop_step t i h) ∙ ap₂ (λ a b. a || b) o s))

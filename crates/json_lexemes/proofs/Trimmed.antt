@@ -1,4 +1,4 @@
--- The blanks at the end of a text.
+-- The whitespace at the end of a text.
 use Rattle.std.proofs.Common.{◌≡◌, ◌⊎◌, inl, inr, ℕ, zero, suc, ◌+◌, ◌-◌, ◌<◌, ◌≤◌, Bool, true, false, ◌||◌, List, [], ◌∷◌, length, drop, get_or, refl, sym, ap, ◌∙◌, subst, arith}
 use Rattle.std.proofs.lemmas.List.{drop_all}
 use Rattle.std.proofs.lemmas.Str.{IsCharBoundary-before_ascii}
@@ -11,7 +11,7 @@ use Rattle.json_lexemes.specs.Places.{left_at, mode_at, HasEnd, IsEnd}
 use Rattle.json_lexemes.specs.Spelled.{Says}
 use Rattle.json_lexemes.proofs.Ascii.{space_ascii}
 use Rattle.json_lexemes.proofs.Closed.{closed-Says}
-use Rattle.json_lexemes.proofs.Steps.{blank_left, mode_step, space_class}
+use Rattle.json_lexemes.proofs.Steps.{mode_step, space_class, whitespace_left}
 use Rattle.std.proofs.Math.Seq.{take-length}
 use Rattle.json_lexemes.specs.Lexing.{after}
 
@@ -23,16 +23,16 @@ end_left t i e = ap (lex between) (drop_all i t (omega (arith, e)))
 pub end_ended : (t : List ℕ) (i : ℕ) → i ≡ length t → ends_word (drop i t) ≡ true
 end_ended t i e = ap ends_word (drop_all i t (omega (arith, e)))
 
--- ---- one blank before
+-- ---- a byte of whitespace before
 
 or_right : (a b : Bool) → b ≡ true → (a || b) ≡ true
 or_right true b e = refl
 or_right false b e = e
 
-ended_blank : (t : List ℕ) (i : ℕ) → i < length t → is_space (get_or t i 0) ≡ true → ends_word (drop i t) ≡ true
-ended_blank [] i h s = absurd (omega arith)
-ended_blank (x ∷ t) zero h s = or_right (is_operator x) (is_space x) s
-ended_blank (x ∷ t) (suc i) h s = ended_blank t i (omega arith) s
+ended_whitespace : (t : List ℕ) (i : ℕ) → i < length t → is_space (get_or t i 0) ≡ true → ends_word (drop i t) ≡ true
+ended_whitespace [] i h s = absurd (omega arith)
+ended_whitespace (x ∷ t) zero h s = or_right (is_operator x) (is_space x) s
+ended_whitespace (x ∷ t) (suc i) h s = ended_whitespace t i (omega arith) s
 
 outside_before : (m : Mode) → Outside (next_mode m space) → Outside m
 outside_before between o = tt
@@ -41,10 +41,10 @@ outside_before in_string o = o
 outside_before in_escape o = o
 
 pub before_left : (t : List ℕ) (n i : ℕ) → n ≡ i + 1 → n ≤ length t → is_space (get_or t i 0) ≡ true → left_at t n ≡ [] → left_at t i ≡ []
-before_left t n i e h s l = sym (blank_left t i (omega (arith, e)) s) ∙ ap (left_at t) (sym e) ∙ l
+before_left t n i e h s l = sym (whitespace_left t i (omega (arith, e)) s) ∙ ap (left_at t) (sym e) ∙ l
 
 pub before_ended : (t : List ℕ) (n i : ℕ) → n ≡ i + 1 → n ≤ length t → is_space (get_or t i 0) ≡ true → ends_word (drop i t) ≡ true
-before_ended t n i e h s = ended_blank t i (omega (arith, e)) s
+before_ended t n i e h s = ended_whitespace t i (omega (arith, e)) s
 
 pub before_closed : (t : List ℕ) (n i : ℕ) → n ≡ i + 1 → n ≤ length t → is_space (get_or t i 0) ≡ true → Outside (mode_at t n) → Outside (mode_at t i)
 before_closed t n i e h s o = outside_before (mode_at t i) (subst Outside (ap (mode_at t) e ∙ mode_step t i (omega (arith, e)) ∙ ap (next_mode (mode_at t i)) (space_class (get_or t i 0) s)) o)

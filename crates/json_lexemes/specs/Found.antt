@@ -1,10 +1,10 @@
--- Where the value of a member or of an item stands, and what follows it.
+-- Where the value of a member or of an element stands, and what follows it.
 use Rattle.std.specs.Prelude.{◌≡◌, ◌⊎◌, ◌<◌, ◌≤◌, ◌++◌, ℕ, zero, suc, List, length, get_or, cond, false, Option, Some, None, ⊤}
 use Rattle.std.specs.Str.{bytes_eq, IsUtf8, IsCharBoundary}
 use Rattle.json.specs.Json.{Json, Items, no_items, item, Members, no_members, member}
 use Rattle.json.specs.Lex.{Lexeme, between}
 use Rattle.json.specs.Word.{is_space}
-use Rattle.json_lexemes.specs.Spelled.{spelled, first_items, more_items, first_members, more_members}
+use Rattle.json_lexemes.specs.Spelled.{spelled, first_elements, more_elements, first_members, more_members}
 use Rattle.json_lexemes.specs.Places.{mode_at, left_at, IsEnd, HasEnd}
 use Rattle.json_lexemes.specs.declared.span.Span.{Span}
 
@@ -21,10 +21,10 @@ abbrev pub named : List ℕ → Members → Option Placed
 named k no_members = None
 named k (member l j ms) = or_else (named k ms) (cond (bytes_eq l k) (Some (j, more_members ms)) None)
 
--- the item of this number
+-- the element of this number
 abbrev pub numbered : ℕ → Items → Option Placed
 numbered n no_items = None
-numbered zero (item j js) = Some (j, more_items js)
+numbered zero (item j js) = Some (j, more_elements js)
 numbered (suc n) (item j js) = numbered n js
 
 -- in the place found, if any, the value stands, if any
@@ -38,11 +38,11 @@ Stands t (Some s) (Some p) = (left_at t s.start ≡ spelled p.0 ++ p.1) × (left
 abbrev pub IsAhead : List ℕ → List ℕ → Members → ℕ → Option Span → Type 0
 IsAhead t k ms i found = (rest : Members) × (left_at t i ≡ first_members rest) × (o : Option Placed) × (named k ms ≡ or_else (named k rest) o) × Stands t found o
 
--- of the items js those of rest are still ahead at i, and the one of number n is there that of number m
+-- of the elements js those of rest are still ahead at i, and the one of number n is there that of number m
 abbrev pub AreAhead : List ℕ → ℕ → Items → ℕ → ℕ → Type 0
-AreAhead t n js i m = (rest : Items) × (left_at t i ≡ first_items rest) × (numbered n js ≡ numbered m rest)
+AreAhead t n js i m = (rest : Items) × (left_at t i ≡ first_elements rest) × (numbered n js ≡ numbered m rest)
 
--- no lexeme is cut at either side, and no blank stands within at either
+-- no lexeme is cut at either side, and no whitespace stands within at either
 pub record IsCut (t : List ℕ) (s : Span) : Type 0 where
   pub begins : mode_at t s.start ≡ between
   pub ends : IsEnd t s.end

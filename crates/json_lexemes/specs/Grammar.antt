@@ -7,7 +7,7 @@ use Rattle.json.specs.Text.{content, plain}
 use Rattle.json.specs.Lex.{Lexeme, token, comma, colon}
 use Rattle.json.specs.Tree.{depth, items_depth, members_depth}
 use Rattle.json_lexemes.specs.Places.{left_at}
-use Rattle.json_lexemes.specs.Spelled.{spelled, more_items, more_members}
+use Rattle.json_lexemes.specs.Spelled.{spelled, more_elements, more_members}
 
 -- ---- runs of bytes, and strings
 
@@ -33,7 +33,7 @@ HasContent t i = (s : List ℕ) × (content plain (drop i t) ≡ Some s)
 abbrev pub Spells : List ℕ → ℕ → ℕ → ℕ → Type 0
 Spells t n i k = (j : Json) × (left_at t i ≡ spelled j ++ left_at t k) × (depth j ≤ n)
 
--- the brackets of an object, or of a list
+-- the brackets of an object, or of an array
 
 abbrev pub opening : Bool → Lexeme
 opening true = token t.begin_object
@@ -43,7 +43,7 @@ abbrev pub closing : Bool → Lexeme
 closing true = token t.end_object
 closing false = token t.end_array
 
--- in an object a name stands before the value, in a list none
+-- in an object a name stands before the value, in an array none
 abbrev pub Named : Bool → List Lexeme → List Lexeme → Type 0
 Named true ls rest = (s : List ℕ) × (ls ≡ token (t.string s) ∷ colon ∷ rest)
 Named false ls rest = ls ≡ rest
@@ -56,10 +56,10 @@ Opens t object i k = (ls : List Lexeme) × (left_at t i ≡ opening object ∷ l
 abbrev pub Continues : List ℕ → Bool → ℕ → ℕ → Type 0
 Continues t object i k = (ls : List Lexeme) × (left_at t i ≡ comma ∷ ls) × Named object ls (left_at t k)
 
--- what is left of an object, or of a list, behind one of its values: more of them, of at most n levels
+-- what is left of an object, or of an array, behind one of its values: more of them, of at most n levels
 abbrev pub Remains : Bool → ℕ → List Lexeme → List Lexeme → Type 0
 Remains true n ls rest = (ms : Members) × (ls ≡ more_members ms ++ rest) × (members_depth ms ≤ n)
-Remains false n ls rest = (js : Items) × (ls ≡ more_items js ++ rest) × (items_depth js ≤ n)
+Remains false n ls rest = (js : Items) × (ls ≡ more_elements js ++ rest) × (items_depth js ≤ n)
 
 -- Behind a value the brackets that are open are all closed, and nothing follows. Of each, the innermost first, it is known whether it is an object's; n more may open within it.
 abbrev pub Completes : ℕ → List Bool → List Lexeme → Type 0

@@ -35,6 +35,6 @@ IsOpen t = ¬ Outside (mode_at t (length t))
 abbrev pub Closes : List ℕ → ℕ → Type 0
 Closes t k = ((mode_at t k ≡ between) × (get_or t (k - 1) 0 ≡ 34)) ⊎ ((k ≡ length t) × IsOpen t)
 
--- no blank stands before k, or else a string is left open
+-- no whitespace stands before k, or else a string is left open
 abbrev pub HasEnd : List ℕ → ℕ → Type 0
 HasEnd t k = (is_space (get_or t (k - 1) 0) ≡ false) ⊎ IsOpen t

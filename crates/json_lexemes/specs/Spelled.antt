@@ -1,4 +1,4 @@
--- What a text says (RFC 8259): a tree, spelled by lexemes. Blanks may stand around each, and no rule speaks of them. A text with
+-- What a text says (RFC 8259): a tree, spelled by lexemes. Whitespace may stand around each, and no rule speaks of it. A text with
 -- an unpaired surrogate, such as "\ud800", says none: the grammar takes it, but what it says is left open (section 8.2).
 use Rattle.std.specs.Prelude.{◌≡◌, ◌≤◌, ℕ, List, [], ◌∷◌, ◌++◌}
 use Rattle.json.specs.Json.{Json, null, boolean, number, string, array, object, Items, no_items, item, Members, no_members, member, max_depth}
@@ -13,17 +13,17 @@ abbrev mutual
   spelled (boolean b) = token (t.boolean b) ∷ []
   spelled (number s) = token (t.number s) ∷ []
   spelled (string s) = token (t.string s) ∷ []
-  spelled (array js) = token t.begin_array ∷ first_items js
+  spelled (array js) = token t.begin_array ∷ first_elements js
   spelled (object ms) = token t.begin_object ∷ first_members ms
 
   -- with the closing bracket
-  pub first_items : Items → List Lexeme
-  first_items no_items = token t.end_array ∷ []
-  first_items (item j js) = spelled j ++ more_items js
+  pub first_elements : Items → List Lexeme
+  first_elements no_items = token t.end_array ∷ []
+  first_elements (item j js) = spelled j ++ more_elements js
 
-  pub more_items : Items → List Lexeme
-  more_items no_items = token t.end_array ∷ []
-  more_items (item j js) = comma ∷ (spelled j ++ more_items js)
+  pub more_elements : Items → List Lexeme
+  more_elements no_items = token t.end_array ∷ []
+  more_elements (item j js) = comma ∷ (spelled j ++ more_elements js)
 
   pub first_members : Members → List Lexeme
   first_members no_members = token t.end_object ∷ []

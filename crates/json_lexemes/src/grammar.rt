@@ -10,7 +10,7 @@ ghost use Rattle.json_lexemes.specs.Spelled.{Says};
 ghost use Rattle.json_lexemes.specs.Grammar.{Spells, Named, Opens, Continues, Completes, Begins, closing, innermost};
 
 use crate::leaves::{closed_string, leaf_end};
-use crate::lexemes::{after, blank_end, byte_at};
+use crate::lexemes::{after, byte_at, whitespace_end};
 
 /// The most objects and arrays that may be open at once.
 const MOST: usize = 128;
@@ -70,7 +70,7 @@ fn past_begin(text: &[u8], from: usize, room: bool) -> Option<(usize, bool)>
     if !room {
         return None;
     }
-    let inside = blank_end(text, from + 1);
+    let inside = whitespace_end(text, from + 1);
     if byte_at(text, inside) == closing(c == b'{') {
         return Some((inside + 1, false));
     }
@@ -88,10 +88,10 @@ fn past_value(text: &[u8], from: usize, object: bool) -> Option<(usize, bool)>
     ensures closes { IfSome result (λ r. r.1 ≡ false
         → left_at text.now from ≡ closing object ∷ left_at text.now r.0) }
 {
-    let i = blank_end(text, from);
+    let i = whitespace_end(text, from);
     let c = byte_at(text, i);
     if c == b',' {
-        let next = value_in(text, blank_end(text, i + 1), object)?;
+        let next = value_in(text, whitespace_end(text, i + 1), object)?;
         return Some((next, true));
     }
     if c == closing(object) {
@@ -139,7 +139,7 @@ pub fn is_json_within(text: &[u8], levels: usize) -> bool
     let most = if levels < MOST { levels } else { MOST };
     let mut objects = [false; MOST];
     let mut depth = 0;
-    let mut i = blank_end(text, 0);
+    let mut i = whitespace_end(text, 0);
     loop {
         let Some((next, opens)) = past_begin(text, i, depth < most) else {
             return false;
@@ -153,7 +153,7 @@ pub fn is_json_within(text: &[u8], levels: usize) -> bool
                 return false;
             };
             if nested == 0 {
-                return blank_end(text, place) == text.len();
+                return whitespace_end(text, place) == text.len();
             }
             i = place;
             depth = nested;

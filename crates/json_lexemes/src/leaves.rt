@@ -10,7 +10,7 @@ ghost use Rattle.json.specs.Word.{after_digits, after_minus, after_sign, after_w
 ghost use Rattle.json_lexemes.specs.Places.{left_at};
 ghost use Rattle.json_lexemes.specs.Grammar.{is_no_digit, is_stop, HasContent, IsFree, Spells};
 
-use crate::lexemes::{byte_at, is_blank, is_operator};
+use crate::lexemes::{byte_at, is_operator, is_whitespace};
 use crate::names::escaped;
 use crate::scan::{Sought, first_of};
 use std::simd::prelude::*;
@@ -217,7 +217,7 @@ fn if_ended(text: &[u8], end: usize) -> Option<usize>
     ensures { IfSome result (λ i. (i ≡ end) × (ends_word (drop end text.now) ≡ true)) }
 {
     let c = byte_at(text, end);
-    if is_operator(c) || is_blank(c) {
+    if is_operator(c) || is_whitespace(c) {
         Some(end)
     } else {
         None

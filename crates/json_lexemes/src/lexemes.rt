@@ -14,8 +14,8 @@ ghost use Rattle.json_lexemes.specs.Runs.{goes_on, is_bracket, is_flat, is_mark,
 use crate::scan::{Sought, WIDE, first_of};
 use std::simd::prelude::*;
 
-/// Of each byte outside of strings: `0` for a quote or a bracket, `1` for a blank, a comma or a colon, `2`
-/// for a part of a word. One load takes the place of up to ten comparisons.
+/// Of each byte outside of strings: `0` for a quote or a bracket, `1` for whitespace, a comma or a colon,
+/// `2` for a part of a word. One load takes the place of up to ten comparisons.
 static KIND: [u8; 256] = *b"\
     22222222211221222222222222222222\
     12022222222212222222222222122222\
@@ -26,9 +26,9 @@ static KIND: [u8; 256] = *b"\
     22222222222222222222222222222222\
     22222222222222222222222222222222";
 
-/// Whether this is a blank: a space, a tab, a line feed or a carriage return.
+/// Whether this is whitespace: a space, a tab, a line feed or a carriage return.
 #[inline(always)]
-pub fn is_blank(c: u8) -> bool
+pub fn is_whitespace(c: u8) -> bool
     ensures { result ≡ is_space c }
 {
     c == b' ' || c == b'\t' || c == b'\n' || c == b'\r'
@@ -42,7 +42,7 @@ pub fn is_operator(c: u8) -> bool
     c == b'{' || c == b'}' || c == b'[' || c == b']' || c == b':' || c == b','
 }
 
-/// The byte at `i`, or a blank past the end.
+/// The byte at `i`, or a space past the end.
 #[inline(always)]
 pub fn byte_at(text: &[u8], i: usize) -> u8
     ensures within { result ≢ 32 → i < length text.now }
@@ -51,9 +51,9 @@ pub fn byte_at(text: &[u8], i: usize) -> u8
     if i < text.len() { text[i] } else { b' ' }
 }
 
-/// The first place from `from` on where no blank stands.
+/// The first place from `from` on where no whitespace stands.
 #[inline(always)]
-pub fn blank_end(text: &[u8], from: usize) -> usize
+pub fn whitespace_end(text: &[u8], from: usize) -> usize
     requires { from ≤ length text.now }
     ensures bounds { (from ≤ result) × (result ≤ length text.now) }
     ensures left { left_at text.now result ≡ left_at text.now from }
@@ -63,14 +63,14 @@ pub fn blank_end(text: &[u8], from: usize) -> usize
     ensures boundary { IsUtf8 text.now → IsCharBoundary text.now from → IsCharBoundary text.now result }
 {
     let mut i = from;
-    while i < text.len() && is_blank(text[i]) {
+    while i < text.len() && is_whitespace(text[i]) {
         i += 1;
     }
     i
 }
 
-/// The place past the operator `c` and the blanks around it; `None` where another lexeme comes first, or
-/// none does.
+/// The place past the operator `c` and the whitespace around it; `None` where another lexeme comes first,
+/// or none does.
 #[inline(always)]
 pub fn after(text: &[u8], from: usize, c: u8) -> Option<usize>
     requires within { from ≤ length text.now }
@@ -85,9 +85,9 @@ pub fn after(text: &[u8], from: usize, c: u8) -> Option<usize>
         → left_at text.now from ≡ operator_lexeme c ∷ ls → ⊥) }
     ensures boundary { IsUtf8 text.now → IfSome result (λ i. IsCharBoundary text.now i) }
 {
-    let i = blank_end(text, from);
+    let i = whitespace_end(text, from);
     if i < text.len() && text[i] == c {
-        Some(blank_end(text, i + 1))
+        Some(whitespace_end(text, i + 1))
     } else {
         None
     }
@@ -189,7 +189,7 @@ pub fn word_end(text: &[u8], from: usize) -> usize
     ensures boundary { IsUtf8 text.now → IsCharBoundary text.now result }
 {
     let mut i = from;
-    while i < text.len() && !is_operator(text[i]) && !is_blank(text[i]) {
+    while i < text.len() && !is_operator(text[i]) && !is_whitespace(text[i]) {
         i += 1;
     }
     i
@@ -367,16 +367,16 @@ fn last_lexeme_end(text: &[u8], from: usize) -> usize
     ensures boundary { IsUtf8 text.now → IsCharBoundary text.now from → IsCharBoundary text.now result }
 {
     let mut end = from;
-    let mut i = blank_end(text, from);
+    let mut i = whitespace_end(text, from);
     while i < text.len() {
         end = lexeme_end(text, i);
-        i = blank_end(text, end);
+        i = whitespace_end(text, end);
     }
     end
 }
 
-/// The place after the value that begins at `from`, blanks before it aside, or after the last lexeme where
-/// brackets stay open.
+/// The place after the value that begins at `from`, whitespace before it aside, or after the last lexeme
+/// where brackets stay open.
 pub fn value_end(text: &[u8], from: usize) -> usize
     requires { from ≤ length text.now }
     ensures bounds { (from ≤ result) × (result ≤ length text.now) }
@@ -385,7 +385,7 @@ pub fn value_end(text: &[u8], from: usize) -> usize
         → IsEnd text.now result × ((result ≡ from) ⊎ HasEnd text.now result) }
     ensures boundary { IsUtf8 text.now → IsCharBoundary text.now from → IsCharBoundary text.now result }
 {
-    let start = blank_end(text, from);
+    let start = whitespace_end(text, from);
     if start == text.len() {
         return from;
     }
@@ -402,7 +402,7 @@ pub fn value_end(text: &[u8], from: usize) -> usize
     end
 }
 
-/// The place after the last byte that is no blank, or `from` where none stands behind that.
+/// The place after the last byte that isn't whitespace, or `from` where none stands behind that.
 pub fn last_end(text: &[u8], from: usize) -> usize
     requires { from ≤ length text.now }
     ensures bounds { (from ≤ result) × (result ≤ length text.now) }
@@ -414,7 +414,7 @@ pub fn last_end(text: &[u8], from: usize) -> usize
     ensures boundary { IsCharBoundary text.now result }
 {
     let mut end = text.len();
-    while end > from && is_blank(text[end - 1]) {
+    while end > from && is_whitespace(text[end - 1]) {
         end -= 1;
     }
     end

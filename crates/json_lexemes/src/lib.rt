@@ -5,9 +5,9 @@
 //! no check that it is JSON, but for one call. Each contract says which lexemes are left at the place that
 //! it answers, and that no lexeme and no character is cut there.
 //!
-//! [`value_end`] passes over a value by counting brackets, [`member`] and [`item`] find one in an object
-//! or a list, and [`is_name`] compares a name with its escapes read. [`is_json_within`] is the one check:
-//! that a whole text is JSON and nests no deeper than so many levels.
+//! [`value_end`] passes over a value by counting brackets, [`member`] and [`element`] find one in an
+//! object or an array, and [`is_name`] compares a name with its escapes read. [`is_json_within`] is the one
+//! check: that a whole text is JSON and nests no deeper than so many levels.
 #![tactic(auto)]
 
 mod grammar;
@@ -22,9 +22,9 @@ mod values;
 
 pub use grammar::is_json_within;
 pub use lexemes::{
-    after, blank_end, byte_at, is_blank, is_deeper, is_operator, last_end, string_end, value_end,
-    word_end,
+    after, byte_at, is_deeper, is_operator, is_whitespace, last_end, string_end, value_end,
+    whitespace_end, word_end,
 };
 pub use names::is_name;
 pub use span::Span;
-pub use values::{item, member, value_from};
+pub use values::{element, member, value_from};

@@ -1,8 +1,8 @@
 //! Places of one text, and names.
 
 use crate::{
-    Span, after, blank_end, byte_at, is_deeper, is_json_within, is_name, item, last_end, member,
-    string_end, value_end, value_from, word_end,
+    Span, after, byte_at, element, is_deeper, is_json_within, is_name, last_end, member,
+    string_end, value_end, value_from, whitespace_end, word_end,
 };
 use std::test::Fail;
 
@@ -11,7 +11,7 @@ const TEXT: &str = " {\"a\" : [1.50,\"]\"], \"\\u0061\":true}\n";
 #[test]
 fn lexemes(rt: HostRuntime) {
     let text = TEXT.as_bytes();
-    assert_eq!(rt; blank_end(text, 0), 1);
+    assert_eq!(rt; whitespace_end(text, 0), 1);
     assert_eq!(rt; string_end(text, 3), 5);
     assert_eq!(rt; after(text, 5, b':'), Some(8));
     assert!(rt; after(text, 5, b',').is_none());
@@ -46,8 +46,8 @@ fn values(rt: HostRuntime) -> Result<(), Fail> {
     assert_eq!(rt; at(Some(value_from(text, 8))), Some("[1.50,\"]\"]"));
     assert_eq!(rt; at(member(text, 2, b"a")), Some("true"));
     assert!(rt; member(text, 2, b"b").is_none());
-    assert_eq!(rt; at(item(text, 9, 1)), Some("\"]\""));
-    assert!(rt; item(text, 9, 2).is_none());
+    assert_eq!(rt; at(element(text, 9, 1)), Some("\"]\""));
+    assert!(rt; element(text, 9, 2).is_none());
     Ok(())
 }
 

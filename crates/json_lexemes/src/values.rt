@@ -1,4 +1,4 @@
-//! A value by its place: of a member, or an item.
+//! A value by its place: of a member, or an element.
 
 ghost use Rattle.std.specs.Prelude.{◌≡◌, ◌<◌, ◌≤◌, Some, false, length, get_or, IfSome, if◌then◌else◌};
 ghost use Rattle.std.specs.Str.{IsUtf8, IsCharBoundary};
@@ -8,13 +8,13 @@ ghost use Rattle.json.specs.Word.{is_space};
 ghost use Rattle.json_lexemes.specs.Found.{IsCut, IsWithin, Stands, named, numbered};
 ghost use Rattle.json_lexemes.specs.Places.{mode_at, left_at};
 ghost use Rattle.json_lexemes.specs.Skipped.{skip};
-ghost use Rattle.json_lexemes.specs.Spelled.{first_items, first_members};
+ghost use Rattle.json_lexemes.specs.Spelled.{first_elements, first_members};
 
-use crate::lexemes::{after, blank_end, byte_at, string_end, value_end};
+use crate::lexemes::{after, byte_at, string_end, value_end, whitespace_end};
 use crate::names::is_name;
 use crate::span::Span;
 
-/// The value that begins at `start`, where no blank stands.
+/// The value that begins at `start`, where no whitespace stands.
 #[inline(always)]
 pub fn value_from(text: &[u8], start: usize) -> Span
     requires within { start ≤ length text.now }
@@ -48,7 +48,7 @@ pub fn member(text: &[u8], from: usize, name: &[u8]) -> Option<Span>
     ensures within { IfSome result (IsWithin text.now) }
 {
     let mut found = None;
-    let mut i = blank_end(text, from);
+    let mut i = whitespace_end(text, from);
     while byte_at(text, i) == b'"' {
         let Some(start) = after(text, string_end(text, i + 1), b':') else {
             return None;
@@ -63,17 +63,17 @@ pub fn member(text: &[u8], from: usize, name: &[u8]) -> Option<Span>
     found
 }
 
-/// The item of this number, in a list whose inside begins at `from`; `None` where it has fewer.
-pub fn item(text: &[u8], from: usize, number: usize) -> Option<Span>
+/// The element of this number, in an array whose inside begins at `from`; `None` where it has fewer.
+pub fn element(text: &[u8], from: usize, number: usize) -> Option<Span>
     requires within { from ≤ length text.now }
     requires boundary { IsUtf8 text.now → IsCharBoundary text.now from }
-    ensures found { (js : Items) → left_at text.now from ≡ first_items js
+    ensures found { (js : Items) → left_at text.now from ≡ first_elements js
         → Stands text.now result (numbered number js) }
     ensures cut { mode_at text.now from ≡ between → IfSome result (IsCut text.now) }
     ensures within { IfSome result (IsWithin text.now) }
 {
     let mut left = number;
-    let mut i = blank_end(text, from);
+    let mut i = whitespace_end(text, from);
     while byte_at(text, i) != b']' {
         let value = value_from(text, i);
         if left == 0 {

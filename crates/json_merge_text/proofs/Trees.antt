@@ -8,19 +8,19 @@ use Rattle.jsonptr.specs.Text.{Pointer}
 use Rattle.json_patch_document.specs.ChangeComputed.{front_of, last_of}
 use Rattle.json_patch_text.specs.Changed.{add_child, add_member, added, changed, removed, take_child, without}
 use Rattle.json_patch_text.proofs.Members.{put_here}
-use Rattle.json_text.specs.Pointed.{child, if_some, put_at, put_child, put_item, put_member, tree_at}
+use Rattle.json_text.specs.Pointed.{child, if_some, put_at, put_child, put_element, put_member, tree_at}
 
 -- ---- one child, once and twice
 
-item_here : (n : ℕ) (w c : Json) (js : Items) → get_item n js ≡ Some c → get_item n (put_item n w js) ≡ Some w
-item_here n w c no_items e = absurd (none-some c e)
-item_here zero w c (item j js) e = refl
-item_here (suc n) w c (item j js) e = item_here n w c js e
+element_here : (n : ℕ) (w c : Json) (js : Items) → get_item n js ≡ Some c → get_item n (put_element n w js) ≡ Some w
+element_here n w c no_items e = absurd (none-some c e)
+element_here zero w c (item j js) e = refl
+element_here (suc n) w c (item j js) e = element_here n w c js e
 
-item_twice : (n : ℕ) (v w : Json) (js : Items) → put_item n v (put_item n w js) ≡ put_item n v js
-item_twice n v w no_items = refl
-item_twice zero v w (item j js) = refl
-item_twice (suc n) v w (item j js) = ap (item j) (item_twice n v w js)
+element_twice : (n : ℕ) (v w : Json) (js : Items) → put_element n v (put_element n w js) ≡ put_element n v js
+element_twice n v w no_items = refl
+element_twice zero v w (item j js) = refl
+element_twice (suc n) v w (item j js) = ap (item j) (element_twice n v w js)
 
 -- of the first member, by what stands at the name behind it
 member_step : (k l : List ℕ) (v w j : Json) (ms : Members) (o : Option Json) (b : Bool) → get_member k ms ≡ o → bytes_eq l k ≡ b → put_member k v (put_member k w ms) ≡ put_member k v ms
@@ -35,13 +35,13 @@ member_twice : (k : List ℕ) (v w : Json) (ms : Members) → put_member k v (pu
 member_twice k v w no_members = refl
 member_twice k v w (member l j ms) = member_step k l v w j ms (get_member k ms) (bytes_eq l k) refl refl (member_twice k v w ms)
 
-placed_here : (w c : Json) (js : Items) (o : Option ℕ) → option_and_then (λ n. get_item n js) o ≡ Some c → option_and_then (λ n. get_item n (if_some o (λ m. put_item m w js) js)) o ≡ Some w
+placed_here : (w c : Json) (js : Items) (o : Option ℕ) → option_and_then (λ n. get_item n js) o ≡ Some c → option_and_then (λ n. get_item n (if_some o (λ m. put_element m w js) js)) o ≡ Some w
 placed_here w c js None e = absurd (none-some c e)
-placed_here w c js (Some n) e = item_here n w c js e
+placed_here w c js (Some n) e = element_here n w c js e
 
-placed_twice : (v w : Json) (js : Items) (o : Option ℕ) → if_some o (λ n. put_item n v (if_some o (λ m. put_item m w js) js)) (if_some o (λ m. put_item m w js) js) ≡ if_some o (λ n. put_item n v js) js
+placed_twice : (v w : Json) (js : Items) (o : Option ℕ) → if_some o (λ n. put_element n v (if_some o (λ m. put_element m w js) js)) (if_some o (λ m. put_element m w js) js) ≡ if_some o (λ n. put_element n v js) js
 placed_twice v w js None = refl
-placed_twice v w js (Some n) = item_twice n v w js
+placed_twice v w js (Some n) = element_twice n v w js
 
 child_here : (t : List ℕ) (w c j : Json) → child t j ≡ Some c → child t (put_child t w j) ≡ Some w
 child_here t w c null e = absurd (none-some c e)
@@ -83,10 +83,10 @@ put_again (t ∷ P) v w j c e = by (child t j) refl (λ d. put_again P v w d c) 
 
 -- ---- what stands there put there again
 
-item_same : (n : ℕ) (c : Json) (js : Items) → get_item n js ≡ Some c → put_item n c js ≡ js
-item_same n c no_items e = refl
-item_same zero c (item j js) e = ap (λ x. item x js) (sym (same_Some j c e))
-item_same (suc n) c (item j js) e = ap (item j) (item_same n c js e)
+element_same : (n : ℕ) (c : Json) (js : Items) → get_item n js ≡ Some c → put_element n c js ≡ js
+element_same n c no_items e = refl
+element_same zero c (item j js) e = ap (λ x. item x js) (sym (same_Some j c e))
+element_same (suc n) c (item j js) e = ap (item j) (element_same n c js e)
 
 member_same : (k : List ℕ) (c : Json) (ms : Members) → get_member k ms ≡ Some c → put_member k c ms ≡ ms
 member_same k c no_members e = refl
@@ -97,9 +97,9 @@ member_same k c (member l j ms) e = by (get_member k ms) (bytes_eq l k) (λ f. m
     by None true more g = ap (λ x. member l x ms) (sym (same_Some j c g))
     by None false more g = refl
 
-placed_same : (c : Json) (js : Items) (o : Option ℕ) → option_and_then (λ n. get_item n js) o ≡ Some c → if_some o (λ n. put_item n c js) js ≡ js
+placed_same : (c : Json) (js : Items) (o : Option ℕ) → option_and_then (λ n. get_item n js) o ≡ Some c → if_some o (λ n. put_element n c js) js ≡ js
 placed_same c js None e = refl
-placed_same c js (Some n) e = item_same n c js e
+placed_same c js (Some n) e = element_same n c js e
 
 child_same : (t : List ℕ) (c j : Json) → child t j ≡ Some c → put_child t c j ≡ j
 child_same t c null e = refl

@@ -56,7 +56,7 @@ fn shape_of_value(value: &Value) -> Shape
 {
     match value {
         Value::Object(_) => Shape::Object,
-        Value::Array(_) => Shape::List,
+        Value::Array(_) => Shape::Array,
         Value::String(_) => Shape::String,
         _ => Shape::Atom,
     }
@@ -67,7 +67,7 @@ fn same_shape(a: Shape, b: Shape) -> bool
 {
     match (a, b) {
         (Shape::Object, Shape::Object) => true,
-        (Shape::List, Shape::List) => true,
+        (Shape::Array, Shape::Array) => true,
         (Shape::String, Shape::String) => true,
         (Shape::Atom, Shape::Atom) => true,
         _ => false,

@@ -7,7 +7,7 @@ use Rattle.json.specs.Tree.{depth}
 use Rattle.jsonptr.specs.Places.{place_of}
 use Rattle.jsonptr.specs.Text.{Pointer}
 use Rattle.json_patch_document.specs.ChangeComputed.{front_of, last_of, slot_in}
-use Rattle.json_patch_text.specs.Changed.{count, insert_item, append_member, add_child, remove_child, remove_item, without, take_child, changed, added, removed, replaced}
+use Rattle.json_patch_text.specs.Changed.{count, insert_element, append_member, add_child, remove_child, remove_element, without, take_child, changed, added, removed, replaced}
 use Rattle.json_text.specs.Changed as text
 use Rattle.json_text.specs.Added.{HasNoPlace}
 use Rattle.json_lexemes.specs.Skipped.{nesting}
@@ -20,11 +20,11 @@ use Rattle.json_lexemes.proofs.Nests.{nests, one_tree}
 
 -- ---- add
 
-count_is : (js : Items) → text.items_len js ≡ count js
+count_is : (js : Items) → text.elements_len js ≡ count js
 count_is no_items = refl
 count_is (item j js) = ap suc (count_is js)
 
-insert_is : (n : ℕ) (w : Json) (js : Items) → text.insert_item n w js ≡ insert_item n w js
+insert_is : (n : ℕ) (w : Json) (js : Items) → text.insert_element n w js ≡ insert_element n w js
 insert_is n w no_items = refl
 insert_is zero w (item j js) = refl
 insert_is (suc n) w (item j js) = ap (item j) (insert_is n w js)
@@ -42,7 +42,7 @@ add_child_is t w null = refl
 add_child_is t w (boolean b) = refl
 add_child_is t w (number s) = refl
 add_child_is t w (string s) = refl
-add_child_is t w (array js) = mapped (λ n. array (text.insert_item n w js)) (λ n. array (insert_item n w js)) (text.slot_in t (text.items_len js)) (λ n. ap array (insert_is n w js)) ∙ ap (λ m. option_map (λ n. array (insert_item n w js)) (slot_in t m)) (count_is js)
+add_child_is t w (array js) = mapped (λ n. array (text.insert_element n w js)) (λ n. array (insert_element n w js)) (text.slot_in t (text.elements_len js)) (λ n. ap array (insert_is n w js)) ∙ ap (λ m. option_map (λ n. array (insert_element n w js)) (slot_in t m)) (count_is js)
 add_child_is t w (object ms) = ap (λ ns. Some (object (if_some (get_member t ms) (λ v. put_member t w ms) ns))) (append_is t w ms)
 
 front_is : (t : List ℕ) (P : Pointer) → text.front_of t P ≡ front_of t P
@@ -77,18 +77,18 @@ replaced_nowhere text P w i says (j, said, none) = subst (λ x. replaced P w x �
 
 -- ---- remove
 
-remove_item_is : (n : ℕ) (js : Items) → text.remove_item n js ≡ remove_item n js
-remove_item_is n no_items = refl
-remove_item_is zero (item j js) = refl
-remove_item_is (suc n) (item j js) = ap (item j) (remove_item_is n js)
+remove_element_is : (n : ℕ) (js : Items) → text.remove_element n js ≡ remove_element n js
+remove_element_is n no_items = refl
+remove_element_is zero (item j js) = refl
+remove_element_is (suc n) (item j js) = ap (item j) (remove_element_is n js)
 
 without_is : (k : List ℕ) (ms : Members) → text.without k ms ≡ without k ms
 without_is k no_members = refl
 without_is k (member l j ms) = ap (λ ns. cond (bytes_eq l k) ns (member l j ns)) (without_is k ms)
 
-by_place : (js : Items) (o : Option ℕ) → if_some o (λ n. text.remove_item n js) js ≡ if_some o (λ n. remove_item n js) js
+by_place : (js : Items) (o : Option ℕ) → if_some o (λ n. text.remove_element n js) js ≡ if_some o (λ n. remove_element n js) js
 by_place js None = refl
-by_place js (Some n) = remove_item_is n js
+by_place js (Some n) = remove_element_is n js
 
 remove_child_is : (t : List ℕ) (j : Json) → text.remove_child t j ≡ remove_child t j
 remove_child_is t null = refl

@@ -9,12 +9,12 @@ use Rattle.serde_json.specs.Data.{Data}
 use Rattle.json_patch_document.specs.Document as document
 use Rattle.json_patch_document.specs.ChangeComputed as change
 use Rattle.json_patch_document.specs.ChangeComputed.{pointee, after_change, after_add, after_remove, after_replace, slot_in, front_of, last_of}
-use Rattle.json_text.specs.Pointed.{child, tree_at, if_some, put_item, put_child, put_at}
+use Rattle.json_text.specs.Pointed.{child, tree_at, if_some, put_element, put_child, put_at}
 use Rattle.json_reading.specs.Reading.{Reading}
-use Rattle.json_reading.specs.Trees.{data_of, items_of, members_of}
-use Rattle.json_reading.proofs.Documents.{found, found_item}
-use Rattle.json_patch_text.specs.Changed.{count, insert_item, remove_item, add_child, remove_child, take_child, changed, replaced, added, removed}
-use Rattle.json_patch_text.proofs.Steps.{put_object, add_object, remove_object, count_is, put_items, insert_items, remove_items}
+use Rattle.json_reading.specs.Trees.{data_of, elements_of, members_of}
+use Rattle.json_reading.proofs.Documents.{found, found_element}
+use Rattle.json_patch_text.specs.Changed.{count, insert_element, remove_element, add_child, remove_child, take_child, changed, replaced, added, removed}
+use Rattle.json_patch_text.proofs.Steps.{put_object, add_object, remove_object, count_is, put_elements, insert_elements, remove_elements}
 
 -- ---- where a pointer leads
 
@@ -23,10 +23,10 @@ leads_on : (r : Reading) (o : Option Json) (u : Option Data) (f : Json → Optio
 leads_on r None u f g e h = ap (option_and_then g) e
 leads_on r (Some c) u f g e h = ap (option_and_then g) e ∙ h c
 
-pointee_item : (r : Reading) (js : Items) (o : Option ℕ) (f : Json → Option Json) (g : Data → Option Data) → ((c : Json) → g (data_of r c) ≡ option_map (data_of r) (f c))
-    → option_and_then (λ s. option_and_then g (document.child s (value.array (items_of r js)))) (option_map document.place o) ≡ option_map (data_of r) (option_and_then f (option_and_then (λ n. get_item n js) o))
-pointee_item r js None f g h = refl
-pointee_item r js (Some n) f g h = leads_on r (get_item n js) _ f g (found_item r n js) h
+pointee_element : (r : Reading) (js : Items) (o : Option ℕ) (f : Json → Option Json) (g : Data → Option Data) → ((c : Json) → g (data_of r c) ≡ option_map (data_of r) (f c))
+    → option_and_then (λ s. option_and_then g (document.child s (value.array (elements_of r js)))) (option_map document.place o) ≡ option_map (data_of r) (option_and_then f (option_and_then (λ n. get_item n js) o))
+pointee_element r js None f g h = refl
+pointee_element r js (Some n) f g h = leads_on r (get_item n js) _ f g (found_element r n js) h
 
 pub pointee_is : (r : Reading) (P : Pointer) (j : Json) → pointee (data_of r j) P ≡ option_map (data_of r) (tree_at P j)
 pointee_is r [] j = refl
@@ -34,7 +34,7 @@ pointee_is r (t ∷ P) null = refl
 pointee_is r (t ∷ P) (boolean b) = refl
 pointee_is r (t ∷ P) (number s) = refl
 pointee_is r (t ∷ P) (string s) = refl
-pointee_is r (t ∷ P) (array js) = pointee_item r js (place_of t) (tree_at P) (λ c. pointee c P) (λ c. pointee_is r P c)
+pointee_is r (t ∷ P) (array js) = pointee_element r js (place_of t) (tree_at P) (λ c. pointee c P) (λ c. pointee_is r P c)
 pointee_is r (t ∷ P) (object ms) = leads_on r (get_member t ms) _ (tree_at P) (λ c. pointee c P) (found r t ms) (λ c. pointee_is r P c)
 
 -- ---- a change
@@ -77,12 +77,12 @@ changed_on : (r : Reading) (o : Option Json) (u : Option Data) (f : Json → Opt
 changed_on r None u f g D J e h k = ap (option_and_then (λ c. option_map D (g c))) e
 changed_on r (Some c) u f g D J e h k = ap (option_and_then (λ c. option_map D (g c))) e ∙ ap (option_map D) (h c) ∙ mapped r (f c) D J (λ x. k c x refl)
 
-changed_item : (r : Reading) (js : Items) (o : Option ℕ) (f : Json → Option Json) (g : Data → Option Data) → ((c : Json) → g (data_of r c) ≡ option_map (data_of r) (f c))
-    → option_and_then (λ s. option_and_then (λ c. option_map (λ e. change.set_child s e (value.array (items_of r js))) (g c)) (document.child s (value.array (items_of r js)))) (option_map document.place o)
-    ≡ option_map (data_of r) (option_and_then (λ c. option_map (λ e. array (if_some o (λ n. put_item n e js) js)) (f c)) (option_and_then (λ n. get_item n js) o))
-changed_item r js None f g h = refl
-changed_item r js (Some n) f g h =
-    changed_on r (get_item n js) _ f g (λ e. value.array (change.set_item n e (items_of r js))) (λ e. array (put_item n e js)) (found_item r n js) h (λ c e at. ap value.array (put_items r n e js))
+changed_element : (r : Reading) (js : Items) (o : Option ℕ) (f : Json → Option Json) (g : Data → Option Data) → ((c : Json) → g (data_of r c) ≡ option_map (data_of r) (f c))
+    → option_and_then (λ s. option_and_then (λ c. option_map (λ e. change.set_child s e (value.array (elements_of r js))) (g c)) (document.child s (value.array (elements_of r js)))) (option_map document.place o)
+    ≡ option_map (data_of r) (option_and_then (λ c. option_map (λ e. array (if_some o (λ n. put_element n e js) js)) (f c)) (option_and_then (λ n. get_item n js) o))
+changed_element r js None f g h = refl
+changed_element r js (Some n) f g h =
+    changed_on r (get_item n js) _ f g (λ e. value.array (change.set_item n e (elements_of r js))) (λ e. array (put_element n e js)) (found_element r n js) h (λ c e at. ap value.array (put_elements r n e js))
 
 down : (r : Reading) (f : Json → Option Json) (g : Data → Option Data) → ((c : Json) → g (data_of r c) ≡ option_map (data_of r) (f c)) → (P : Pointer) (j : Json)
     → after_change g (data_of r j) P ≡ option_map (data_of r) (change_at f P j)
@@ -91,7 +91,7 @@ down r f g h (t ∷ P) null = refl
 down r f g h (t ∷ P) (boolean b) = refl
 down r f g h (t ∷ P) (number s) = refl
 down r f g h (t ∷ P) (string s) = refl
-down r f g h (t ∷ P) (array js) = changed_item r js (place_of t) (change_at f P) (λ c. after_change g c P) (λ c. down r f g h P c)
+down r f g h (t ∷ P) (array js) = changed_element r js (place_of t) (change_at f P) (λ c. after_change g c P) (λ c. down r f g h P c)
 down r f g h (t ∷ P) (object ms) =
     changed_on r (get_member t ms) _ (change_at f P) (λ c. after_change g c P) (λ e. value.object (value.put t e (members_of r ms value.no_members))) (λ e. put_child t e (object ms))
     (found r t ms) (λ c. down r f g h P c) (λ c e at. put_object r t e c ms at)
@@ -109,17 +109,17 @@ replaced_is r P w j = changed_is r (λ x. Some w) (λ c. Some (data_of r w)) (λ
 
 -- ---- add
 
-add_item : (r : Reading) (w : Json) (js : Items) (o : Option ℕ)
-    → option_map (λ i. value.array (change.insert_item i (data_of r w) (items_of r js))) o ≡ option_map (data_of r) (option_map (λ i. array (insert_item i w js)) o)
-add_item r w js None = refl
-add_item r w js (Some i) = ap (λ ds. Some (value.array ds)) (insert_items r i w js)
+add_element : (r : Reading) (w : Json) (js : Items) (o : Option ℕ)
+    → option_map (λ i. value.array (change.insert_item i (data_of r w) (elements_of r js))) o ≡ option_map (data_of r) (option_map (λ i. array (insert_element i w js)) o)
+add_element r w js None = refl
+add_element r w js (Some i) = ap (λ ds. Some (value.array ds)) (insert_elements r i w js)
 
 add_child_is : (r : Reading) (w : Json) (t : List ℕ) (j : Json) → change.put_in (data_of r w) t (data_of r j) ≡ option_map (data_of r) (add_child w t j)
 add_child_is r w t null = refl
 add_child_is r w t (boolean b) = refl
 add_child_is r w t (number s) = refl
 add_child_is r w t (string s) = refl
-add_child_is r w t (array js) = ap (λ n. option_map (λ i. value.array (change.insert_item i (data_of r w) (items_of r js))) (slot_in t n)) (count_is r js) ∙ add_item r w js (slot_in t (count js))
+add_child_is r w t (array js) = ap (λ n. option_map (λ i. value.array (change.insert_item i (data_of r w) (elements_of r js))) (slot_in t n)) (count_is r js) ∙ add_element r w js (slot_in t (count js))
 add_child_is r w t (object ms) = ap Some (add_object r t w ms)
 
 pub added_is : (r : Reading) (P : Pointer) (w j : Json) → after_add (data_of r j) P (data_of r w) ≡ option_map (data_of r) (added P w j)
@@ -132,18 +132,18 @@ taken : (r : Reading) (o : Option Json) (u : Option Data) (d : Data) (j : Json) 
 taken r None u d j e h = ap (option_map (λ c. d)) e
 taken r (Some c) u d j e h = ap (option_map (λ c. d)) e ∙ ap Some h
 
-take_item : (r : Reading) (js : Items) (o : Option ℕ)
-    → option_and_then (λ s. option_map (λ c. change.drop_child s (value.array (items_of r js))) (document.child s (value.array (items_of r js)))) (option_map document.place o)
-    ≡ option_map (data_of r) (option_map (λ c. array (if_some o (λ n. remove_item n js) js)) (option_and_then (λ n. get_item n js) o))
-take_item r js None = refl
-take_item r js (Some n) = taken r (get_item n js) _ _ (array (remove_item n js)) (found_item r n js) (ap value.array (remove_items r n js))
+take_element : (r : Reading) (js : Items) (o : Option ℕ)
+    → option_and_then (λ s. option_map (λ c. change.drop_child s (value.array (elements_of r js))) (document.child s (value.array (elements_of r js)))) (option_map document.place o)
+    ≡ option_map (data_of r) (option_map (λ c. array (if_some o (λ n. remove_element n js) js)) (option_and_then (λ n. get_item n js) o))
+take_element r js None = refl
+take_element r js (Some n) = taken r (get_item n js) _ _ (array (remove_element n js)) (found_element r n js) (ap value.array (remove_elements r n js))
 
 take_child_is : (r : Reading) (t : List ℕ) (j : Json) → change.take_from t (data_of r j) ≡ option_map (data_of r) (take_child t j)
 take_child_is r t null = refl
 take_child_is r t (boolean b) = refl
 take_child_is r t (number s) = refl
 take_child_is r t (string s) = refl
-take_child_is r t (array js) = take_item r js (place_of t)
+take_child_is r t (array js) = take_element r js (place_of t)
 take_child_is r t (object ms) = taken r (get_member t ms) _ _ (remove_child t (object ms)) (found r t ms) (remove_object r t ms)
 
 pub removed_is : (r : Reading) (P : Pointer) (j : Json) → after_remove (data_of r j) P ≡ option_map (data_of r) (removed P j)

@@ -17,7 +17,7 @@ use Rattle.json_patch_text.specs.Operations.{TreeOperation, add, remove, replace
 use Rattle.json_patch_text.proofs.Alike.{Alike, refuses_alike}
 use Rattle.json_patch_text.proofs.Runs.{whole}
 use Rattle.json_reading.specs.Reading.{Reading}
-use Rattle.json_reading.specs.Trees.{data_of, items_of}
+use Rattle.json_reading.specs.Trees.{data_of, elements_of}
 use Rattle.json_reading.proofs.Documents.{IsDocument-data_of, at_name}
 use Rattle.json_reading.proofs.Told.{some_reading}
 use Rattle.json_lexemes.proofs.Nests.{one_tree}
@@ -45,13 +45,13 @@ fields_are r (test P w) = refl
 pub operation_read : (r : Reading) (v : Json) (op : TreeOperation) → HasFields v (tree_fields op) → ReadsOperation (data_of r v) (under r op)
 operation_read r v op h = (subst (HasMembers (data_of r v)) (fields_are r op) (fields_there r v (tree_fields op) h), whole r op)
 
-items_read : (r : Reading) (js : json.Items) (ops : List TreeOperation) → ReadsTrees js ops → ReadsItems (items_of r js) (all_under r ops)
-items_read r no_items [] h = tt
-items_read r (item v js) (op ∷ ops) h = (operation_read r v op h.0, items_read r js ops h.1)
-items_read r _ _ h = absurd h
+elements_read : (r : Reading) (js : json.Items) (ops : List TreeOperation) → ReadsTrees js ops → ReadsItems (elements_of r js) (all_under r ops)
+elements_read r no_items [] h = tt
+elements_read r (item v js) (op ∷ ops) h = (operation_read r v op h.0, elements_read r js ops h.1)
+elements_read r _ _ h = absurd h
 
 pub read_under : (p : Json) (ops : List TreeOperation) → ReadsTreePatch p ops → (r : Reading) → ReadsPatch (data_of r p) (all_under r ops)
-read_under (array js) ops h r = items_read r js ops h
+read_under (array js) ops h r = elements_read r js ops h
 read_under null ops h r = absurd h
 read_under (boolean b) ops h r = absurd h
 read_under (number s) ops h r = absurd h
@@ -96,14 +96,14 @@ operation_back r v (document.move F P) (o, (f, (p, t))) = (move F P, (text_back 
 operation_back r v (document.copy F P) (o, (f, (p, t))) = (copy F P, (text_back r _ v _ o, (text_back r _ v _ f, (text_back r _ v _ p, tt))))
 operation_back r v (document.test P d) (o, (p, (x, t))) = let (w, at, is) = back r (codes "value") v d x in (test P w, (text_back r _ v _ o, (text_back r _ v _ p, (at, tt))))
 
-items_back : (r : Reading) (js : json.Items) (ops : List Operation) → ReadsItems (items_of r js) ops → (read : List TreeOperation) × ReadsTrees js read
-items_back r no_items [] h = ([], tt)
-items_back r no_items (op ∷ ops) h = absurd h
-items_back r (item v js) [] h = absurd h
-items_back r (item v js) (op ∷ ops) h = let (x, a) = operation_back r v op h.0.0 in let (xs, b) = items_back r js ops h.1 in (x ∷ xs, (a, b))
+elements_back : (r : Reading) (js : json.Items) (ops : List Operation) → ReadsItems (elements_of r js) ops → (read : List TreeOperation) × ReadsTrees js read
+elements_back r no_items [] h = ([], tt)
+elements_back r no_items (op ∷ ops) h = absurd h
+elements_back r (item v js) [] h = absurd h
+elements_back r (item v js) (op ∷ ops) h = let (x, a) = operation_back r v op h.0.0 in let (xs, b) = elements_back r js ops h.1 in (x ∷ xs, (a, b))
 
 pub patch_back : (r : Reading) (p : Json) (ops : List Operation) → ReadsPatch (data_of r p) ops → (read : List TreeOperation) × ReadsTreePatch p read
-patch_back r (array js) ops h = items_back r js ops h
+patch_back r (array js) ops h = elements_back r js ops h
 patch_back r null ops h = absurd h
 patch_back r (boolean b) ops h = absurd h
 patch_back r (number s) ops h = absurd h
@@ -132,15 +132,15 @@ alike r s v = record {
 refuses_under : (r s : Reading) (v : Json) (kind : ReadKind) → RefusesOperation (data_of r v) kind → RefusesOperation (data_of s v) kind
 refuses_under r s v kind f = refuses_alike (alike r s v) (alike s r v) kind f
 
-item_under : (r s : Reading) (js : json.Items) (k : ℕ) (kind : ReadKind) → RefusesItem (items_of r js) k kind → RefusesItem (items_of s js) k kind
-item_under r s no_items k kind f = absurd f
-item_under r s (item v js) zero kind f = refuses_under r s v kind f
-item_under r s (item v js) (suc k) kind (op, h, f) =
+element_under : (r s : Reading) (js : json.Items) (k : ℕ) (kind : ReadKind) → RefusesItem (elements_of r js) k kind → RefusesItem (elements_of s js) k kind
+element_under r s no_items k kind f = absurd f
+element_under r s (item v js) zero kind f = refuses_under r s v kind f
+element_under r s (item v js) (suc k) kind (op, h, f) =
     let (x, a) = operation_back r v op h.0 in
-    (under s x, operation_read s v x a, item_under r s js k kind f)
+    (under s x, operation_read s v x a, element_under r s js k kind f)
 
 patch_under : (r s : Reading) (p : Json) (k : Option ℕ) (kind : ReadKind) → RefusesPatch (data_of r p) k kind → RefusesPatch (data_of s p) k kind
-patch_under r s (array js) (Some k) kind f = item_under r s js k kind f
+patch_under r s (array js) (Some k) kind f = element_under r s js k kind f
 patch_under r s (array js) None kind f = absurd f
 patch_under r s null (Some k) kind f = absurd f
 patch_under r s null None kind f = f

@@ -12,11 +12,11 @@ use Rattle.serde_json.proofs.Views.{get_member-put, get_member-put_other}
 use Rattle.json_patch_document.specs.ChangeComputed as change
 use Rattle.json_patch_document.specs.Document.{AreMembers}
 use Rattle.json_patch_document.proofs.Members.{put_members, without_members, get_without, get_without_other}
-use Rattle.json_text.specs.Pointed.{put_item, put_member}
+use Rattle.json_text.specs.Pointed.{put_element, put_member}
 use Rattle.json_reading.specs.Reading.{Reading}
-use Rattle.json_reading.specs.Trees.{data_of, items_of, members_of}
+use Rattle.json_reading.specs.Trees.{data_of, elements_of, members_of}
 use Rattle.json_reading.proofs.Documents.{IsDocument-data_of, members_are, found, one_object}
-use Rattle.json_patch_text.specs.Changed.{count, insert_item, remove_item, add_member, without}
+use Rattle.json_patch_text.specs.Changed.{count, insert_element, remove_element, add_member, without}
 use Rattle.json_patch_text.proofs.Members.{put_here, put_other, add_here, add_other, remove_here, remove_other}
 
 -- ---- objects
@@ -50,23 +50,23 @@ remove_object r k ms =
     (get_without k (members_of r ms no_members) (members_are r ms) ∙ sym (ap (option_map (data_of r)) (remove_here k ms)))
     (λ q n. get_without_other q k (members_of r ms no_members) n ∙ found r q ms ∙ sym (ap (option_map (data_of r)) (remove_other q k ms n)))
 
--- ---- lists
+-- ---- arrays
 
-pub count_is : (r : Reading) (js : json.Items) → items_len (items_of r js) ≡ count js
+pub count_is : (r : Reading) (js : json.Items) → items_len (elements_of r js) ≡ count js
 count_is r json.no_items = refl
 count_is r (json.item j js) = ap suc (count_is r js)
 
-pub put_items : (r : Reading) (n : ℕ) (w : Json) (js : json.Items) → change.set_item n (data_of r w) (items_of r js) ≡ items_of r (put_item n w js)
-put_items r n w json.no_items = refl
-put_items r zero w (json.item j js) = refl
-put_items r (suc n) w (json.item j js) = ap (item (data_of r j)) (put_items r n w js)
+pub put_elements : (r : Reading) (n : ℕ) (w : Json) (js : json.Items) → change.set_item n (data_of r w) (elements_of r js) ≡ elements_of r (put_element n w js)
+put_elements r n w json.no_items = refl
+put_elements r zero w (json.item j js) = refl
+put_elements r (suc n) w (json.item j js) = ap (item (data_of r j)) (put_elements r n w js)
 
-pub insert_items : (r : Reading) (n : ℕ) (w : Json) (js : json.Items) → change.insert_item n (data_of r w) (items_of r js) ≡ items_of r (insert_item n w js)
-insert_items r n w json.no_items = refl
-insert_items r zero w (json.item j js) = refl
-insert_items r (suc n) w (json.item j js) = ap (item (data_of r j)) (insert_items r n w js)
+pub insert_elements : (r : Reading) (n : ℕ) (w : Json) (js : json.Items) → change.insert_item n (data_of r w) (elements_of r js) ≡ elements_of r (insert_element n w js)
+insert_elements r n w json.no_items = refl
+insert_elements r zero w (json.item j js) = refl
+insert_elements r (suc n) w (json.item j js) = ap (item (data_of r j)) (insert_elements r n w js)
 
-pub remove_items : (r : Reading) (n : ℕ) (js : json.Items) → change.remove_item n (items_of r js) ≡ items_of r (remove_item n js)
-remove_items r n json.no_items = refl
-remove_items r zero (json.item j js) = refl
-remove_items r (suc n) (json.item j js) = ap (item (data_of r j)) (remove_items r n js)
+pub remove_elements : (r : Reading) (n : ℕ) (js : json.Items) → change.remove_item n (elements_of r js) ≡ elements_of r (remove_element n js)
+remove_elements r n json.no_items = refl
+remove_elements r zero (json.item j js) = refl
+remove_elements r (suc n) (json.item j js) = ap (item (data_of r j)) (remove_elements r n js)

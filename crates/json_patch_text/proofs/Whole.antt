@@ -1,4 +1,4 @@
--- A text with no blanks around it is where its own value stands.
+-- A text with no whitespace around it is where its own value stands.
 use Rattle.std.proofs.Common.{◌≡◌, ℕ, suc, ◌-◌, List, [], ◌∷◌, ◌++◌, length, get_or, Bool, true, false, cond, ◌==◌, refl, sym, ap, ◌∙◌, append-nil, arith, length-append}
 use Rattle.std.proofs.lemmas.Bool.{false≢true}
 use Rattle.json.specs.Json.{Json, array, object, no_items, no_members}
@@ -8,17 +8,17 @@ use Rattle.json_text.specs.Pointed.{IsTight, IsWrittenAt}
 use Rattle.json_lexemes.specs.Spelled.{Says}
 use Rattle.json_lexemes.proofs.FirstBytes.{kind, byte_by_kind}
 
--- ---- blanks
+-- ---- whitespace
 
-is_blank : (a b c d : Bool) → cond a quote (cond b backslash (cond c operator (cond d space other))) ≡ space → d ≡ true
-is_blank true b c d e = cc
-is_blank false true c d e = cc
-is_blank false false true d e = cc
-is_blank false false false true e = refl
-is_blank false false false false e = cc
+is_whitespace : (a b c d : Bool) → cond a quote (cond b backslash (cond c operator (cond d space other))) ≡ space → d ≡ true
+is_whitespace true b c d e = cc
+is_whitespace false true c d e = cc
+is_whitespace false false true d e = cc
+is_whitespace false false false true e = refl
+is_whitespace false false false false e = cc
 
-class_blank : (x : ℕ) → class x ≡ space → is_space x ≡ true
-class_blank x e = is_blank (x == 34) (x == 92) (is_operator x) (is_space x) e
+class_whitespace : (x : ℕ) → class x ≡ space → is_space x ≡ true
+class_whitespace x e = is_whitespace (x == 34) (x == 92) (is_operator x) (is_space x) e
 
 no_lexeme : (x : ℕ) (xs : List ℕ) (c : Class) → lex_byte between c x xs (λ m. lex m xs) ≡ [] → (c ≡ space) × (lex between xs ≡ [])
 no_lexeme x xs quote e = cc
@@ -27,11 +27,11 @@ no_lexeme x xs operator e = cc
 no_lexeme x xs space e = (refl, e)
 no_lexeme x xs other e = cc
 
-first_blank : (x : ℕ) (xs : List ℕ) → lex between (x ∷ xs) ≡ [] → (is_space x ≡ true) × (lex between xs ≡ [])
+first_whitespace : (x : ℕ) (xs : List ℕ) → lex between (x ∷ xs) ≡ [] → (is_space x ≡ true) × (lex between xs ≡ [])
 unfolding lex
-first_blank x xs e = let h = no_lexeme x xs (class x) e in (class_blank x h.0, h.1)
+first_whitespace x xs e = let h = no_lexeme x xs (class x) e in (class_whitespace x h.0, h.1)
 
--- the last byte, or a blank
+-- the last byte, or whitespace
 abbrev last : List ℕ → ℕ
 last s = get_or s (length s - 1) 32
 
@@ -41,10 +41,10 @@ last_behind x y ys =
     let f : suc (length ys) - 1 ≡ length ys = omega arith in
     ap (λ n. get_or (x ∷ y ∷ ys) n 32) e ∙ sym (ap (λ n. get_or (y ∷ ys) n 32) f)
 
-last_blank : (s : List ℕ) → lex between s ≡ [] → is_space (last s) ≡ true
-last_blank [] e = refl
-last_blank (x ∷ []) e = (first_blank x [] e).0
-last_blank (x ∷ y ∷ ys) e = ap is_space (last_behind x y ys) ∙ last_blank (y ∷ ys) (first_blank x (y ∷ ys) e).1
+last_whitespace : (s : List ℕ) → lex between s ≡ [] → is_space (last s) ≡ true
+last_whitespace [] e = refl
+last_whitespace (x ∷ []) e = (first_whitespace x [] e).0
+last_whitespace (x ∷ y ∷ ys) e = ap is_space (last_behind x y ys) ∙ last_whitespace (y ∷ ys) (first_whitespace x (y ∷ ys) e).1
 
 last_append : (a : List ℕ) (y : ℕ) (ys : List ℕ) → last (a ++ (y ∷ ys)) ≡ last (y ∷ ys)
 last_append [] y ys = refl
@@ -55,9 +55,9 @@ last_append (x ∷ a) y ys =
 
 -- ---- two texts in its place
 
-list_says : Says (91 ∷ 93 ∷ []) (array no_items)
+array_says : Says (91 ∷ 93 ∷ []) (array no_items)
 unfolding lex
-list_says = refl
+array_says = refl
 
 object_says : Says (123 ∷ 125 ∷ []) (object no_members)
 unfolding lex
@@ -72,9 +72,9 @@ Fits before behind = (new : List ℕ) (w : Json) → Says new w → Says (before
 
 none_before : (b : ℕ) (bs behind : List ℕ) → is_space b ≡ false → Fits (b ∷ bs) behind → ⊥
 none_before b bs behind solid fits =
-    let list = byte_by_kind (b ∷ (bs ++ (91 ∷ 93 ∷ behind))) 0 91 (λ h. solid) (ap kind (fits (91 ∷ 93 ∷ []) (array no_items) list_says)) (λ z. absurd (omega arith)) in
+    let bracket = byte_by_kind (b ∷ (bs ++ (91 ∷ 93 ∷ behind))) 0 91 (λ h. solid) (ap kind (fits (91 ∷ 93 ∷ []) (array no_items) array_says)) (λ z. absurd (omega arith)) in
     let braces = byte_by_kind (b ∷ (bs ++ (123 ∷ 125 ∷ behind))) 0 123 (λ h. solid) (ap kind (fits (123 ∷ 125 ∷ []) (object no_members) object_says)) (λ z. absurd (omega arith)) in
-    let p : b ≡ 91 = list.1 in
+    let p : b ≡ 91 = bracket.1 in
     let q : b ≡ 123 = braces.1 in
     absurd (omega arith)
 
@@ -82,9 +82,9 @@ put_is : (before put behind s : List ℕ) → IsTight s → s ≡ before ++ (put
 put_is (b ∷ bs) put behind s tight e fits = absurd (none_before b bs behind (ap (λ t. is_space (get_or t 0 32)) (sym e) ∙ tight.0) fits)
 put_is [] put [] s tight e fits = sym (e ∙ append-nil put)
 put_is [] put (y ∷ ys) s tight e fits =
-    let blank : is_space (last (y ∷ ys)) ≡ true = last_blank (y ∷ ys) (nothing_behind (y ∷ ys) (fits (91 ∷ 93 ∷ []) (array no_items) list_says)) in
+    let whitespace : is_space (last (y ∷ ys)) ≡ true = last_whitespace (y ∷ ys) (nothing_behind (y ∷ ys) (fits (91 ∷ 93 ∷ []) (array no_items) array_says)) in
     let solid : is_space (last (put ++ (y ∷ ys))) ≡ false = ap (λ t. is_space (last t)) (sym e) ∙ tight.1 in
-    absurd (false≢true (sym solid ∙ ap is_space (last_append put y ys) ∙ blank))
+    absurd (false≢true (sym solid ∙ ap is_space (last_append put y ys) ∙ whitespace))
 
 pub as_written : (s put : List ℕ) (w : Json) → IsTight s → IsWrittenAt s w [] put → put ≡ s
 as_written s put w tight (before, behind, whole, (v, at, stretch)) = put_is before put behind s tight whole stretch.alone

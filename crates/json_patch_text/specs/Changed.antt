@@ -14,15 +14,15 @@ count no_items = 0
 count (item j js) = suc (count js)
 
 -- the elements with w before the one at n, or last
-abbrev pub insert_item : ℕ → Json → Items → Items
-insert_item n w no_items = item w no_items
-insert_item zero w (item j js) = item w (item j js)
-insert_item (suc n) w (item j js) = item j (insert_item n w js)
+abbrev pub insert_element : ℕ → Json → Items → Items
+insert_element n w no_items = item w no_items
+insert_element zero w (item j js) = item w (item j js)
+insert_element (suc n) w (item j js) = item j (insert_element n w js)
 
-abbrev pub remove_item : ℕ → Items → Items
-remove_item n no_items = no_items
-remove_item zero (item j js) = js
-remove_item (suc n) (item j js) = item j (remove_item n js)
+abbrev pub remove_element : ℕ → Items → Items
+remove_element n no_items = no_items
+remove_element zero (item j js) = js
+remove_element (suc n) (item j js) = item j (remove_element n js)
 
 -- ---- objects
 
@@ -46,7 +46,7 @@ add_child w t null = None
 add_child w t (boolean b) = None
 add_child w t (number s) = None
 add_child w t (string s) = None
-add_child w t (array js) = option_map (λ i. array (insert_item i w js)) (slot_in t (count js))
+add_child w t (array js) = option_map (λ i. array (insert_element i w js)) (slot_in t (count js))
 add_child w t (object ms) = Some (object (add_member t w ms))
 
 abbrev pub remove_child : List ℕ → Json → Json
@@ -54,7 +54,7 @@ remove_child t null = null
 remove_child t (boolean b) = boolean b
 remove_child t (number s) = number s
 remove_child t (string s) = string s
-remove_child t (array js) = array (if_some (place_of t) (λ n. remove_item n js) js)
+remove_child t (array js) = array (if_some (place_of t) (λ n. remove_element n js) js)
 remove_child t (object ms) = object (without t ms)
 
 abbrev pub take_child : List ℕ → Json → Option Json

@@ -10,13 +10,13 @@ use Rattle.json_patch_operation.specs.declared.read_error.ReadFault.{ReadFault}
 use Rattle.json_patch_operation.specs.declared.read_error.ReadFault.TheVariants.{Refused, Memory}
 use Rattle.json_patch_operation.specs.declared.read_error.ReadKind.{ReadKind}
 use Rattle.json.specs.Tree.{items_depth, members_depth}
-use Rattle.json_text.specs.Listing.{Texts, AreStretchesOfItems, AreStretchesOfMembers, AreTextsOfItems, AreTextsOfMembers}
+use Rattle.json_text.specs.Listing.{Texts, AreStretchesOfElements, AreStretchesOfMembers, AreTextsOfElements, AreTextsOfMembers}
 use Rattle.json_text.specs.Pointed.{IsWrittenAt}
 use Rattle.json_patch_text.specs.TextOperations.{AreWrittenAs, HaveValuesIn, IsValueText}
 use Rattle.json_patch_text.specs.Operations.{TreeOperation, ReadsTrees}
 use Rattle.json_patch_text.specs.declared.operation.TextOperation.{TextOperation}
 use Rattle.json_reading.specs.Reading.{Reading}
-use Rattle.json_reading.specs.Trees.{items_of}
+use Rattle.json_reading.specs.Trees.{elements_of}
 use Rattle.json_patch_text.specs.declared.reading.Outline.{Outline}
 
 -- a string as itself, any other tree as null
@@ -69,14 +69,14 @@ pub record IsAhead (text : List ℕ) (j : json.Json) (es : List Texts) (seen : M
 -- of the elements of the text's array, n of which are read as the operations os, those with the texts es are still ahead
 pub record IsRead (text : List ℕ) (js : json.Items) (es : List Texts) (os : List TextOperation) (n : ℕ) : Type 0 where
   pub rest : json.Items
-  pub texts : AreTextsOfItems es rest
+  pub texts : AreTextsOfElements es rest
   pub shallow : items_depth rest ≤ json.max_depth
   pub done : List TreeOperation
   pub written : AreWrittenAs os done
   pub reads : (more : List TreeOperation) → ReadsTrees rest more → ReadsTrees js (done ++ more)
-  pub refuses : (r : Reading) (k : ℕ) (kind : ReadKind) → RefusesItem (items_of r rest) k kind → RefusesItem (items_of r js) (n + k) kind
+  pub refuses : (r : Reading) (k : ℕ) (kind : ReadKind) → RefusesItem (elements_of r rest) k kind → RefusesItem (elements_of r js) (n + k) kind
   pub count : length os ≡ n
-  pub stretches : AreStretchesOfItems text (json.array js) n es
+  pub stretches : AreStretchesOfElements text (json.array js) n es
   pub values : HaveValuesIn text (json.array js) os
 
 abbrev pub IsReadPatch : List ℕ → json.Json → List Texts → List TextOperation → ℕ → Type 0

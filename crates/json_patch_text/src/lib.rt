@@ -2,8 +2,8 @@
 //! definitions and their laws. [`patch_text_within`] is for the patch of a stranger: no text on the way
 //! nests deeper, or is longer, than limits allow.
 //!
-//! Every byte that no operation changes is kept: blanks, the order of members, `1.50` and `"\u0061"` as
-//! they are written.
+//! Every byte that no operation changes is kept: whitespace, the order of members, `1.50` and `"\u0061"`
+//! as they are written.
 //!
 //! A text may say numbers that no document of JSON Patch has, as `1.50`. So the operations stand on
 //! trees, in which a number is its text, and what they do is said by every reading of the numbers

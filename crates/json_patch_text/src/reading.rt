@@ -118,7 +118,7 @@ pub(crate) fn read<'a>(alloc: Global, text: &'a str) -> Result<Vec<TextOperation
     ensures refused { (p : Json) → IsShallowText text.now p → IfUnreadable result (λ e.
         (r : Reading) → RefusesPatch (data_of r p) e.operation e.kind) }
 {
-    if !matches!(Shape::of(text), Shape::List) {
+    if !matches!(Shape::of(text), Shape::Array) {
         return Err(ReadFault::from(ReadKind::NotAList));
     }
     let texts = child_texts(alloc, text)?;

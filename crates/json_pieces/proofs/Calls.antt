@@ -9,7 +9,7 @@ use Rattle.jsonptr.specs.Text.{Pointer}
 use Rattle.json_text.specs.Added.{IsAdded, IsPutInto}
 use Rattle.json_text.specs.Less.{IsObject, IsWithout}
 use Rattle.json_text.specs.Changed.{add_at, add_child, remove_at, remove_child}
-use Rattle.json_text.specs.Cuts.{IsBlank}
+use Rattle.json_text.specs.Cuts.{IsWhitespace}
 use Rattle.json_text.specs.Pointed.{child, put_at, tree_at, IsStretch, IsWrittenAt}
 use Rattle.json_text.specs.Removed.{IsRemoved}
 use Rattle.json_text.specs.Replaced.{IsReplaced}
@@ -28,14 +28,14 @@ use Rattle.json_pieces.specs.declared.text.Text.TheVariants.{Kept}
 use Rattle.json_pieces.proofs.Levels.{view_closed}
 use Rattle.json_pieces.proofs.Lifts.{regroup}
 use Rattle.json_text.proofs.Rows.Leads.{value_before}
-use Rattle.json_pieces.proofs.Rows.Says.{blank_lead}
+use Rattle.json_pieces.proofs.Rows.Says.{whitespace_lead}
 
--- ---- with the blanks around it
+-- ---- with the whitespace around it
 
-pub says_around : (a s b : List ℕ) (j : Json) → IsBlank a → IsBlank b → Says s j → Says (a ++ (s ++ b)) j
-says_around a s b j h k says = (blank_lead a h).lexed (s ++ b) ∙ value_before s j b says (ap follows k.0) ∙ ap (λ l. spelled j ++ l) k.0 ∙ append-nil (spelled j)
+pub says_around : (a s b : List ℕ) (j : Json) → IsWhitespace a → IsWhitespace b → Says s j → Says (a ++ (s ++ b)) j
+says_around a s b j h k says = (whitespace_lead a h).lexed (s ++ b) ∙ value_before s j b says (ap follows k.0) ∙ ap (λ l. spelled j ++ l) k.0 ∙ append-nil (spelled j)
 
-alters_around : (a b s new : List ℕ) (j : Json) (P : Pointer) (v : Json) (own left : List ℕ) → IsBlank a → IsBlank b → Alters s j P v own left new → Alters (a ++ (s ++ b)) j P v own left (a ++ (new ++ b))
+alters_around : (a b s new : List ℕ) (j : Json) (P : Pointer) (v : Json) (own left : List ℕ) → IsWhitespace a → IsWhitespace b → Alters s j P v own left new → Alters (a ++ (s ++ b)) j P v own left (a ++ (new ++ b))
 alters_around a b s new j P v own left h k r = record {
   before = a ++ r.before;
   behind = r.behind ++ b;
@@ -49,7 +49,7 @@ alters_around a b s new j P v own left h k r = record {
   exchanged = ap (λ x. a ++ (x ++ b)) r.exchanged ∙ regroup a r.before left r.behind b;
 }
 
-makes_around : (e : Edit) (a b s new : List ℕ) (j : Json) (P : Pointer) (found : Option (String Global)) → IsBlank a → IsBlank b → Makes e s j P new found → Makes e (a ++ (s ++ b)) j P (a ++ (new ++ b)) found
+makes_around : (e : Edit) (a b s new : List ℕ) (j : Json) (P : Pointer) (found : Option (String Global)) → IsWhitespace a → IsWhitespace b → Makes e s j P new found → Makes e (a ++ (s ++ b)) j P (a ++ (new ++ b)) found
 makes_around e a b s new j P None h k m = (ap (λ x. a ++ (x ++ b)) m.0, m.1)
 makes_around e a b s new j P (Some out) h k m = record {
   way = m.way;
@@ -61,7 +61,7 @@ makes_around e a b s new j P (Some out) h k m = record {
   right = m.right;
 }
 
-pub made_around : (e : Edit) (a b s new : List ℕ) (P : Pointer) (found : Option (String Global)) → IsBlank a → IsBlank b → (i : Json) × Says s i → ((j : Json) → Says s j → Makes e s j P new found) → (j : Json) → Says (a ++ (s ++ b)) j → Makes e (a ++ (s ++ b)) j P (a ++ (new ++ b)) found
+pub made_around : (e : Edit) (a b s new : List ℕ) (P : Pointer) (found : Option (String Global)) → IsWhitespace a → IsWhitespace b → (i : Json) × Says s i → ((j : Json) → Says s j → Makes e s j P new found) → (j : Json) → Says (a ++ (s ++ b)) j → Makes e (a ++ (s ++ b)) j P (a ++ (new ++ b)) found
 made_around e a b s new P found h k (i, root) made j says =
     subst (λ x. Makes e (a ++ (s ++ b)) x P (a ++ (new ++ b)) found) (one_tree (a ++ (s ++ b)) i j (says_around a s b i h k root) says) (makes_around e a b s new i P found h k (made i root))
 

@@ -1,10 +1,10 @@
--- An edit in a child is one in its object or list.
+-- An edit in a child is one in its object or array.
 use Rattle.std.proofs.Common.{◌≡◌, inl, inr, ℕ, ◌<◌, Bool, List, [], ◌∷◌, ◌++◌, length, Option, Some, None, option_and_then, refl, sym, ap, ◌∙◌, subst, append_assoc}
 use Rattle.std.specs.Prelude.{String, option_map}
 use Rattle.std.specs.declared.alloc.Global.{Global}
 use Rattle.json.specs.Json.{Json}
 use Rattle.jsonptr.specs.Text.{Pointer}
-use Rattle.json_text.specs.Cuts.{AllSuit, IsBlank, Piece, row_text}
+use Rattle.json_text.specs.Cuts.{AllSuit, IsWhitespace, Piece, row_text}
 use Rattle.json_text.specs.Less.{IsNumberOf}
 use Rattle.json_text.specs.Listing.{shape_of}
 use Rattle.json_text.specs.Pointed.{child, put_at, tree_at}
@@ -72,8 +72,8 @@ module _ (b : Bool) (hollow t : List ℕ) (n : ℕ) (cs : List Child) (ps : List
   lift_looks P found s (same, shape) =
       (s.split.put hollow x ∙ ap (λ y. s.split.before ++ (y ++ s.split.behind)) same ∙ sym (s.split.whole hollow), shape ∙ sym (ap (option_map shape_of) (below t P (tree_in b cs) s.child_tree (tree_at P s.child_tree) s.is refl)))
 
--- what holds of the child, M, makes what holds of its object or list, N
-pub lift : (b : Bool) (hollow t : List ℕ) (n : ℕ) (cs : List Child) (ps : List Piece) (x : List ℕ) (M N : List ℕ → Json → List ℕ → Type 0) → AllSuit b cs ps → IsBlank hollow → n < length ps → IsNumberOf b cs t n
+-- what holds of the child, M, makes what holds of its object or array, N
+pub lift : (b : Bool) (hollow t : List ℕ) (n : ℕ) (cs : List Child) (ps : List Piece) (x : List ℕ) (M N : List ℕ → Json → List ℕ → Type 0) → AllSuit b cs ps → IsWhitespace hollow → n < length ps → IsNumberOf b cs t n
     → ((s : Stands b t n cs ps) → M (value_at n ps) s.child_tree x → N (row_text b hollow ps) (tree_in b cs) (row_text b hollow (with_value n x ps)))
     → ((j : Json) → Says (value_at n ps) j → M (value_at n ps) j x) → (j : Json) → Says (row_text b hollow ps) j → N (row_text b hollow ps) j (row_text b hollow (with_value n x ps))
 lift b hollow t n cs ps x M N h k l number lifts made j says =
@@ -82,7 +82,7 @@ lift b hollow t n cs ps x M N h k l number lifts made j says =
     (lifts s (made s.child_tree s.value.0))
 
 -- where no child is, nothing is made
-pub none_there : (b : Bool) (hollow t : List ℕ) (cs : List Child) (ps : List Piece) (e : Edit) (P : Pointer) → AllSuit b cs ps → IsBlank hollow → child t (tree_in b cs) ≡ None → (j : Json) → Says (row_text b hollow ps) j → (row_text b hollow ps ≡ row_text b hollow ps) × Fails e j (t ∷ P)
+pub none_there : (b : Bool) (hollow t : List ℕ) (cs : List Child) (ps : List Piece) (e : Edit) (P : Pointer) → AllSuit b cs ps → IsWhitespace hollow → child t (tree_in b cs) ≡ None → (j : Json) → Says (row_text b hollow ps) j → (row_text b hollow ps ≡ row_text b hollow ps) × Fails e j (t ∷ P)
 none_there b hollow t cs ps e P h k none j says =
     let same : tree_in b cs ≡ j = one_tree (row_text b hollow ps) (tree_in b cs) j (row_says b hollow cs ps h k) says in
     (refl, inl (ap (option_and_then (tree_at P)) (subst (λ i. child t i ≡ None) same none)))

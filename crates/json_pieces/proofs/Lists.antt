@@ -129,7 +129,7 @@ one_written b ss vs i k s v old out m a c new is h l e f o p q r t =
     ∙ ap (λ y. old ++ y) (sym (part_more b ss vs i k s v is h l e f))
   where
     lead_first : (s : Seam) (value : List ℕ) → lead_of s ++ (value ++ text_bytes s.trail) ≡ piece_text (piece_with s value)
-    lead_first s value = append_assoc (text_bytes s.blank) (text_bytes s.name ++ text_bytes s.colons) (value ++ text_bytes s.trail) ∙ ap (λ y. text_bytes s.blank ++ y) (append_assoc (text_bytes s.name) (text_bytes s.colons) (value ++ text_bytes s.trail))
+    lead_first s value = append_assoc (text_bytes s.whitespace) (text_bytes s.name ++ text_bytes s.colons) (value ++ text_bytes s.trail) ∙ ap (λ y. text_bytes s.whitespace ++ y) (append_assoc (text_bytes s.name) (text_bytes s.colons) (value ++ text_bytes s.trail))
 
 pub row_written : (b : Bool) (hollow old out new : List ℕ) (ss : List Seam) (vs : List Node) (i : ℕ) → AreSoundIn ss vs → 0 < length vs → i ≡ length vs → out ≡ old ++ pieces_text (opens b) (take i (pieces_in ss vs)) → new ≡ out ++ (closes b ∷ []) → new ≡ old ++ row_text b hollow (pieces_in ss vs)
 row_written b hollow old out new ss vs i h some is o p =

@@ -6,13 +6,13 @@ use Rattle.std.proofs.lemmas.Result.{IfOk-weaker}
 use Rattle.json.specs.Json.{Json}
 use Rattle.json_lexemes.specs.Spelled.{Says}
 use Rattle.json_lexemes.proofs.Nests.{one_tree}
-use Rattle.json_text.specs.Cuts.{AllSuit, IsBlank, row_text}
+use Rattle.json_text.specs.Cuts.{AllSuit, IsWhitespace, row_text}
 use Rattle.json_text.specs.Less.{IsNumberOf}
 use Rattle.json_text.specs.Listing.{shape_of}
 use Rattle.json_text.specs.Pointed.{child, tree_at}
 use Rattle.json_text.specs.Rows.{Child, tree_in}
 use Rattle.json_text.specs.declared.listing.Shape.{Shape}
-use Rattle.json_text.specs.declared.listing.Shape.TheVariants.{Object, List as ListShape}
+use Rattle.json_text.specs.declared.listing.Shape.TheVariants.{Object, Array}
 use Rattle.jsonptr.specs.Text.{Pointer}
 use Rattle.json_pieces.specs.Looks.{Looks}
 use Rattle.json_pieces.specs.Nodes.{IsSound, IsWhole, parts_of, row_view, text_bytes, tree_text, view, wide}
@@ -29,18 +29,18 @@ in_object : (cs : List Child) (b : Bool) → b ≡ true → shape_of (tree_in b 
 in_object cs true e = refl
 in_object cs false e = cc
 
-in_list : (cs : List Child) (b : Bool) → b ≡ false → shape_of (tree_in b cs) ≡ ListShape
-in_list cs false e = refl
-in_list cs true e = cc
+in_array : (cs : List Child) (b : Bool) → b ≡ false → shape_of (tree_in b cs) ≡ Array
+in_array cs false e = refl
+in_array cs true e = cc
 
 row_tree : (r : Row) (h : IsSound (row_view r)) (j : Json) → Says (tree_text (row_view r)) j → tree_in r.named h.0.cs ≡ j
-row_tree r h j says = one_tree (tree_text (row_view r)) (tree_in r.named h.0.cs) j (row_says r.named (text_bytes r.hollow) h.0.cs _ h.0.suit h.0.blank) says
+row_tree r h j says = one_tree (tree_text (row_view r)) (tree_in r.named h.0.cs) j (row_says r.named (text_bytes r.hollow) h.0.cs _ h.0.suit h.0.whitespace) says
 
 pub object_shape : (r : Row) → IsSound (row_view r) → r.named ≡ true → (j : Json) → Says (tree_text (row_view r)) j → Object ≡ shape_of j
 object_shape r h e j says = sym (in_object h.0.cs r.named e) ∙ ap shape_of (row_tree r h j says)
 
-pub list_shape : (r : Row) → IsSound (row_view r) → r.named ≡ false → (j : Json) → Says (tree_text (row_view r)) j → ListShape ≡ shape_of j
-list_shape r h e j says = sym (in_list h.0.cs r.named e) ∙ ap shape_of (row_tree r h j says)
+pub array_shape : (r : Row) → IsSound (row_view r) → r.named ≡ false → (j : Json) → Says (tree_text (row_view r)) j → Array ≡ shape_of j
+array_shape r h e j says = sym (in_array h.0.cs r.named e) ∙ ap shape_of (row_tree r h j says)
 
 -- no child has the name
 pub none_looked : (t k : List ℕ) (P : Pointer) (r : Row) → IsSound (row_view r) → k ≡ t → ((cs : List Child) → AllSuit r.named cs (pieces_in r.seams.list.items r.values.items) → child k (tree_in r.named cs) ≡ None)
@@ -65,8 +65,8 @@ module _ (r : Row) (n : ℕ) (v w : Node) (P : Pointer) (h : IsSound (row_view r
   looked_below c t k is names =
       IfOk-weaker c _ _ (λ found. set_makes r n v w h l e (λ text j new. Looks text j P new found) (λ text j new. Looks text j (t ∷ P) new found) t k is names (λ cs s. lift_looks r.named (text_bytes r.hollow) t n cs _ _ P found s))
 
--- with the blanks around it
-pub looks_around : (a b s new : List ℕ) (P : Pointer) (found : Option Shape) → IsBlank a → IsBlank b → (i : Json) × Says s i → ((j : Json) → Says s j → Looks s j P new found) → (j : Json) → Says (a ++ (s ++ b)) j → Looks (a ++ (s ++ b)) j P (a ++ (new ++ b)) found
+-- with the whitespace around it
+pub looks_around : (a b s new : List ℕ) (P : Pointer) (found : Option Shape) → IsWhitespace a → IsWhitespace b → (i : Json) × Says s i → ((j : Json) → Says s j → Looks s j P new found) → (j : Json) → Says (a ++ (s ++ b)) j → Looks (a ++ (s ++ b)) j P (a ++ (new ++ b)) found
 looks_around a b s new P found h k (i, root) looked j says =
     let (same, shape) = looked i root in
     (ap (λ x. a ++ (x ++ b)) same, subst (λ x. found ≡ option_map shape_of (tree_at P x)) (one_tree (a ++ (s ++ b)) i j (says_around a s b i h k root) says) shape)

@@ -16,8 +16,8 @@ use Rattle.json_lexemes.specs.Found.{or_else}
 use Rattle.json_text.specs.Less.{IsNumberOf}
 use Rattle.json_text.specs.Listing.{IsTextOf}
 use Rattle.json_text.specs.Pointed.{child}
-use Rattle.json_text.specs.Rows.{Child, items_in, last_named, tree_in}
-use Rattle.json_text.proofs.Rows.Trees.{no_item, no_member}
+use Rattle.json_text.specs.Rows.{Child, elements_in, last_named, tree_in}
+use Rattle.json_text.proofs.Rows.Trees.{no_element, no_member}
 use Rattle.json_pieces.specs.Nodes.{AreNames, text_bytes}
 use Rattle.json_pieces.specs.declared.node.Node.{Node}
 use Rattle.json_pieces.specs.declared.seams.Seam.{Seam}
@@ -96,17 +96,17 @@ not_here ss cs i m k s is h l n e d none f =
     let rest : last_named k more ≡ None = ap (last_named k) (sym (drop_next cs i c more at) ∙ ap (λ x. drop x cs) (sym next)) ∙ none in
     ap (last_named k) at ∙ ap₂ (λ o b. or_else (option_map suc o) (cond b (Some zero) None)) rest (bytes_differ c.0 k (λ same. true≢false (sym ((d c.0 text).1 same) ∙ f)))
 
--- ---- an item
+-- ---- an element
 
-pub past_items : (cs : List Child) (t : List ℕ) (i n : ℕ) → place_of t ≡ Some i → length cs ≡ n → n ≤ i → child t (tree_in false cs) ≡ None
-past_items cs t i n e l h = ap (option_and_then (λ k. get_item k (items_in cs))) e ∙ no_item cs i (drop_all i cs (omega (arith, l, h)))
+pub past_elements : (cs : List Child) (t : List ℕ) (i n : ℕ) → place_of t ≡ Some i → length cs ≡ n → n ≤ i → child t (tree_in false cs) ≡ None
+past_elements cs t i n e l h = ap (option_and_then (λ k. get_item k (elements_in cs))) e ∙ no_element cs i (drop_all i cs (omega (arith, l, h)))
 
-pub no_place_items : (cs : List Child) (t : List ℕ) (n : ℕ) → IsNoIndexText t → length cs ≡ n → n < 2 ^ 64 → child t (tree_in false cs) ≡ None
-no_place_items cs t n none l h = by_place (place_of t) none.past
+pub no_place_elements : (cs : List Child) (t : List ℕ) (n : ℕ) → IsNoIndexText t → length cs ≡ n → n < 2 ^ 64 → child t (tree_in false cs) ≡ None
+no_place_elements cs t n none l h = by_place (place_of t) none.past
   where
-    by_place : (m : Option ℕ) → ((i : ℕ) → m ≡ Some i → 2 ^ 64 ≤ i) → option_and_then (λ k. get_item k (items_in cs)) m ≡ None
+    by_place : (m : Option ℕ) → ((i : ℕ) → m ≡ Some i → 2 ^ 64 ≤ i) → option_and_then (λ k. get_item k (elements_in cs)) m ≡ None
     by_place None past = refl
-    by_place (Some i) past = no_item cs i (drop_all i cs (omega (arith, l, h, past i refl)))
+    by_place (Some i) past = no_element cs i (drop_all i cs (omega (arith, l, h, past i refl)))
 
 -- ---- either
 
@@ -115,10 +115,10 @@ by_name false k cs r n e = absurd (true≢false (sym n))
 by_name true k cs None n e = no_member k cs (sym e)
 by_name true k cs (Some m) n e = sym e
 
-pub by_item : (b : Bool) (k : List ℕ) (cs : List Child) (r : Option ℕ) → b ≡ false → IfSome r (λ n. place_of k ≡ Some n) → IfNone r (child k (tree_in false cs) ≡ None) → MatchOption r (child k (tree_in b cs) ≡ None) (IsNumberOf b cs k)
-by_item true k cs r n p e = absurd (true≢false n)
-by_item false k cs None n p e = e
-by_item false k cs (Some m) n p e = p
+pub by_element : (b : Bool) (k : List ℕ) (cs : List Child) (r : Option ℕ) → b ≡ false → IfSome r (λ n. place_of k ≡ Some n) → IfNone r (child k (tree_in false cs) ≡ None) → MatchOption r (child k (tree_in b cs) ≡ None) (IsNumberOf b cs k)
+by_element true k cs r n p e = absurd (true≢false n)
+by_element false k cs None n p e = e
+by_element false k cs (Some m) n p e = p
 
 last_below : (k : List ℕ) (cs : List Child) → IfSome (last_named k cs) (λ i. i < length cs)
 last_below k [] = tt

@@ -8,14 +8,14 @@ use Rattle.std.proofs.lemmas.List.{take_all}
 use Rattle.json.specs.Json.{Json, null, boolean, number, string, array, object, Items, no_items, item, Members, no_members, member}
 use Rattle.json.specs.Lex.{between, lex, operator_lexeme}
 use Rattle.json.specs.Word.{is_operator, is_space}
-use Rattle.json_text.specs.Cuts.{AllSuit, ClosesAt, CutsFirst, IsBehindMark, IsBlank, Piece, closes, opens, piece_of, piece_text, pieces_text, row_text}
+use Rattle.json_text.specs.Cuts.{AllSuit, ClosesAt, CutsFirst, IsBehindMark, IsWhitespace, Piece, closes, opens, piece_of, piece_text, pieces_text, row_text}
 use Rattle.json_text.specs.Listing.{IsTextOf, shape_of}
 use Rattle.json_lexemes.specs.Places.{left_at, mode_at}
-use Rattle.json_text.specs.Rows.{Child, inside, items_in, members_in, opening, tree_in}
+use Rattle.json_text.specs.Rows.{Child, elements_in, inside, members_in, opening, tree_in}
 use Rattle.json_text.specs.declared.listing.Shape.{Shape}
-use Rattle.json_text.specs.declared.listing.Shape.TheVariants.{Object, List as ListShape, String as StringShape, Atom}
+use Rattle.json_text.specs.declared.listing.Shape.TheVariants.{Object, Array, String as StringShape, Atom}
 use Rattle.json_text.specs.declared.cuts.Cut.{Cut}
-use Rattle.json_text.proofs.Blanks.{lexemes_behind}
+use Rattle.json_text.proofs.Whitespace.{lexemes_behind}
 use Rattle.json_lexemes.proofs.FirstBytes.{operator_by_kind}
 use Rattle.json_text.proofs.Rows.Trees.{spelled_in}
 use Rattle.json_lexemes.proofs.Steps.{drop_step, operator_end, operator_left}
@@ -118,15 +118,15 @@ goes_on t b cs ps from g c s f e =
 pub record InParts (t : List ℕ) (b : Bool) (cs : List Child) (hollow : List ℕ) (ps : List Piece) : Type 0 where
   pub is : row_text b hollow ps ≡ t
   pub suit : AllSuit b cs ps
-  pub blank : IsBlank hollow
+  pub whitespace : IsWhitespace hollow
 
-pub ends : (t : List ℕ) (b : Bool) (cs : List Child) (hollow : List ℕ) (ps : List Piece) (from : ℕ) (c : Cut) → (s : SoFar t b cs ps from) → (f : CutsFirst t b s.more from c) → c.next ≡ None → IsBlank hollow → InParts t b cs hollow (ps ++ (piece_of c ∷ []))
-ends t b cs hollow ps from c s f e blank =
+pub ends : (t : List ℕ) (b : Bool) (cs : List Child) (hollow : List ℕ) (ps : List Piece) (from : ℕ) (c : Cut) → (s : SoFar t b cs ps from) → (f : CutsFirst t b s.more from c) → c.next ≡ None → IsWhitespace hollow → InParts t b cs hollow (ps ++ (piece_of c ∷ []))
+ends t b cs hollow ps from c s f e whitespace =
     let n = subst (λ o. MatchOption o ((f.more ≡ []) × (drop from t ≡ piece_text (piece_of c) ++ (closes b ∷ []))) (λ g. (drop from t ≡ piece_text (piece_of c) ++ (44 ∷ drop g t)) × (left_at t g ≡ inside b f.more) × (mode_at t g ≡ between) × (f.more ≢ []))) e f.next in
     record {
       is = some_row b hollow ps (piece_of c) ∙ sym (grown t b cs ps from c s f (closes b ∷ []) n.1);
       suit = subst (AllSuit b cs) (append-nil (ps ++ (piece_of c ∷ []))) (suits_more t b cs ps from c s f [] (subst (λ ds. AllSuit b ds []) (sym n.0) tt));
-      blank = blank;
+      whitespace = whitespace;
     }
 
 -- only before the first no other comes
@@ -135,7 +135,7 @@ unfolding after_mark
 none_there t b cs hollow [] from s e h = record {
   is = sym (s.whole ∙ ap (λ l. opens b ∷ l) h.0);
   suit = s.suit [] (subst (λ ds. AllSuit b ds []) (sym e) tt);
-  blank = h.1;
+  whitespace = h.1;
 }
 none_there t b cs hollow (p ∷ ps) from s e h = absurd (s.later (λ n. absurd (omega (arith, ap length n))) e)
 
@@ -154,11 +154,11 @@ push_sound (t ∷ ss) [] s v h k = absurd h
 push_sound (t ∷ ss) (w ∷ vs) s v h k = (h.0, push_sound ss vs s v h.1 k)
 
 pub row_of_parts : (t : List ℕ) (b : Bool) (cs : List Child) (hollow : List ℕ) (n : ℕ) (ss : List Seam) (vs : List Node) → InParts t b cs hollow (pieces_in ss vs) → AreSoundIn ss vs → n ≡ length t → (IsRow b n hollow (pieces_in ss vs) × AreSoundIn ss vs) × (row_text b hollow (pieces_in ss vs) ≡ t)
-row_of_parts t b cs hollow n ss vs p h e = ((record { cs = cs; suit = p.suit; blank = p.blank; size = e ∙ ap length (sym p.is) }, h), p.is)
+row_of_parts t b cs hollow n ss vs p h e = ((record { cs = cs; suit = p.suit; whitespace = p.whitespace; size = e ∙ ap length (sym p.is) }, h), p.is)
 
-pub empty_blank : IsBlank []
+pub empty_whitespace : IsWhitespace []
 unfolding lex
-empty_blank = (refl, refl)
+empty_whitespace = (refl, refl)
 
 pub starts : (ss : List Seam) (vs : List Node) → ss ≡ [] → vs ≡ [] → AreSoundIn ss vs × (pieces_in ss vs ≡ [])
 starts [] [] e f = (tt, refl)
@@ -178,11 +178,11 @@ behind_mark t b cs ps from h s = ((tree_in b cs, h.0), h.1, s.left, s.begins)
 
 -- the row that is handed out
 pub row_made : (t : List ℕ) (b : Bool) (cs : List Child) (hollow : List ℕ) (ss : List Seam) (vs : List Node) (r : Row) → InParts t b cs hollow (pieces_in ss vs) → AreSoundIn ss vs → r.named ≡ b → r.length ≡ length t → text_bytes r.hollow ≡ hollow → r.seams.list.items ≡ ss → r.values.items ≡ vs → IsRowOf t r
-row_made t b cs hollow ss vs r p h named size blank seams values =
+row_made t b cs hollow ss vs r p h named size whitespace seams values =
     let parts : pieces_in r.seams.list.items r.values.items ≡ pieces_in ss vs = ap₂ pieces_in seams values in
     let sound : AreSoundIn r.seams.list.items r.values.items = subst (λ x. AreSoundIn x r.values.items) (sym seams) (subst (λ x. AreSoundIn ss x) (sym values) h) in
     let here : InParts t r.named cs (text_bytes r.hollow) (pieces_in r.seams.list.items r.values.items) =
-    subst (λ x. InParts t x cs (text_bytes r.hollow) (pieces_in r.seams.list.items r.values.items)) (sym named) (subst (λ x. InParts t b cs x (pieces_in r.seams.list.items r.values.items)) (sym blank) (subst (InParts t b cs hollow) (sym parts) p)) in
+    subst (λ x. InParts t x cs (text_bytes r.hollow) (pieces_in r.seams.list.items r.values.items)) (sym named) (subst (λ x. InParts t b cs x (pieces_in r.seams.list.items r.values.items)) (sym whitespace) (subst (InParts t b cs hollow) (sym parts) p)) in
     row_of_parts t r.named cs (text_bytes r.hollow) r.length r.seams.list.items r.values.items here sound size
 
 -- ---- what is opened
@@ -196,18 +196,18 @@ unfolding members_children
 members_back no_members = refl
 members_back (member k j ms) = ap (member k j) (members_back ms)
 
-items_children : Items → List Child
-items_children no_items = []
-items_children (item j js) = ([], j) ∷ items_children js
+elements_children : Items → List Child
+elements_children no_items = []
+elements_children (item j js) = ([], j) ∷ elements_children js
 
-items_back : (js : Items) → items_in (items_children js) ≡ js
-unfolding items_children
-items_back no_items = refl
-items_back (item j js) = ap (item j) (items_back js)
+elements_back : (js : Items) → elements_in (elements_children js) ≡ js
+unfolding elements_children
+elements_back no_items = refl
+elements_back (item j js) = ap (item j) (elements_back js)
 
 shape_number : Shape → ℕ
 shape_number Object = 0
-shape_number ListShape = 1
+shape_number Array = 1
 shape_number StringShape = 2
 shape_number Atom = 3
 
@@ -220,14 +220,14 @@ as_object (string k) s e f = let never : 2 ≡ 0 = ap shape_number (sym e ∙ f)
 as_object (array js) s e f = let never : 1 ≡ 0 = ap shape_number (sym e ∙ f) in absurd (omega (arith, never))
 as_object (object ms) s e f = (members_children ms, ap object (sym (members_back ms)))
 
-pub as_list : (j : Json) (s : Shape) → s ≡ shape_of j → s ≡ ListShape → (cs : List Child) × (j ≡ tree_in false cs)
+pub as_array : (j : Json) (s : Shape) → s ≡ shape_of j → s ≡ Array → (cs : List Child) × (j ≡ tree_in false cs)
 unfolding shape_number
-as_list null s e f = let never : 3 ≡ 1 = ap shape_number (sym e ∙ f) in absurd (omega (arith, never))
-as_list (boolean b) s e f = let never : 3 ≡ 1 = ap shape_number (sym e ∙ f) in absurd (omega (arith, never))
-as_list (number n) s e f = let never : 3 ≡ 1 = ap shape_number (sym e ∙ f) in absurd (omega (arith, never))
-as_list (string k) s e f = let never : 2 ≡ 1 = ap shape_number (sym e ∙ f) in absurd (omega (arith, never))
-as_list (object ms) s e f = let never : 0 ≡ 1 = ap shape_number (sym e ∙ f) in absurd (omega (arith, never))
-as_list (array js) s e f = (items_children js, ap array (sym (items_back js)))
+as_array null s e f = let never : 3 ≡ 1 = ap shape_number (sym e ∙ f) in absurd (omega (arith, never))
+as_array (boolean b) s e f = let never : 3 ≡ 1 = ap shape_number (sym e ∙ f) in absurd (omega (arith, never))
+as_array (number n) s e f = let never : 3 ≡ 1 = ap shape_number (sym e ∙ f) in absurd (omega (arith, never))
+as_array (string k) s e f = let never : 2 ≡ 1 = ap shape_number (sym e ∙ f) in absurd (omega (arith, never))
+as_array (object ms) s e f = let never : 0 ≡ 1 = ap shape_number (sym e ∙ f) in absurd (omega (arith, never))
+as_array (array js) s e f = (elements_children js, ap array (sym (elements_back js)))
 
 pub row_text_of : (t : List ℕ) (b : Bool) (j : Json) → IsTextOf t j → (cs : List Child) × (j ≡ tree_in b cs) → (cs : List Child) × IsTextOf t (tree_in b cs)
 row_text_of t b j h (cs, e) = (cs, subst (IsTextOf t) e h)
@@ -252,7 +252,7 @@ one_owned ss own_seams new_seams vs own_values new_values i k s own v w text n h
     )
 
 pub row_same : (r new : Row) (ss : List Seam) (vs : List Node) (i : ℕ) → IsSound (row_view r) → AreSoundIn ss vs → pieces_in ss vs ≡ take i (pieces_in r.seams.list.items r.values.items) → length r.values.items ≤ i → new.named ≡ r.named → new.length ≡ r.length → text_bytes new.hollow ≡ text_bytes r.hollow → new.seams.list.items ≡ ss → new.values.items ≡ vs → IsRowOf (tree_text (row_view r)) new
-row_same r new ss vs i h g same l named size blank seams values =
+row_same r new ss vs i h g same l named size whitespace seams values =
     let all : pieces_in ss vs ≡ pieces_in r.seams.list.items r.values.items = same ∙ take_all i (pieces_in r.seams.list.items r.values.items) (omega (arith, pieces_are r.seams.list.items r.values.items h.1, l)) in
     row_made (tree_text (row_view r)) r.named h.0.cs (text_bytes r.hollow) ss vs new
-    (record { is = ap (row_text r.named (text_bytes r.hollow)) all; suit = subst (AllSuit r.named h.0.cs) (sym all) h.0.suit; blank = h.0.blank }) g named (size ∙ h.0.size) blank seams values
+    (record { is = ap (row_text r.named (text_bytes r.hollow)) all; suit = subst (AllSuit r.named h.0.cs) (sym all) h.0.suit; whitespace = h.0.whitespace }) g named (size ∙ h.0.size) whitespace seams values

@@ -1,4 +1,4 @@
--- The pieces of an object or a list in a row.
+-- The pieces of an object or an array in a row.
 pub mod Says
 pub mod Parts
 pub mod Stands

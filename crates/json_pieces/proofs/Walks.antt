@@ -35,7 +35,7 @@ use Rattle.json_pieces.proofs.Rows.Says.{row_is}
 -- ---- one level
 
 pub row_whole : (r : Row) → IsSound (row_view r) → IsWhole (row_view r)
-row_whole r h = (h, (tree_in r.named h.0.cs, row_is r.named (text_bytes r.hollow) h.0.cs _ h.0.suit h.0.blank))
+row_whole r h = (h, (tree_in r.named h.0.cs, row_is r.named (text_bytes r.hollow) h.0.cs _ h.0.suit h.0.whitespace))
 
 pub open_whole : (node : Node) (b : Box Row Global) → node ≡ Open b → IsSound (row_view b.value) → IsWhole (view node)
 open_whole node b e h = subst IsWhole (sym (ap view e ∙ view_open b)) (row_whole b.value h)
@@ -112,7 +112,7 @@ put_whole new e x s ready is left same =
     let value : (w : Json) × IsTextOf x.now w = subst IsReady is ready in
     subst IsWhole (sym (ap view left ∙ view_closed s)) (tt, subst (λ y. (w : Json) × IsTextOf y w) (sym same) value)
 
--- ---- in the object or the list
+-- ---- in the object or the array
 
 pub taken : (e : Edit) (t : Bor (List ℕ)) (r : Row) (new : List ℕ) (done : Bool) → IsSound (row_view r) → e ≡ Take t → ((j : Json) → Says (tree_text (row_view r)) j → TakesOut (tree_text (row_view r)) j t.now new done) → (j : Json) → Says (tree_text (row_view r)) j → Changes e (tree_text (row_view r)) j new done
 taken e t r new done h is made j says = subst (λ x. Changes x (tree_text (row_view r)) j new done) (sym is) (by_done done (made j says))
@@ -168,7 +168,7 @@ module _ (r : Row) (n : ℕ) (v w : Node) (h : IsSound (row_view r)) (l : n < le
         record {
           cs = some.0;
           suit = subst (AllSuit r.named some.0) (sym (set_pieces r.seams.list.items r.values.items n w)) some.1;
-          blank = h.0.blank;
+          whitespace = h.0.whitespace;
           size = fits ∙ ap length (sym set_text);
         },
         set_sound r.seams.list.items r.values.items n w h.1 whole.0,
@@ -187,7 +187,7 @@ module _ (r : Row) (n : ℕ) (v w : Node) (h : IsSound (row_view r)) (l : n < le
       let there : value_at n old ≡ tree_text (view v) = value_there r.seams.list.items r.values.items n v h.1 l e in
       let inner : (j : Json) → Says (value_at n old) j → M (value_at n old) j x = subst (λ y. (j : Json) → Says y j → M y j x) (sym there) made in
       subst (λ y. N (tree_text (row_view r)) j y) (sym set_text)
-      (lift r.named (text_bytes r.hollow) t n h.0.cs old x M N h.0.suit h.0.blank count (subst (λ y. IsNumberOf r.named h.0.cs y n) is (names h.0.cs h.0.suit)) (lifts h.0.cs) inner j says)
+      (lift r.named (text_bytes r.hollow) t n h.0.cs old x M N h.0.suit h.0.whitespace count (subst (λ y. IsNumberOf r.named h.0.cs y n) is (names h.0.cs h.0.suit)) (lifts h.0.cs) inner j says)
 
 pub value_set : (vs : List Node) (n : ℕ) (v w : Node) → n < length vs → v ≡ get_or (slice_set vs n w) n v → v ≡ w
 value_set [] n v w l e = absurd (omega (arith, l))
@@ -196,7 +196,7 @@ value_set (x ∷ vs) (suc n) v w l e = value_set vs n v w (omega (arith, l)) e
 
 pub none_made : (e : Edit) (t k : List ℕ) (P : Pointer) (r : Row) → IsSound (row_view r) → k ≡ t → ((cs : List Child) → AllSuit r.named cs (pieces_in r.seams.list.items r.values.items) → child k (tree_in r.named cs) ≡ None) → (j : Json) → Says (tree_text (row_view r)) j → Makes e (tree_text (row_view r)) j (t ∷ P) (tree_text (row_view r)) None
 none_made e t k P r h is none j says =
-    none_there r.named (text_bytes r.hollow) t h.0.cs (pieces_in r.seams.list.items r.values.items) e P h.0.suit h.0.blank (subst (λ y. child y (tree_in r.named h.0.cs) ≡ None) is (none h.0.cs h.0.suit)) j says
+    none_there r.named (text_bytes r.hollow) t h.0.cs (pieces_in r.seams.list.items r.values.items) e P h.0.suit h.0.whitespace (subst (λ y. child y (tree_in r.named h.0.cs) ≡ None) is (none h.0.cs h.0.suit)) j says
 
 -- the same of what a call answers, by the tokens that it was given
 pub row_made_at : {X : Type 0} (c : Result X AllocError) (M : Pointer → X → List ℕ → Json → List ℕ → Type 0) (old opened new : Node) (copy : Row) (r s : Box Row Global) (P Q : Pointer) → Q ≡ P → tree_text (view opened) ≡ tree_text (view old) → copy ≡ r.value → opened ≡ Open r → new ≡ Open s

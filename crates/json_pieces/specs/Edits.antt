@@ -70,7 +70,7 @@ IsReady (Put x) = (w : Json) × IsTextOf x.now w
 IsReady (Take t) = ⊤
 IsReady (Insert t x) = (w : Json) × IsTextOf x.now w
 
--- ---- in an object or a list itself
+-- ---- in an object or an array itself
 
 -- what t names is taken out, or nothing has that name
 abbrev pub TakesOut : List ℕ → Json → List ℕ → List ℕ → Bool → Type 0

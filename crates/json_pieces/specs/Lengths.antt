@@ -5,7 +5,7 @@ use Rattle.json_pieces.specs.declared.seams.Seam.{Seam}
 use Rattle.json_pieces.specs.declared.text.Text.{Text}
 
 abbrev pub seam_length : Seam → ℕ
-seam_length s = length (text_bytes s.blank) + length (text_bytes s.name) + length (text_bytes s.colons) + length (text_bytes s.trail)
+seam_length s = length (text_bytes s.whitespace) + length (text_bytes s.name) + length (text_bytes s.colons) + length (text_bytes s.trail)
 
 -- of the seams old that of this number has lost what is behind it, the text trail
 pub record HasLost (old : List Seam) (number : ℕ) (trail : Text) (new : List Seam) : Type 0 where
@@ -14,13 +14,13 @@ pub record HasLost (old : List Seam) (number : ℕ) (trail : Text) (new : List S
   pub trail_is : trail ≡ seam.trail
   pub none : Text
   pub empty : text_bytes none ≡ []
-  pub left : new ≡ slice_set old number (record { blank = seam.blank; name = seam.name; colons = seam.colons; trail = none })
+  pub left : new ≡ slice_set old number (record { whitespace = seam.whitespace; name = seam.name; colons = seam.colons; trail = none })
 
--- that of this number has other blanks before it, of these bytes, in place of the text old_blank
-pub record HasGained (old : List Seam) (number : ℕ) (bytes : List ℕ) (old_blank : Text) (new : List Seam) : Type 0 where
+-- that of this number has other whitespace before it, of these bytes, in place of the text old_whitespace
+pub record HasGained (old : List Seam) (number : ℕ) (bytes : List ℕ) (old_whitespace : Text) (new : List Seam) : Type 0 where
   pub seam : Seam
   pub is : seam ≡ slice_index_or old number seam
-  pub blank_is : old_blank ≡ seam.blank
+  pub whitespace_is : old_whitespace ≡ seam.whitespace
   pub given : Text
   pub has : text_bytes given ≡ bytes
-  pub left : new ≡ slice_set old number (record { blank = given; name = seam.name; colons = seam.colons; trail = seam.trail })
+  pub left : new ≡ slice_set old number (record { whitespace = given; name = seam.name; colons = seam.colons; trail = seam.trail })

@@ -1,7 +1,7 @@
 -- A value in pieces as a tree, and the text that it makes.
 use Rattle.std.specs.Prelude.{◌≡◌, ℕ, zero, suc, List, [], ◌∷◌, ◌++◌, length, map, Bool, ⊤}
 use Rattle.json.specs.Json.{Json}
-use Rattle.json_text.specs.Cuts.{AllSuit, IsBlank, Piece, opens, row_text}
+use Rattle.json_text.specs.Cuts.{AllSuit, IsWhitespace, Piece, opens, row_text}
 use Rattle.json_text.specs.Less.{IsLeaf}
 use Rattle.json_text.specs.Listing.{IsTextOf}
 use Rattle.json_text.specs.Rows.{Child}
@@ -15,9 +15,9 @@ use Rattle.json_pieces.specs.declared.seams.Seam.{Seam}
 
 -- a part with this value
 abbrev pub piece_with : Seam → List ℕ → Piece
-piece_with s value = record { blank = text_bytes s.blank; name = text_bytes s.name; colons = text_bytes s.colons; value = value; trail = text_bytes s.trail }
+piece_with s value = record { whitespace = text_bytes s.whitespace; name = text_bytes s.name; colons = text_bytes s.colons; value = value; trail = text_bytes s.trail }
 
--- A value is shut, or wide: a row of parts, with the length that is kept of it and the blanks that it has where it is empty. Of as many
+-- A value is shut, or wide: a row of parts, with the length that is kept of it and the whitespace that it has where it is empty. Of as many
 -- values as seams there are parts; else the row is torn.
 mutual
   pub data Tree : Type 0 where
@@ -65,11 +65,11 @@ abbrev mutual
 
 -- ---- what is kept fits together
 
--- the parts are those of some members or items, and n is the length of their text
+-- the parts are those of some members or elements, and n is the length of their text
 pub record IsRow (b : Bool) (n : ℕ) (hollow : List ℕ) (ps : List Piece) : Type 0 where
   pub cs : List Child
   pub suit : AllSuit b cs ps
-  pub blank : IsBlank hollow
+  pub whitespace : IsWhitespace hollow
   pub size : n ≡ length (row_text b hollow ps)
 
 abbrev mutual
@@ -82,7 +82,7 @@ abbrev mutual
   AreSound torn = ⊥
   AreSound (part s t ps) = IsSound t × AreSound ps
 
--- it makes the text of a value, with no blank at its front or end
+-- it makes the text of a value, with no whitespace at its front or end
 abbrev pub IsWhole : Tree → Type 0
 IsWhole t = IsSound t × ((j : Json) × IsTextOf (tree_text t) j)
 
@@ -93,12 +93,12 @@ mark_before b (suc n) = 44
 
 -- before its value
 abbrev pub lead_of : Seam → List ℕ
-lead_of s = text_bytes s.blank ++ (text_bytes s.name ++ text_bytes s.colons)
+lead_of s = text_bytes s.whitespace ++ (text_bytes s.name ++ text_bytes s.colons)
 
 abbrev pub row_pieces : Row → List Piece
 row_pieces r = pieces (row_parts r)
 
--- neither an object nor a list is shut in it
+-- neither an object nor an array is shut in it
 abbrev pub IsOpened : Tree → Type 0
 IsOpened (shut s) = (j : Json) → Says s j → IsLeaf j
 IsOpened (wide b n hollow ps) = ⊤

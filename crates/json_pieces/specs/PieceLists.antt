@@ -1,17 +1,17 @@
 -- The pieces of a row with one changed, taken out or put in.
 use Rattle.std.specs.Prelude.{ℕ, zero, suc, List, [], ◌∷◌, ◌++◌, take, drop}
 use Rattle.json_text.specs.Cuts.{Piece}
-use Rattle.json_text.specs.Styled.{blanks_like, colons_like}
+use Rattle.json_text.specs.Styled.{colons_like, whitespace_like}
 
--- with another value's text, with other blanks before it, and with others behind it
+-- with another value's text, with other whitespace before it, and with other behind it
 abbrev pub valued : List ℕ → Piece → Piece
-valued s p = record { blank = p.blank; name = p.name; colons = p.colons; value = s; trail = p.trail }
+valued s p = record { whitespace = p.whitespace; name = p.name; colons = p.colons; value = s; trail = p.trail }
 
 abbrev pub led : List ℕ → Piece → Piece
-led s p = record { blank = s; name = p.name; colons = p.colons; value = p.value; trail = p.trail }
+led s p = record { whitespace = s; name = p.name; colons = p.colons; value = p.value; trail = p.trail }
 
 abbrev pub trailed : List ℕ → Piece → Piece
-trailed s p = record { blank = p.blank; name = p.name; colons = p.colons; value = p.value; trail = s }
+trailed s p = record { whitespace = p.whitespace; name = p.name; colons = p.colons; value = p.value; trail = s }
 
 -- the one of number n has the value's text s
 abbrev pub with_value : ℕ → List ℕ → List Piece → List Piece
@@ -19,7 +19,7 @@ with_value n s [] = []
 with_value zero s (p ∷ ps) = valued s p ∷ ps
 with_value (suc n) s (p ∷ ps) = p ∷ with_value n s ps
 
--- behind the last stand the blanks s
+-- behind the last stands the whitespace s
 abbrev pub with_last_trail : List ℕ → List Piece → List Piece
 with_last_trail s [] = []
 with_last_trail s (p ∷ []) = trailed s p ∷ []
@@ -27,10 +27,10 @@ with_last_trail s (p ∷ q ∷ ps) = p ∷ with_last_trail s (q ∷ ps)
 
 -- ---- taken out
 
--- between these p is taken out: its blanks go to the next, or those behind it to the one before
+-- between these p is taken out: its whitespace goes to the next, or that behind it to the one before
 abbrev pub taken_from : List Piece → Piece → List Piece → List Piece
 taken_from pre p [] = with_last_trail p.trail pre
-taken_from pre p (q ∷ post) = pre ++ (led p.blank q ∷ post)
+taken_from pre p (q ∷ post) = pre ++ (led p.whitespace q ∷ post)
 
 abbrev pub taken_by : List Piece → List Piece → List Piece
 taken_by pre [] = pre
@@ -42,15 +42,15 @@ taken n ps = taken_by (take n ps) (drop n ps)
 
 -- ---- put in
 
--- what comes behind p as p does, by the text of its name and of its value; and what comes alone in a row with these blanks
+-- what comes behind p as p does, by the text of its name and of its value; and what comes alone in a row with this whitespace
 abbrev pub member_like : Piece → List ℕ → List ℕ → Piece
-member_like p name s = record { blank = blanks_like p.blank; name = name; colons = colons_like p.colons; value = s; trail = p.trail }
+member_like p name s = record { whitespace = whitespace_like p.whitespace; name = name; colons = colons_like p.colons; value = s; trail = p.trail }
 
 abbrev pub member_alone : List ℕ → List ℕ → List ℕ → Piece
-member_alone hollow name s = record { blank = []; name = name; colons = 58 ∷ []; value = s; trail = hollow }
+member_alone hollow name s = record { whitespace = []; name = name; colons = 58 ∷ []; value = s; trail = hollow }
 
-abbrev pub item_between : List ℕ → List ℕ → List ℕ → Piece
-item_between blank s trail = record { blank = blank; name = []; colons = []; value = s; trail = trail }
+abbrev pub element_between : List ℕ → List ℕ → List ℕ → Piece
+element_between whitespace s trail = record { whitespace = whitespace; name = []; colons = []; value = s; trail = trail }
 
 -- a member more behind the last
 abbrev pub member_pushed : List ℕ → List ℕ → List ℕ → List Piece → List Piece
@@ -58,22 +58,22 @@ member_pushed hollow name s [] = member_alone hollow name s ∷ []
 member_pushed hollow name s (p ∷ []) = trailed [] p ∷ member_like p name s ∷ []
 member_pushed hollow name s (p ∷ q ∷ ps) = p ∷ member_pushed hollow name s (q ∷ ps)
 
--- an item more behind the last
-abbrev pub item_pushed : List ℕ → List ℕ → List Piece → List Piece
-item_pushed hollow s [] = item_between [] s hollow ∷ []
-item_pushed hollow s (p ∷ []) = trailed [] p ∷ item_between (blanks_like p.blank) s p.trail ∷ []
-item_pushed hollow s (p ∷ q ∷ ps) = p ∷ item_pushed hollow s (q ∷ ps)
+-- an element more behind the last
+abbrev pub element_pushed : List ℕ → List ℕ → List Piece → List Piece
+element_pushed hollow s [] = element_between [] s hollow ∷ []
+element_pushed hollow s (p ∷ []) = trailed [] p ∷ element_between (whitespace_like p.whitespace) s p.trail ∷ []
+element_pushed hollow s (p ∷ q ∷ ps) = p ∷ element_pushed hollow s (q ∷ ps)
 
--- whose blanks those of the item p between these are like once another stands before it: of the first the second's
-abbrev pub neighbour_blank : List Piece → Piece → List Piece → List ℕ
-neighbour_blank [] p [] = p.blank
-neighbour_blank [] p (q ∷ post) = q.blank
-neighbour_blank (o ∷ pre) p post = p.blank
+-- the whitespace like which that of the element p between these is once another stands before it: of the first the second's
+abbrev pub neighbour_whitespace : List Piece → Piece → List Piece → List ℕ
+neighbour_whitespace [] p [] = p.whitespace
+neighbour_whitespace [] p (q ∷ post) = q.whitespace
+neighbour_whitespace (o ∷ pre) p post = p.whitespace
 
-abbrev pub item_put_by : List ℕ → List Piece → List Piece → List Piece
-item_put_by s pre [] = pre
-item_put_by s pre (p ∷ post) = pre ++ (item_between p.blank s [] ∷ led (blanks_like (neighbour_blank pre p post)) p ∷ post)
+abbrev pub element_put_by : List ℕ → List Piece → List Piece → List Piece
+element_put_by s pre [] = pre
+element_put_by s pre (p ∷ post) = pre ++ (element_between p.whitespace s [] ∷ led (whitespace_like (neighbour_whitespace pre p post)) p ∷ post)
 
--- an item more before the one of number n
-abbrev pub item_put : ℕ → List ℕ → List Piece → List Piece
-item_put n s ps = item_put_by s (take n ps) (drop n ps)
+-- an element more before the one of number n
+abbrev pub element_put : ℕ → List ℕ → List Piece → List Piece
+element_put n s ps = element_put_by s (take n ps) (drop n ps)

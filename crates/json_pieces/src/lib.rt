@@ -1,10 +1,10 @@
 //! A JSON text in pieces, for many changes one after another.
 //!
 //! Each call of [`Pieces`] reads or changes one place, as the call of that name of `json_text` does, and
-//! a proof may speak of the text alone. But an object or a list on the way is passed over once, however
+//! a proof may speak of the text alone. But an object or an array on the way is passed over once, however
 //! many calls go through it, and the text is put together at the end: so a patch of a hundred operations
-//! on one list finds its items once. For a single change use `json_text`. A call that runs out of memory
-//! leaves the pieces unfit for further use.
+//! on one array finds its elements once. For a single change use `json_text`. A call that runs out of
+//! memory leaves the pieces unfit for further use.
 //!
 //! ```rust
 //! let mut pieces = Pieces::new(text);

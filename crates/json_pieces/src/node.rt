@@ -13,20 +13,20 @@ use std::alloc::{AllocError, Global};
 #[derive(Drop)]
 #[cycle(node)]
 pub(crate) enum Node<'a> {
-    /// By its text, with no blank at its front or end.
+    /// By its text, with no whitespace at its front or end.
     Closed(Text<'a>),
     /// In a box, so that a removal moves few bytes for each value behind it.
     Open(Box<Row<'a>>),
 }
 
-/// An object or a list.
+/// An object or an array.
 #[derive(Drop)]
 #[cycle(node)]
 pub(crate) struct Row<'a> {
     pub named: bool,
     /// How many bytes its text has.
     pub length: usize,
-    /// The blanks between the brackets where no value stands there.
+    /// The whitespace between the brackets where no value stands there.
     pub hollow: Text<'a>,
     pub seams: Seams<'a>,
     pub values: Vec<Node<'a>>,
@@ -81,7 +81,7 @@ fn write_row(row: &Row<'_>, out: &mut String) -> Result<(), AllocError>
     out.push_str(closing(row.named))
 }
 
-/// Writes brackets with nothing but blanks.
+/// Writes brackets with nothing but whitespace.
 fn write_hollow(row: &Row<'_>, out: &mut String) -> Result<(), AllocError>
     ensures { OnOk result (string_bytes out.new
         ≡ string_bytes out.old ++ row_text row.now.named (text_bytes row.now.hollow) []) }
@@ -95,12 +95,12 @@ fn write_hollow(row: &Row<'_>, out: &mut String) -> Result<(), AllocError>
 fn write_lead(seam: &Seam<'_>, out: &mut String) -> Result<(), AllocError>
     ensures { OnOk result (string_bytes out.new ≡ string_bytes out.old ++ lead_of seam.now) }
 {
-    out.push_str(seam.blank.as_str())?;
+    out.push_str(seam.whitespace.as_str())?;
     out.push_str(seam.name.as_str())?;
     out.push_str(seam.colons.as_str())
 }
 
-/// What stands before a member or an item of this number.
+/// What stands before a member or an element of this number.
 fn mark(named: bool, number: usize) -> &'static str
     ensures { result.now ≡ mark_before named number ∷ [] }
 {

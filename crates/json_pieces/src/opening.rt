@@ -1,4 +1,4 @@
-//! An object or a list, opened: one pass over its text.
+//! An object or an array, opened: one pass over its text.
 
 ghost use Rattle.std.specs.Prelude.{◌≡◌, IfOk, MatchOption, OnOk, List, length, ℕ};
 ghost use Rattle.json.specs.Json.{Json};
@@ -12,10 +12,10 @@ ghost use Rattle.json_lexemes.specs.Spelled.{Says};
 use crate::node::{Node, Row, written};
 use crate::seams::{Seam, Seams};
 use crate::text::Text;
-use json_text::{Cut, Shape, blanks_at, cut_at};
+use json_text::{Cut, Shape, cut_at, whitespace_at};
 use std::alloc::{AllocError, Global};
 
-/// The row of a text that is an object or a list.
+/// The row of a text that is an object or an array.
 fn row_of<'a>(alloc: Global, text: &'a str, named: bool) -> Result<Row<'a>, AllocError>
     requires { (cs : List Child) × IsTextOf text.now (tree_in named cs) }
     ensures { IfOk result (IsRowOf text.now) }
@@ -31,7 +31,7 @@ fn row_of<'a>(alloc: Global, text: &'a str, named: bool) -> Result<Row<'a>, Allo
         };
         from = next;
     }
-    let hollow = blanks_at(text, from);
+    let hollow = whitespace_at(text, from);
     Ok(row_with(text.len(), named, Text::Kept(hollow), (seams, values)))
 }
 
@@ -40,7 +40,7 @@ fn seam_of(cut: Cut<'_>) -> Seam<'_>
     ensures { piece_with result cut.entry.value.now ≡ piece_of cut.entry }
 {
     Seam {
-        blank: Text::Kept(cut.blank),
+        whitespace: Text::Kept(cut.whitespace),
         name: Text::Kept(cut.name),
         colons: Text::Kept(cut.colons),
         trail: Text::Kept(cut.trail),
@@ -70,7 +70,7 @@ fn row_with<'a>(
     }
 }
 
-/// The row of a text; `None` where that is neither an object nor a list.
+/// The row of a text; `None` where that is neither an object nor an array.
 fn opened<'a>(alloc: Global, text: &'a str) -> Result<Option<Row<'a>>, AllocError>
     requires { (j : Json) × IsTextOf text.now j }
     ensures { IfOk result (λ found. MatchOption found ((j : Json) → Says text.now j → IsLeaf j)
@@ -78,7 +78,7 @@ fn opened<'a>(alloc: Global, text: &'a str) -> Result<Option<Row<'a>>, AllocErro
 {
     match Shape::of(text) {
         Shape::Object => Ok(Some(row_of(alloc, text, true)?)),
-        Shape::List => Ok(Some(row_of(alloc, text, false)?)),
+        Shape::Array => Ok(Some(row_of(alloc, text, false)?)),
         _ => Ok(None),
     }
 }
@@ -88,7 +88,7 @@ fn owned_seam<'a>(alloc: Global, seam: &Seam<'_>) -> Result<Seam<'a>, AllocError
     ensures { IfOk result (λ own. (x : List ℕ) → piece_with own x ≡ piece_with seam.now x) }
 {
     Ok(Seam {
-        blank: Text::made(alloc, seam.blank.as_str())?,
+        whitespace: Text::made(alloc, seam.whitespace.as_str())?,
         name: Text::made(alloc, seam.name.as_str())?,
         colons: Text::made(alloc, seam.colons.as_str())?,
         trail: Text::made(alloc, seam.trail.as_str())?,
@@ -111,7 +111,7 @@ fn owned<'a>(alloc: Global, row: &Row<'_>) -> Result<Row<'a>, AllocError>
     Ok(row_with(row.length, row.named, hollow, (seams, values)))
 }
 
-/// The row of a value that is closed, if it is an object or a list.
+/// The row of a value that is closed, if it is an object or an array.
 fn row_for<'a>(alloc: Global, node: &Node<'a>) -> Result<Option<Row<'a>>, AllocError>
     requires { IsWhole (view node.now) }
     ensures { IfOk result (λ found. MatchOption found (IsOpened (view node.now))
@@ -137,7 +137,7 @@ fn ask(alloc: Global, row: &mut Row<'_>) -> Result<(), AllocError>
     Ok(())
 }
 
-/// Opens the value, if it is an object or a list, so that a token can be looked for in it.
+/// Opens the value, if it is an object or an array, so that a token can be looked for in it.
 pub(crate) fn open(alloc: Global, node: &mut Node<'_>) -> Result<(), AllocError>
     requires { IsWhole (view node.old) }
     ensures whole { OnOk result (IsWhole (view node.new)) }

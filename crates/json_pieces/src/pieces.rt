@@ -4,18 +4,18 @@ use crate::edit::{Edit, edit_at};
 use crate::node::{Node, write};
 use crate::shape::shape_at;
 use crate::text::Text;
-use json_text::{CheckedText, Shape, split_blanks};
+use json_text::{CheckedText, Shape, split_off_whitespace};
 use jsonptr::{Pointer, Tokens};
 use std::alloc::{AllocError, Global};
 
 /// A JSON text in pieces.
 ///
 /// At first the text is one piece. A call goes down by the pointer's tokens and opens each object and
-/// list that it comes to: one pass over its text, after which it stays open. In an open list an item is
-/// found at once, in an open object a member by comparing names. When an object of at least 32 members
+/// array that it comes to: one pass over its text, after which it stays open. In an open array an element
+/// is found at once, in an open object a member by comparing names. When an object of at least 32 members
 /// has been asked for a name 16 times, the next call makes an index of its names, and a member is found
 /// in as many steps as the logarithm of their number. The index is kept while members are added and
-/// removed. An open one takes some 170 bytes of memory for each member or item, and an index, by
+/// removed. An open one takes some 170 bytes of memory for each member or element, and an index, by
 /// reckoning, some 110 for each name, with the name once more.
 ///
 /// A call that runs out of memory leaves pieces of which nothing is known: let them go. `replace` and
@@ -42,7 +42,7 @@ impl<'a> Pieces<'a> {
     ghost use Rattle.json_text.specs.Pointed.{tree_at, IsWrittenAt};
     ghost use Rattle.json_lexemes.specs.Spelled.{IsShallowText};
 
-    /// The text, in one piece: only the blanks around its value are looked for, and nothing is copied.
+    /// The text, in one piece: only the whitespace around its value is looked for, and nothing is copied.
     ///
     /// ```rust
     /// let text = CheckedText::new(alloc, r#"{"list": [1.50, 2] }"#)?;
@@ -56,7 +56,7 @@ impl<'a> Pieces<'a> {
         let text = text.as_str();
         // The length of a text fits a `usize`.
         let _fits = text.len();
-        let (before, value, behind) = split_blanks(text);
+        let (before, value, behind) = split_off_whitespace(text);
         let root = Node::Closed(Text::Kept(value));
         Pieces {
             before,
@@ -112,10 +112,10 @@ impl<'a> Pieces<'a> {
 
     /// The text of the value where the pointer leads (RFC 6901, section 4), as it is written, in a new
     /// string; `None` where nothing stands there. The text stays as it is, though more of it is open:
-    /// the objects and lists on the way, and not the value.
+    /// the objects and arrays on the way, and not the value.
     ///
     /// ```rust
-    /// let list = pieces.value(alloc, place)?;
+    /// let array = pieces.value(alloc, place)?;
     /// // [1.50, 2]
     /// ```
     pub fn value(&mut self, alloc: Global, pointer: Pointer) -> Result<Option<String>, AllocError>
@@ -130,13 +130,13 @@ impl<'a> Pieces<'a> {
         self.edit(alloc, pointer.tokens(), Edit::Read)
     }
 
-    /// What stands where the pointer leads (RFC 6901, section 4): an object, a list, a string or an atom;
-    /// `None` where nothing stands there. It copies nothing. The text stays as it is, though more of it
-    /// is open: the objects and lists on the way, and not the value.
+    /// What stands where the pointer leads (RFC 6901, section 4): an object, an array, a string or an
+    /// atom; `None` where nothing stands there. It copies nothing. The text stays as it is, though more of
+    /// it is open: the objects and arrays on the way, and not the value.
     ///
     /// ```rust
     /// let shape = pieces.shape(alloc, place)?;
-    /// // List
+    /// // Array
     /// ```
     pub fn shape(&mut self, alloc: Global, pointer: Pointer) -> Result<Option<Shape>, AllocError>
         requires pieces { ArePieces self.old }
@@ -149,7 +149,7 @@ impl<'a> Pieces<'a> {
         shape_at(alloc, &mut self.root, pointer.tokens())
     }
 
-    /// Exchanges the value where the pointer leads for another, as it is written, without the blanks
+    /// Exchanges the value where the pointer leads for another, as it is written, without the whitespace
     /// around it. `false` where nothing stands there, and then the text is as before.
     ///
     /// ```rust
@@ -168,14 +168,14 @@ impl<'a> Pieces<'a> {
         ensures pieces { IfOk result (λ done. ArePieces self.new) }
         ensures replaced { IfOk result (Replaces (text_of self.old) (tokens_of pointer.entry) (text_in value.entry) (text_of self.new)) }
     {
-        let (_, value, _) = split_blanks(value.as_str());
+        let (_, value, _) = split_off_whitespace(value.as_str());
         let found = self.edit(alloc, pointer.tokens(), Edit::Put(value))?;
         Ok(found.is_some())
     }
 
-    /// Takes out the member or item where the pointer leads (RFC 6902, section 4.2), and of several
-    /// members of one name all, with the comma and the blanks that `json_text::remove` cuts. `false`
-    /// where nothing stands there, and of the whole, and then the text is as before. In a long list or
+    /// Takes out the member or element where the pointer leads (RFC 6902, section 4.2), and of several
+    /// members of one name all, with the comma and the whitespace that `json_text::remove` cuts. `false`
+    /// where nothing stands there, and of the whole, and then the text is as before. In a long array or
     /// object those behind it move up.
     ///
     /// ```rust
@@ -198,8 +198,8 @@ impl<'a> Pieces<'a> {
     }
 
     /// Adds a value where the pointer leads (RFC 6902, section 4.1), as it is written, with the comma,
-    /// the blanks and the colon that `json_text::add` gives it. `false` where there is no place for it,
-    /// and then the text is as before. In a long list those behind it move down.
+    /// the whitespace and the colon that `json_text::add` gives it. `false` where there is no place for
+    /// it, and then the text is as before. In a long array those behind it move down.
     ///
     /// ```rust
     /// let done = pieces.add(alloc, place, value)?;
@@ -220,7 +220,7 @@ impl<'a> Pieces<'a> {
         let Some((parent, last)) = pointer.split_back() else {
             return self.replace(alloc, pointer, value);
         };
-        let (_, value, _) = split_blanks(value.as_str());
+        let (_, value, _) = split_off_whitespace(value.as_str());
         let name = last.decoded(alloc)?;
         let found = self.edit(alloc, parent.tokens(), Edit::Insert(name.as_str(), value))?;
         Ok(found.is_some())

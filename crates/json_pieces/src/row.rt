@@ -1,4 +1,4 @@
-//! A member or an item found in a row, taken out of it or put into it.
+//! A member or an element found in a row, taken out of it or put into it.
 
 ghost use Rattle.std.specs.Prelude.{◌≡◌, ◌<◌, ◌≤◌, ◌+◌, ◌^◌, [], false, length, vec_len, List, ℕ, true, Some, None, IfNone, IfOk, IfSome, MatchOption, OnOk};
 ghost use Rattle.jsonptr.specs.Places.{place_of};
@@ -6,7 +6,7 @@ ghost use Rattle.json.specs.Json.{Json};
 ghost use Rattle.json_pieces.specs.Edits.{PutsIn, TakesOut};
 ghost use Rattle.json_pieces.specs.Nodes.{IsSound, piece_with, row_pieces, row_view, text_bytes, tree_text};
 ghost use Rattle.json_pieces.specs.Lengths.{HasGained, HasLost, seam_length};
-ghost use Rattle.json_pieces.specs.PieceLists.{item_between, item_pushed, item_put, member_pushed, taken, with_value};
+ghost use Rattle.json_pieces.specs.PieceLists.{element_between, element_pushed, element_put, member_pushed, taken, with_value};
 ghost use Rattle.json_pieces.specs.declared.node.Node.TheVariants.{Closed};
 ghost use Rattle.std.specs.List.{insert};
 ghost use Rattle.json.specs.Print.{quoted};
@@ -36,8 +36,8 @@ pub(crate) fn resized(length: usize, less: usize, more: usize) -> Result<usize, 
     }
 }
 
-/// The number of the item that a token names, of so many.
-fn item_number(name: &str, count: usize) -> Option<usize>
+/// The number of the element that a token names, of so many.
+fn element_number(name: &str, count: usize) -> Option<usize>
     ensures place { IfSome result (λ n. place_of name.now ≡ Some n) }
     ensures within { IfSome result (λ n. n < count) }
     ensures none { IfNone result ((cs : List Child) → length cs ≡ count
@@ -50,7 +50,7 @@ fn item_number(name: &str, count: usize) -> Option<usize>
     }
 }
 
-/// The number of the member or item that a token names, if it is there.
+/// The number of the member or element that a token names, if it is there.
 pub(crate) fn number_of(row: &Row<'_>, name: &str) -> Option<usize>
     requires sound { IsSound (row_view row.now) }
     ensures number { (cs : List Child) → AllSuit row.now.named cs (row_pieces row.now)
@@ -61,7 +61,7 @@ pub(crate) fn number_of(row: &Row<'_>, name: &str) -> Option<usize>
     if row.named {
         row.seams.last_named(name)
     } else {
-        item_number(name, row.values.len())
+        element_number(name, row.values.len())
     }
 }
 
@@ -70,11 +70,11 @@ impl<'a> Seam<'a> {
         requires { seam_length self.now < 2 ^ 64 }
         ensures { result ≡ seam_length self.now }
     {
-        self.blank.len() + self.name.len() + self.colons.len() + self.trail.len()
+        self.whitespace.len() + self.name.len() + self.colons.len() + self.trail.len()
     }
 }
 
-/// Takes out one that is not the last: its blanks stay, before the next one.
+/// Takes out one that is not the last: its whitespace stays, before the next one.
 fn take_before(row: &mut Row<'_>, number: usize, name: &str)
     requires sound { IsSound (row_view row.old) }
     requires within { number + 1 < vec_len row.old.values }
@@ -88,11 +88,11 @@ fn take_before(row: &mut Row<'_>, number: usize, name: &str)
     let mut seam = row.seams.remove(number, name);
     let value = row.values.remove(number);
     let seams = &mut row.seams;
-    mem::swap(&mut seams.list[number].blank, &mut seam.blank);
+    mem::swap(&mut seams.list[number].whitespace, &mut seam.whitespace);
     row.length = length - (seam.len() + value.len() + 1);
 }
 
-/// Takes out the last of several: the blanks behind it stay, behind the one before.
+/// Takes out the last of several: the whitespace behind it stays, behind the one before.
 fn take_last(row: &mut Row<'_>, number: usize, name: &str)
     requires sound { IsSound (row_view row.old) }
     requires first { 0 < number }
@@ -127,8 +127,8 @@ fn take_alone(row: &mut Row<'_>, name: &str)
     row.length = 2;
 }
 
-/// Takes out the member or item of this number, the last of this name. Its blanks stay before the next
-/// one; of the last one the blanks behind it stay, behind the one before.
+/// Takes out the member or element of this number, the last of this name. Its whitespace stays before the
+/// next one; of the last one the whitespace behind it stays, behind the one before.
 fn take_part(row: &mut Row<'_>, number: usize, name: &str)
     requires sound { IsSound (row_view row.old) }
     requires within { number < vec_len row.old.values }
@@ -197,7 +197,7 @@ fn lengthened(
 ) -> Result<usize, AllocError>
     ensures { IfOk result (λ new. new ≡ length + (seam_length seam.now + value + commas)) }
 {
-    let length = resized(length, 0, seam.blank.len())?;
+    let length = resized(length, 0, seam.whitespace.len())?;
     let length = resized(length, 0, seam.name.len())?;
     let length = resized(length, 0, seam.colons.len())?;
     let length = resized(length, 0, seam.trail.len())?;
@@ -231,13 +231,13 @@ fn put_part<'a>(
     Ok(())
 }
 
-/// A seam of an item.
-fn around<'a>(blank: Text<'a>, trail: Text<'a>) -> Seam<'a>
-    ensures piece { (u : List ℕ) → piece_with result u ≡ item_between (text_bytes blank.entry) u (text_bytes trail.entry) }
-    ensures length { seam_length result ≡ length (text_bytes blank.entry) + length (text_bytes trail.entry) }
+/// A seam of an element.
+fn around<'a>(whitespace: Text<'a>, trail: Text<'a>) -> Seam<'a>
+    ensures piece { (u : List ℕ) → piece_with result u ≡ element_between (text_bytes whitespace.entry) u (text_bytes trail.entry) }
+    ensures length { seam_length result ≡ length (text_bytes whitespace.entry) + length (text_bytes trail.entry) }
 {
     Seam {
-        blank,
+        whitespace,
         name: Text::Kept(""),
         colons: Text::Kept(""),
         trail,
@@ -245,21 +245,21 @@ fn around<'a>(blank: Text<'a>, trail: Text<'a>) -> Seam<'a>
 }
 
 /// A seam of a member.
-fn labelled<'a>(blank: Text<'a>, name: Text<'a>, colons: Text<'a>, trail: Text<'a>) -> Seam<'a>
-    ensures blank { result.blank ≡ blank.entry }
+fn labelled<'a>(whitespace: Text<'a>, name: Text<'a>, colons: Text<'a>, trail: Text<'a>) -> Seam<'a>
+    ensures whitespace { result.whitespace ≡ whitespace.entry }
     ensures name { result.name ≡ name.entry }
     ensures colons { result.colons ≡ colons.entry }
     ensures trail { result.trail ≡ trail.entry }
 {
     Seam {
-        blank,
+        whitespace,
         name,
         colons,
         trail,
     }
 }
 
-/// Takes the blanks out of an empty row.
+/// Takes the whitespace out of an empty row.
 fn hollowed<'a>(row: &mut Row<'a>) -> Text<'a>
     requires sound { IsSound (row_view row.old) }
     requires empty { vec_len row.old.values ≡ 0 }
@@ -275,7 +275,7 @@ fn hollowed<'a>(row: &mut Row<'a>) -> Text<'a>
     trail
 }
 
-/// Takes the blanks behind the last member or item, which has this number.
+/// Takes the whitespace behind the last member or element, which has this number.
 fn trail_of<'a>(row: &mut Row<'a>, number: usize) -> Text<'a>
     requires sound { IsSound (row_view row.old) }
     requires last { number < vec_len row.old.values }
@@ -309,7 +309,7 @@ fn first_member<'a>(
     let name = Text::Made(quoted(alloc, name)?);
     let trail = hollowed(row);
     let seam = Seam {
-        blank: Text::Kept(""),
+        whitespace: Text::Kept(""),
         name,
         colons: Text::Kept(":"),
         trail,
@@ -335,27 +335,27 @@ fn next_member<'a>(
     ensures sound { OnOk result (IsSound (row_view row.new)) }
 {
     let name = Text::Made(quoted(alloc, name)?);
-    let blank = row.seams.list[last].blank.blanks_like(alloc)?;
+    let whitespace = row.seams.list[last].whitespace.whitespace_like(alloc)?;
     let colons = row.seams.list[last].colons.colons_like(alloc)?;
     let trail = trail_of(row, last);
     put_part(
         row,
         last + 1,
-        labelled(blank, name, colons, trail),
+        labelled(whitespace, name, colons, trail),
         value,
         1,
     )?;
     Ok(())
 }
 
-/// Puts an item into an empty row.
-fn first_item<'a>(row: &mut Row<'a>, value: Text<'a>) -> Result<(), AllocError>
+/// Puts an element into an empty row.
+fn first_element<'a>(row: &mut Row<'a>, value: Text<'a>) -> Result<(), AllocError>
     requires sound { IsSound (row_view row.old) }
-    requires list { row.old.named ≡ false }
+    requires array { row.old.named ≡ false }
     requires empty { vec_len row.old.values ≡ 0 }
     requires value { (w : Json) × IsTextOf (text_bytes value) w }
     ensures named { OnOk result (row.new.named ≡ row.old.named) }
-    ensures pieces { OnOk result (row_pieces row.new ≡ item_pushed (text_bytes row.old.hollow) (text_bytes value.entry) (row_pieces row.old)) }
+    ensures pieces { OnOk result (row_pieces row.new ≡ element_pushed (text_bytes row.old.hollow) (text_bytes value.entry) (row_pieces row.old)) }
     ensures sound { OnOk result (IsSound (row_view row.new)) }
 {
     let trail = hollowed(row);
@@ -363,29 +363,29 @@ fn first_item<'a>(row: &mut Row<'a>, value: Text<'a>) -> Result<(), AllocError>
     Ok(())
 }
 
-/// Puts an item behind the last one, which has this number.
-fn next_item<'a>(
+/// Puts an element behind the last one, which has this number.
+fn next_element<'a>(
     alloc: Global,
     row: &mut Row<'a>,
     last: usize,
     value: Text<'a>,
 ) -> Result<(), AllocError>
     requires sound { IsSound (row_view row.old) }
-    requires list { row.old.named ≡ false }
+    requires array { row.old.named ≡ false }
     requires last { last + 1 ≡ vec_len row.old.values }
     requires value { (w : Json) × IsTextOf (text_bytes value) w }
     ensures named { OnOk result (row.new.named ≡ row.old.named) }
-    ensures pieces { OnOk result (row_pieces row.new ≡ item_pushed (text_bytes row.old.hollow) (text_bytes value.entry) (row_pieces row.old)) }
+    ensures pieces { OnOk result (row_pieces row.new ≡ element_pushed (text_bytes row.old.hollow) (text_bytes value.entry) (row_pieces row.old)) }
     ensures sound { OnOk result (IsSound (row_view row.new)) }
 {
-    let blank = row.seams.list[last].blank.blanks_like(alloc)?;
+    let whitespace = row.seams.list[last].whitespace.whitespace_like(alloc)?;
     let trail = trail_of(row, last);
-    put_part(row, last + 1, around(blank, trail), value, 1)?;
+    put_part(row, last + 1, around(whitespace, trail), value, 1)?;
     Ok(())
 }
 
-/// Like whose blanks those before an item of this number are, once another comes before it: the second's
-/// before the first, if there is a second.
+/// Like whose whitespace that before an element of this number is, once another comes before it: the
+/// second's before the first, if there is a second.
 fn like_number(number: usize, count: usize) -> usize
     requires { number < count }
     ensures within { result < count }
@@ -395,43 +395,51 @@ fn like_number(number: usize, count: usize) -> usize
     if number == 0 && count > 1 { 1 } else { number }
 }
 
-/// Exchanges the blanks before an item, and answers with those that stood there.
-fn blank_of<'a>(row: &mut Row<'a>, number: usize, blank: Text<'a>) -> Result<Text<'a>, AllocError>
+/// Exchanges the whitespace before an element, and answers with what stood there.
+fn whitespace_of<'a>(
+    row: &mut Row<'a>,
+    number: usize,
+    whitespace: Text<'a>,
+) -> Result<Text<'a>, AllocError>
     requires sound { IsSound (row_view row.old) }
     requires within { number < vec_len row.old.values }
-    ensures blank { IfOk result (λ old. HasGained row.old.seams.list.items number (text_bytes blank.entry) old row.new.seams.list.items) }
+    ensures whitespace { IfOk result (λ old. HasGained row.old.seams.list.items number (text_bytes whitespace.entry) old row.new.seams.list.items) }
     ensures named { row.new.named ≡ row.old.named }
     ensures hollow { row.new.hollow ≡ row.old.hollow }
     ensures values { row.new.values ≡ row.old.values }
-    ensures length { IfOk result (λ old. row.new.length + length (text_bytes old) ≡ row.old.length + length (text_bytes blank.entry)) }
+    ensures length { IfOk result (λ old. row.new.length + length (text_bytes old) ≡ row.old.length + length (text_bytes whitespace.entry)) }
 {
-    let length = resized(row.length, row.seams.list[number].blank.len(), blank.len())?;
+    let length = resized(
+        row.length,
+        row.seams.list[number].whitespace.len(),
+        whitespace.len(),
+    )?;
     let seams = &mut row.seams;
-    let old = mem::replace(&mut seams.list[number].blank, blank);
+    let old = mem::replace(&mut seams.list[number].whitespace, whitespace);
     row.length = length;
     Ok(old)
 }
 
-/// Puts an item before the one of this number. The blanks of that one go to the new one; blanks like
-/// these, or before the first like those of the second, stand before that one.
-fn item_before<'a>(
+/// Puts an element before the one of this number. The whitespace of that one goes to the new one;
+/// whitespace like it, or before the first like that of the second, stands before that one.
+fn element_before<'a>(
     alloc: Global,
     row: &mut Row<'a>,
     number: usize,
     value: Text<'a>,
 ) -> Result<(), AllocError>
     requires sound { IsSound (row_view row.old) }
-    requires list { row.old.named ≡ false }
+    requires array { row.old.named ≡ false }
     requires within { number < vec_len row.old.values }
     requires value { (w : Json) × IsTextOf (text_bytes value) w }
     ensures named { OnOk result (row.new.named ≡ row.old.named) }
-    ensures pieces { OnOk result (row_pieces row.new ≡ item_put number (text_bytes value.entry) (row_pieces row.old)) }
+    ensures pieces { OnOk result (row_pieces row.new ≡ element_put number (text_bytes value.entry) (row_pieces row.old)) }
     ensures sound { OnOk result (IsSound (row_view row.new)) }
 {
     let like = like_number(number, row.values.len());
-    let behind = row.seams.list[like].blank.blanks_like(alloc)?;
-    let blank = blank_of(row, number, behind)?;
-    put_part(row, number, around(blank, Text::Kept("")), value, 1)?;
+    let behind = row.seams.list[like].whitespace.whitespace_like(alloc)?;
+    let whitespace = whitespace_of(row, number, behind)?;
+    put_part(row, number, around(whitespace, Text::Kept("")), value, 1)?;
     Ok(())
 }
 
@@ -459,10 +467,15 @@ fn put_member(alloc: Global, row: &mut Row<'_>, name: &str, value: &str) -> Resu
     Ok(())
 }
 
-/// Puts a value in as the item at a place, if a list of so many has it.
-fn put_item(alloc: Global, row: &mut Row<'_>, name: &str, value: &str) -> Result<bool, AllocError>
+/// Puts a value in as the element at a place, if an array of so many has it.
+fn put_element(
+    alloc: Global,
+    row: &mut Row<'_>,
+    name: &str,
+    value: &str,
+) -> Result<bool, AllocError>
     requires sound { IsSound (row_view row.old) }
-    requires list { row.old.named ≡ false }
+    requires array { row.old.named ≡ false }
     requires value { (w : Json) × IsTextOf value.now w }
     ensures sound { OnOk result (IsSound (row_view row.new)) }
     ensures put { IfOk result (λ done. (j : Json) → Says (tree_text (row_view row.old)) j
@@ -478,14 +491,14 @@ fn put_item(alloc: Global, row: &mut Row<'_>, name: &str, value: &str) -> Result
     };
     let value = Text::made(alloc, value)?;
     if number < count {
-        item_before(alloc, row, number, value)?;
+        element_before(alloc, row, number, value)?;
         return Ok(true);
     }
     if count == 0 {
-        first_item(row, value)?;
+        first_element(row, value)?;
         return Ok(true);
     }
-    next_item(alloc, row, count - 1, value)?;
+    next_element(alloc, row, count - 1, value)?;
     Ok(true)
 }
 
@@ -507,5 +520,5 @@ pub(crate) fn put(
         put_member(alloc, row, name, value)?;
         return Ok(true);
     }
-    put_item(alloc, row, name, value)
+    put_element(alloc, row, name, value)
 }

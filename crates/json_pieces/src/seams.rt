@@ -21,16 +21,16 @@ const QUESTIONS: usize = 16;
 /// Of fewer members none is built.
 const MANY: usize = 32;
 
-/// What stands around a value in an object or a list.
+/// What stands around a value in an object or an array.
 #[derive(Drop)]
 pub(crate) struct Seam<'a> {
-    /// The blanks behind the bracket or the comma before it.
-    pub blank: Text<'a>,
-    /// A member's name as it is written; of an item nothing.
+    /// The whitespace behind the bracket or the comma before it.
+    pub whitespace: Text<'a>,
+    /// A member's name as it is written; of an element nothing.
     pub name: Text<'a>,
-    /// A member's colon, with the blanks around it; of an item nothing.
+    /// A member's colon, with the whitespace around it; of an element nothing.
     pub colons: Text<'a>,
-    /// The blanks behind the value.
+    /// The whitespace behind the value.
     pub trail: Text<'a>,
 }
 
@@ -91,7 +91,7 @@ fn indexed(alloc: Global, seams: &[Seam<'_>]) -> Result<NameIndex, AllocError>
 }
 
 /// The index, if there is one, once this seam is put in before that of this number. Behind the last it
-/// learns its name; before another, where only items are put in, it is dropped.
+/// learns its name; before another, where only elements are put in, it is dropped.
 fn index_with(
     alloc: Global,
     index: Option<NameIndex>,
@@ -181,7 +181,7 @@ impl<'a> Seams<'a> {
         Ok(())
     }
 
-    /// Takes out the seam of this number, the last of this name, or an item's.
+    /// Takes out the seam of this number, the last of this name, or an element's.
     pub(crate) fn remove(&mut self, number: usize, name: &str) -> Seam<'a>
         requires { number < vec_len self.old.list }
         ensures value { result ≡ slice_index_or self.old.list.items number result }

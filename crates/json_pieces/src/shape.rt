@@ -33,7 +33,7 @@ fn row_shape(row: &Row<'_>) -> Shape
     if row.named {
         Shape::Object
     } else {
-        Shape::List
+        Shape::Array
     }
 }
 

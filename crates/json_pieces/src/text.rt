@@ -2,9 +2,9 @@
 
 ghost use Rattle.std.specs.Prelude.{◌≡◌, IfOk, length};
 ghost use Rattle.json_pieces.specs.Nodes.{text_bytes};
-ghost use Rattle.json_text.specs.Styled.{blanks_like, colons_like};
+ghost use Rattle.json_text.specs.Styled.{colons_like, whitespace_like};
 
-use json_text::{blanks_like, colons_like};
+use json_text::{colons_like, whitespace_like};
 use std::alloc::{AllocError, Global};
 
 /// A stretch of the first text, or one that was made since.
@@ -40,13 +40,13 @@ impl<'a> Text<'a> {
         Ok(Text::Made(String::from_str(alloc, text)?))
     }
 
-    /// The blanks of a new member or item, by these of a neighbour.
-    pub(crate) fn blanks_like(&self, alloc: Global) -> Result<Text<'a>, AllocError>
-        ensures { IfOk result (λ copy. text_bytes copy ≡ blanks_like (text_bytes self.now)) }
+    /// The whitespace of a new member or element, by this of a neighbour.
+    pub(crate) fn whitespace_like(&self, alloc: Global) -> Result<Text<'a>, AllocError>
+        ensures { IfOk result (λ copy. text_bytes copy ≡ whitespace_like (text_bytes self.now)) }
     {
         match self {
-            Text::Kept(text) => Ok(Text::Kept(blanks_like(text))),
-            Text::Made(text) => Text::made(alloc, blanks_like(text.as_str())),
+            Text::Kept(text) => Ok(Text::Kept(whitespace_like(text))),
+            Text::Made(text) => Text::made(alloc, whitespace_like(text.as_str())),
         }
     }
 

@@ -13,7 +13,7 @@ use Rattle.serde_json.proofs.Views.{get_member-put, get_member-put_other}
 use Rattle.json_patch_document.specs.Document.{IsDocument, AreDocuments, AreMembers}
 use Rattle.json_patch_document.proofs.Members.{member_document}
 use Rattle.json_reading.specs.Reading.{Reading}
-use Rattle.json_reading.specs.Trees.{data_of, items_of, members_of}
+use Rattle.json_reading.specs.Trees.{data_of, elements_of, members_of}
 use Rattle.json_reading.proofs.Documents.{members_are, found, one_object}
 
 -- ---- the members that are read
@@ -63,18 +63,18 @@ number_as r s (Some n) d e h w =
     let f : number n ≡ d = same_Some (number n) d h in
     ap number (r.honest s n e (subst IsDocument (sym f) w)) ∙ f
 
-list_as : (r : Reading) (js : json.Items) (o : Option Items) (d : Data) → of_items js ≡ o → option_map array o ≡ Some d → IsDocument d
-    → ((ds : Items) → of_items js ≡ Some ds → AreDocuments ds → items_of r js ≡ ds) → array (items_of r js) ≡ d
-list_as r js None d e h w more = absurd (none-some d h)
-list_as r js (Some ds) d e h w more =
+array_as : (r : Reading) (js : json.Items) (o : Option Items) (d : Data) → of_items js ≡ o → option_map array o ≡ Some d → IsDocument d
+    → ((ds : Items) → of_items js ≡ Some ds → AreDocuments ds → elements_of r js ≡ ds) → array (elements_of r js) ≡ d
+array_as r js None d e h w more = absurd (none-some d h)
+array_as r js (Some ds) d e h w more =
     let f : array ds ≡ d = same_Some (array ds) d h in
     ap array (more ds e (subst IsDocument (sym f) w)) ∙ f
 
-items_as : (r : Reading) (j : Json) (js : json.Items) (o : Option Data) (p : Option Items) (ds : Items) → of_json j ≡ o → of_items js ≡ p → option_and_then (λ d. option_map (item d) p) o ≡ Some ds → AreDocuments ds
-    → IsReadAs r j → ((es : Items) → of_items js ≡ Some es → AreDocuments es → items_of r js ≡ es) → item (data_of r j) (items_of r js) ≡ ds
-items_as r j js None p ds e f h w here more = absurd (none-some ds h)
-items_as r j js (Some d) None ds e f h w here more = absurd (none-some ds h)
-items_as r j js (Some d) (Some es) ds e f h w here more =
+elements_as : (r : Reading) (j : Json) (js : json.Items) (o : Option Data) (p : Option Items) (ds : Items) → of_json j ≡ o → of_items js ≡ p → option_and_then (λ d. option_map (item d) p) o ≡ Some ds → AreDocuments ds
+    → IsReadAs r j → ((es : Items) → of_items js ≡ Some es → AreDocuments es → elements_of r js ≡ es) → item (data_of r j) (elements_of r js) ≡ ds
+elements_as r j js None p ds e f h w here more = absurd (none-some ds h)
+elements_as r j js (Some d) None ds e f h w here more = absurd (none-some ds h)
+elements_as r j js (Some d) (Some es) ds e f h w here more =
     let g : item d es ≡ ds = same_Some (item d es) ds h in
     let both = subst AreDocuments (sym g) w in
     ap₂ item (here d e both.0) (more es f both.1) ∙ g
@@ -105,12 +105,12 @@ mutual
   as_read r (json.boolean b) d h w = same_Some (boolean b) d h
   as_read r (json.number s) d h w = number_as r s (number_of s) d refl h w
   as_read r (json.string s) d h w = same_Some (string s) d h
-  as_read r (json.array js) d h w = list_as r js (of_items js) d refl h w (λ ds e v. items_read r js ds e v)
+  as_read r (json.array js) d h w = array_as r js (of_items js) d refl h w (λ ds e v. elements_read r js ds e v)
   as_read r (json.object ms) d h w = object_as r ms (of_members ms no_members) d refl h w (λ k i at. each_read r ms k i at)
 
-  items_read : (r : Reading) (js : json.Items) (ds : Items) → of_items js ≡ Some ds → AreDocuments ds → items_of r js ≡ ds
-  items_read r json.no_items ds h w = same_Some no_items ds h
-  items_read r (json.item j js) ds h w = items_as r j js (of_json j) (of_items js) ds refl refl h w (as_read r j) (λ es e v. items_read r js es e v)
+  elements_read : (r : Reading) (js : json.Items) (ds : Items) → of_items js ≡ Some ds → AreDocuments ds → elements_of r js ≡ ds
+  elements_read r json.no_items ds h w = same_Some no_items ds h
+  elements_read r (json.item j js) ds h w = elements_as r j js (of_json j) (of_items js) ds refl refl h w (as_read r j) (λ es e v. elements_read r js es e v)
 
   each_read : (r : Reading) (ms : json.Members) (k : List ℕ) (i : Json) → tree.get_member k ms ≡ Some i → IsReadAs r i
   each_read r json.no_members k i at = absurd (none-some i at)

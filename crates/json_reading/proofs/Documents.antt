@@ -7,7 +7,7 @@ use Rattle.serde_json.specs.Find as document
 use Rattle.json_patch_document.proofs.Children.{one_level}
 use Rattle.json_patch_document.proofs.Members.{put_members}
 use Rattle.json_reading.specs.Reading.{Reading}
-use Rattle.json_reading.specs.Trees.{data_of, items_of, members_of}
+use Rattle.json_reading.specs.Trees.{data_of, elements_of, members_of}
 
 mutual
   pub IsDocument-data_of : (r : Reading) (j : json.Json) → IsDocument (data_of r j)
@@ -18,7 +18,7 @@ mutual
   IsDocument-data_of r (json.array js) = documents r js
   IsDocument-data_of r (json.object ms) = are_members r ms no_members tt
 
-  documents : (r : Reading) (js : json.Items) → AreDocuments (items_of r js)
+  documents : (r : Reading) (js : json.Items) → AreDocuments (elements_of r js)
   documents r json.no_items = tt
   documents r (json.item j js) = (IsDocument-data_of r j, documents r js)
 
@@ -67,10 +67,10 @@ one_object ms ns h g same = one_level (object ms) (object ns) h g refl at_step
 
 -- ---- what stands at a step
 
-pub found_item : (r : Reading) (i : ℕ) (js : json.Items) → get_item i (items_of r js) ≡ option_map (data_of r) (tree.get_item i js)
-found_item r i json.no_items = refl
-found_item r zero (json.item j js) = refl
-found_item r (suc i) (json.item j js) = found_item r i js
+pub found_element : (r : Reading) (i : ℕ) (js : json.Items) → get_item i (elements_of r js) ≡ option_map (data_of r) (tree.get_item i js)
+found_element r i json.no_items = refl
+found_element r zero (json.item j js) = refl
+found_element r (suc i) (json.item j js) = found_element r i js
 
 pub at_name : (r : Reading) (k : List ℕ) (j : json.Json) → document.get k (data_of r j) ≡ option_map (data_of r) (tree.get k j)
 at_name r k json.null = refl
@@ -85,5 +85,5 @@ at_place r i json.null = refl
 at_place r i (json.boolean b) = refl
 at_place r i (json.number s) = refl
 at_place r i (json.string s) = refl
-at_place r i (json.array js) = found_item r i js
+at_place r i (json.array js) = found_element r i js
 at_place r i (json.object ms) = refl

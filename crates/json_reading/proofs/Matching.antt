@@ -152,10 +152,10 @@ module _ (ms ns : Members) (f g : List ℕ → Option Json) (h : Matched ms ns n
 pub next_member : {A : Type 0} (es : List (Bor (List ℕ) × Value A)) (i : ℕ) (e : Bor (List ℕ) × Value A) → i < length es → e ≡ get_or es i e → members_view (drop i es) ≡ member e.0.now (value_view e.1) (members_view (drop (i + 1) es))
 next_member es i e h is = ap members_view (drop_more es i e h ∙ ap (λ x. x ∷ drop (i + 1) es) (sym is))
 
-pub item_depth : {A : Type 0} (vs : List (Value A)) (i : ℕ) (v : Value A) → i < length vs → v ≡ get_or vs i v → depth (value_view v) ≤ items_depth (items_view vs)
-item_depth [] i v h is = absurd (omega (arith, h))
-item_depth (w ∷ vs) zero v h is = omega (arith, ap (λ x. depth (value_view x)) is)
-item_depth (w ∷ vs) (suc i) v h is = omega (arith, item_depth vs i v (omega (arith, h)) is)
+pub element_depth : {A : Type 0} (vs : List (Value A)) (i : ℕ) (v : Value A) → i < length vs → v ≡ get_or vs i v → depth (value_view v) ≤ items_depth (items_view vs)
+element_depth [] i v h is = absurd (omega (arith, h))
+element_depth (w ∷ vs) zero v h is = omega (arith, ap (λ x. depth (value_view x)) is)
+element_depth (w ∷ vs) (suc i) v h is = omega (arith, element_depth vs i v (omega (arith, h)) is)
 
 pub member_depth : (k : List ℕ) (i : Json) (ms : Members) → get_member k ms ≡ Some i → depth i ≤ members_depth ms
 member_depth k i no_members e = absurd (none-some i e)

@@ -12,8 +12,8 @@ use Rattle.json_number.proofs.Same.{is_same, is_same-Decides}
 use Rattle.json_patch_document.specs.Same.{AreSame}
 use Rattle.json_patch_document.proofs.SameDocuments.{AreSame-document}
 use Rattle.json_reading.specs.Reading.{Reading}
-use Rattle.json_reading.specs.Trees.{data_of, items_of}
-use Rattle.json_reading.specs.Same.{SameTree, SameItems, EachIn, HasNames}
+use Rattle.json_reading.specs.Trees.{data_of, elements_of}
+use Rattle.json_reading.specs.Same.{SameTree, SameElements, EachIn, HasNames}
 use Rattle.json_reading.proofs.Told.{some_reading, told_apart}
 use Rattle.json_reading.proofs.Documents.{IsDocument-data_of, members_are, found, one_object}
 
@@ -52,14 +52,14 @@ mutual
   one_document r (boolean b) (boolean c) h = ap value.boolean h
   one_document r (number s) (number t) h = ap value.number (r.alike s t h)
   one_document r (string s) (string t) h = ap value.string h
-  one_document r (array js) (array ks) h = ap value.array (one_list r js ks h)
+  one_document r (array js) (array ks) h = ap value.array (one_array r js ks h)
   one_document r (object ms) (object ns) h = one_object_of r ms ns (each_one r ms ns h.0) h.1
   one_document r _ _ h = absurd h
 
-  one_list : (r : Reading) (js ks : Items) → SameItems js ks → items_of r js ≡ items_of r ks
-  one_list r no_items no_items h = refl
-  one_list r (item i js) (item j ks) h = ap₂ value.item (one_document r i j h.0) (one_list r js ks h.1)
-  one_list r _ _ h = absurd h
+  one_array : (r : Reading) (js ks : Items) → SameElements js ks → elements_of r js ≡ elements_of r ks
+  one_array r no_items no_items h = refl
+  one_array r (item i js) (item j ks) h = ap₂ value.item (one_document r i j h.0) (one_array r js ks h.1)
+  one_array r _ _ h = absurd h
 
   each_one : (r : Reading) (ms ns : Members) → EachIn ms ns → (k : List ℕ) (i : Json) → get_member k ms ≡ Some i → One r k i ns
   each_one r no_members ns h k i at = absurd (none-some i at)
@@ -71,8 +71,8 @@ mutual
 abbrev Told : Json → Json → Type 0
 Told i j = (r : Reading) × (data_of r i ≢ data_of r j)
 
-abbrev ToldItems : Items → Items → Type 0
-ToldItems js ks = (r : Reading) × (items_of r js ≢ items_of r ks)
+abbrev ToldElements : Items → Items → Type 0
+ToldElements js ks = (r : Reading) × (elements_of r js ≢ elements_of r ks)
 
 -- a member of ms that ns has otherwise or not at all
 abbrev ToldIn : Members → Members → Type 0
@@ -100,14 +100,14 @@ strings : (s t : List ℕ) (b : Bool) → bytes_eq s t ≡ b → (s ≡ t) ⊎ (
 strings s t true e = inl ((bytes_eq-Decides s t).0 e)
 strings s t false e = inr (some_reading, λ same. false≢true (sym e ∙ (bytes_eq-Decides s t).1 cc))
 
-lists : (js ks : Items) → SameItems js ks ⊎ ToldItems js ks → SameItems js ks ⊎ Told (array js) (array ks)
-lists js ks (inl h) = inl h
-lists js ks (inr (r, d)) = inr (r, λ same. d cc)
+arrays : (js ks : Items) → SameElements js ks ⊎ ToldElements js ks → SameElements js ks ⊎ Told (array js) (array ks)
+arrays js ks (inl h) = inl h
+arrays js ks (inr (r, d)) = inr (r, λ same. d cc)
 
-items_step : (i j : Json) (js ks : Items) → Cases i j → SameItems js ks ⊎ ToldItems js ks → (SameTree i j × SameItems js ks) ⊎ ToldItems (item i js) (item j ks)
-items_step i j js ks (inl h) (inl g) = inl (h, g)
-items_step i j js ks (inr (r, d)) g = inr (r, λ same. d cc)
-items_step i j js ks (inl h) (inr (r, d)) = inr (r, λ same. d cc)
+elements_step : (i j : Json) (js ks : Items) → Cases i j → SameElements js ks ⊎ ToldElements js ks → (SameTree i j × SameElements js ks) ⊎ ToldElements (item i js) (item j ks)
+elements_step i j js ks (inl h) (inl g) = inl (h, g)
+elements_step i j js ks (inr (r, d)) g = inr (r, λ same. d cc)
+elements_step i j js ks (inl h) (inr (r, d)) = inr (r, λ same. d cc)
 
 -- what the members of two objects tell, from what one name does
 object_lookup : (r : Reading) (k : List ℕ) (ms ns : Members) → data_of r (object ms) ≡ data_of r (object ns) → option_map (data_of r) (get_member k ms) ≡ option_map (data_of r) (get_member k ns)
@@ -164,14 +164,14 @@ mutual
   same_or_told (boolean b) (boolean c) = booleans b c
   same_or_told (number s) (number t) = numbers s t (is_same s t) refl
   same_or_told (string s) (string t) = strings s t (bytes_eq s t) refl
-  same_or_told (array js) (array ks) = lists js ks (items_or_told js ks)
+  same_or_told (array js) (array ks) = arrays js ks (elements_or_told js ks)
   same_or_told (object ms) (object ns) = objects ms ns (each_or_told ms ns) (names_or_further ms ns)
   same_or_told _ _ = inr (some_reading, λ e. cc)
 
-  items_or_told : (js ks : Items) → SameItems js ks ⊎ ToldItems js ks
-  items_or_told no_items no_items = inl tt
-  items_or_told (item i js) (item j ks) = items_step i j js ks (same_or_told i j) (items_or_told js ks)
-  items_or_told _ _ = inr (some_reading, λ e. cc)
+  elements_or_told : (js ks : Items) → SameElements js ks ⊎ ToldElements js ks
+  elements_or_told no_items no_items = inl tt
+  elements_or_told (item i js) (item j ks) = elements_step i j js ks (same_or_told i j) (elements_or_told js ks)
+  elements_or_told _ _ = inr (some_reading, λ e. cc)
 
   each_or_told : (ms ns : Members) → EachIn ms ns ⊎ ToldIn ms ns
   each_or_told no_members ns = inl tt

@@ -8,7 +8,7 @@ use Rattle.json_number.specs.Numbers.{SameNumber}
 abbrev pub HasNames : Members → Members → Type 0
 HasNames ms ns = (k : List ℕ) → get_member k ms ≡ None → get_member k ns ≡ None
 
--- atoms of one kind and value, lists item by item, and objects member by member, in any order: of several of one name the
+-- atoms of one kind and value, arrays element by element, and objects member by member, in any order: of several of one name the
 -- last counts
 abbrev mutual
   pub SameTree : Json → Json → Type 0
@@ -16,14 +16,14 @@ abbrev mutual
   SameTree (boolean b) (boolean c) = b ≡ c
   SameTree (number s) (number t) = SameNumber s t
   SameTree (string s) (string t) = s ≡ t
-  SameTree (array js) (array ks) = SameItems js ks
+  SameTree (array js) (array ks) = SameElements js ks
   SameTree (object ms) (object ns) = EachIn ms ns × HasNames ms ns
   SameTree i j = ⊥
 
-  pub SameItems : Items → Items → Type 0
-  SameItems no_items no_items = ⊤
-  SameItems (item i js) (item j ks) = SameTree i j × SameItems js ks
-  SameItems js ks = ⊥
+  pub SameElements : Items → Items → Type 0
+  SameElements no_items no_items = ⊤
+  SameElements (item i js) (item j ks) = SameTree i j × SameElements js ks
+  SameElements js ks = ⊥
 
   -- each member of ms that counts is the same as the one of its name in ns
   pub EachIn : Members → Members → Type 0

@@ -10,12 +10,12 @@ abbrev mutual
   data_of r (json.boolean b) = boolean b
   data_of r (json.number s) = number (r.of s)
   data_of r (json.string s) = string s
-  data_of r (json.array js) = array (items_of r js)
+  data_of r (json.array js) = array (elements_of r js)
   data_of r (json.object ms) = object (members_of r ms no_members)
 
-  pub items_of : Reading → json.Items → Items
-  items_of r json.no_items = no_items
-  items_of r (json.item j js) = item (data_of r j) (items_of r js)
+  pub elements_of : Reading → json.Items → Items
+  elements_of r json.no_items = no_items
+  elements_of r (json.item j js) = item (data_of r j) (elements_of r js)
 
   -- put into those that came before
   pub members_of : Reading → json.Members → Members → Members

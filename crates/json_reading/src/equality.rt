@@ -5,15 +5,15 @@ ghost use Rattle.std.specs.Bool.{Decides};
 ghost use Rattle.json.specs.Find.{get_member};
 ghost use Rattle.json.specs.Value.{value_view, items_view, members_view};
 ghost use Rattle.json_reading.specs.Matching.{SameAt, stands};
-ghost use Rattle.json_reading.specs.Same.{SameTree, SameItems};
+ghost use Rattle.json_reading.specs.Same.{SameTree, SameElements};
 
 use json::Value;
 use json_number::same_number;
 use std::alloc::{AllocError, Global};
 use std::collections::BTreeMap;
 
-/// Whether two trees are the same: numbers by their value, exactly, strings byte by byte, lists item
-/// by item, and objects by their members, whatever their order; of several of one name the last
+/// Whether two trees are the same: numbers by their value, exactly, strings byte by byte, arrays element
+/// by element, and objects by their members, whatever their order; of several of one name the last
 /// counts.
 ///
 /// ```rust
@@ -35,16 +35,16 @@ fn same_values(alloc: Global, a: &Value, b: &Value) -> Result<bool, AllocError>
         (Value::Bool(x), Value::Bool(y)) => Ok(x == y),
         (Value::Number(x), Value::Number(y)) => Ok(same_number(x, y)),
         (Value::String(x), Value::String(y)) => Ok(*x == *y),
-        (Value::Array(xs), Value::Array(ys)) => same_items(alloc, xs, ys),
+        (Value::Array(xs), Value::Array(ys)) => same_elements(alloc, xs, ys),
         (Value::Object(xs), Value::Object(ys)) => same_members(alloc, xs, ys),
         _ => Ok(false),
     }
 }
 
 #[cycle(same)]
-fn same_items(alloc: Global, xs: &Vec<Value>, ys: &Vec<Value>) -> Result<bool, AllocError>
+fn same_elements(alloc: Global, xs: &Vec<Value>, ys: &Vec<Value>) -> Result<bool, AllocError>
     ensures { IfOk result (λ same.
-        Decides same (SameItems (items_view xs.now.items) (items_view ys.now.items))) }
+        Decides same (SameElements (items_view xs.now.items) (items_view ys.now.items))) }
 {
     let mut others = ys.iter();
     for x in xs {

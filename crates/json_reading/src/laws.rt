@@ -38,7 +38,7 @@ pub fn trees()
     ensures same_names { (r : Reading) (k : List ℕ) (j : Json)
         → document.get k (data_of r j) ≡ option_map (data_of r) (tree.get k j) }
 
-    // What stands at a place in a list is what stands there in the tree.
+    // What stands at a place in an array is what stands there in the tree.
     ensures same_places { (r : Reading) (i : ℕ) (j : Json)
         → document.at i (data_of r j) ≡ option_map (data_of r) (tree.at i j) }
 {}

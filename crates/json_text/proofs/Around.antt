@@ -8,8 +8,8 @@ use Rattle.json.specs.Find.{get_member, get_item, later_or}
 use Rattle.json.specs.Token as t
 use Rattle.json.specs.Lex.{Lexeme, token, comma, colon}
 use Rattle.json_lexemes.specs.Found.{Placed, or_else, named, numbered}
-use Rattle.json_text.specs.Pointed.{if_some, put_item, put_member}
-use Rattle.json_lexemes.specs.Spelled.{spelled, first_items, more_items, first_members, more_members}
+use Rattle.json_text.specs.Pointed.{if_some, put_element, put_member}
+use Rattle.json_lexemes.specs.Spelled.{spelled, first_elements, more_elements, first_members, more_members}
 use Rattle.json_lexemes.proofs.Steps.{follows}
 
 pub record Around (v : Json) (behind whole : List Lexeme) (put : Json → List Lexeme) : Type 0 where
@@ -27,34 +27,34 @@ further a r = record {
 pub alone : (v : Json) → Around v [] (spelled v) spelled
 alone v = record { before = []; is = sym (append-nil (spelled v)); there = λ w. sym (append-nil (spelled w)) }
 
--- ---- items
+-- ---- elements
 
-more_around : (n : ℕ) (js : Items) (v : Json) (ls : List Lexeme) → numbered n js ≡ Some (v, ls) → Around v ls (more_items js) (λ w. more_items (put_item n w js))
+more_around : (n : ℕ) (js : Items) (v : Json) (ls : List Lexeme) → numbered n js ≡ Some (v, ls) → Around v ls (more_elements js) (λ w. more_elements (put_element n w js))
 more_around n no_items v ls e = absurd (none-some _ e)
-more_around zero (item j js) v ls e = let p = same_Some (j, more_items js) (v, ls) e in record { before = comma ∷ []; is = ap (λ q. comma ∷ (spelled q.0 ++ q.1)) p; there = λ w. ap (λ q. comma ∷ (spelled w ++ q.1)) p }
+more_around zero (item j js) v ls e = let p = same_Some (j, more_elements js) (v, ls) e in record { before = comma ∷ []; is = ap (λ q. comma ∷ (spelled q.0 ++ q.1)) p; there = λ w. ap (λ q. comma ∷ (spelled w ++ q.1)) p }
 more_around (suc n) (item j js) v ls e = further (comma ∷ spelled j) (more_around n js v ls e)
 
-first_around : (n : ℕ) (js : Items) (v : Json) (ls : List Lexeme) → numbered n js ≡ Some (v, ls) → Around v ls (first_items js) (λ w. first_items (put_item n w js))
+first_around : (n : ℕ) (js : Items) (v : Json) (ls : List Lexeme) → numbered n js ≡ Some (v, ls) → Around v ls (first_elements js) (λ w. first_elements (put_element n w js))
 first_around n no_items v ls e = absurd (none-some _ e)
-first_around zero (item j js) v ls e = let p = same_Some (j, more_items js) (v, ls) e in record { before = []; is = ap (λ q. spelled q.0 ++ q.1) p; there = λ w. ap (λ q. spelled w ++ q.1) p }
+first_around zero (item j js) v ls e = let p = same_Some (j, more_elements js) (v, ls) e in record { before = []; is = ap (λ q. spelled q.0 ++ q.1) p; there = λ w. ap (λ q. spelled w ++ q.1) p }
 first_around (suc n) (item j js) v ls e = further (spelled j) (more_around n js v ls e)
 
-pub item_around : (n : ℕ) (js : Items) (v : Json) (ls : List Lexeme) → numbered n js ≡ Some (v, ls) → Around v ls (spelled (array js)) (λ w. spelled (array (put_item n w js)))
-item_around n js v ls e = further (token t.begin_array ∷ []) (first_around n js v ls e)
+pub element_around : (n : ℕ) (js : Items) (v : Json) (ls : List Lexeme) → numbered n js ≡ Some (v, ls) → Around v ls (spelled (array js)) (λ w. spelled (array (put_element n w js)))
+element_around n js v ls e = further (token t.begin_array ∷ []) (first_around n js v ls e)
 
 pub numbered_is : (n : ℕ) (js : Items) → option_map (λ p. p.0) (numbered n js) ≡ get_item n js
 numbered_is n no_items = refl
 numbered_is zero (item j js) = refl
 numbered_is (suc n) (item j js) = numbered_is n js
 
-more_follows : (js : Items) → follows (more_items js) ≡ true
+more_follows : (js : Items) → follows (more_elements js) ≡ true
 more_follows no_items = refl
 more_follows (item j js) = refl
 
-pub item_follows : (n : ℕ) (js : Items) (v : Json) (ls : List Lexeme) → numbered n js ≡ Some (v, ls) → follows ls ≡ true
-item_follows n no_items v ls e = absurd (none-some _ e)
-item_follows zero (item j js) v ls e = let p = same_Some (j, more_items js) (v, ls) e in ap (λ q. follows q.1) (sym p) ∙ more_follows js
-item_follows (suc n) (item j js) v ls e = item_follows n js v ls e
+pub element_follows : (n : ℕ) (js : Items) (v : Json) (ls : List Lexeme) → numbered n js ≡ Some (v, ls) → follows ls ≡ true
+element_follows n no_items v ls e = absurd (none-some _ e)
+element_follows zero (item j js) v ls e = let p = same_Some (j, more_elements js) (v, ls) e in ap (λ q. follows q.1) (sym p) ∙ more_follows js
+element_follows (suc n) (item j js) v ls e = element_follows n js v ls e
 
 -- ---- members
 

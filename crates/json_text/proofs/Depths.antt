@@ -6,15 +6,15 @@ use Rattle.json.specs.Find.{get_member, get_item, later_or}
 use Rattle.json.specs.Tree.{depth, items_depth, members_depth}
 use Rattle.jsonptr.specs.Places.{place_of}
 use Rattle.jsonptr.specs.Text.{Pointer}
-use Rattle.json_text.specs.Changed.{add_at, add_child, front_of, insert_item, items_len, last_of, push_member, remove_at, remove_child, remove_item, slot_in, without}
-use Rattle.json_text.specs.Pointed.{child, if_some, put_at, put_child, put_item, put_member, tree_at}
+use Rattle.json_text.specs.Changed.{add_at, add_child, elements_len, front_of, insert_element, last_of, push_member, remove_at, remove_child, remove_element, slot_in, without}
+use Rattle.json_text.specs.Pointed.{child, if_some, put_at, put_child, put_element, put_member, tree_at}
 
 -- ---- parts
 
-item_inside : (n : ℕ) (js : Items) (c : Json) → get_item n js ≡ Some c → depth c ≤ items_depth js
-item_inside n no_items c e = absurd (none-some c e)
-item_inside zero (item j js) c e = let same : depth j ≡ depth c = ap depth (same_Some j c e) in omega arith
-item_inside (suc n) (item j js) c e = let more = item_inside n js c e in omega arith
+element_inside : (n : ℕ) (js : Items) (c : Json) → get_item n js ≡ Some c → depth c ≤ items_depth js
+element_inside n no_items c e = absurd (none-some c e)
+element_inside zero (item j js) c e = let same : depth j ≡ depth c = ap depth (same_Some j c e) in omega arith
+element_inside (suc n) (item j js) c e = let more = element_inside n js c e in omega arith
 
 member_inside : (k : List ℕ) (ms : Members) (c : Json) → get_member k ms ≡ Some c → depth c ≤ members_depth ms
 member_inside k no_members c e = absurd (none-some c e)
@@ -27,7 +27,7 @@ member_inside k (member l j ms) c e = by (get_member k ms) (bytes_eq l k) (λ x 
 
 placed_inside : (js : Items) (o : Option ℕ) (c : Json) → option_and_then (λ n. get_item n js) o ≡ Some c → depth c ≤ items_depth js
 placed_inside js None c e = absurd (none-some c e)
-placed_inside js (Some n) c e = item_inside n js c e
+placed_inside js (Some n) c e = element_inside n js c e
 
 child_inside : (t : List ℕ) (j c : Json) → child t j ≡ Some c → suc (depth c) ≤ depth j
 child_inside t null c e = absurd (none-some c e)
@@ -48,14 +48,14 @@ part_inside (t ∷ P) j v e = by (child t j) (λ c f. child_inside t j c f) (λ 
 
 -- ---- put in the place of a part
 
-put_item_nests : (n : ℕ) (w : Json) (js : Items) → items_depth (put_item n w js) ≤ max (items_depth js) (depth w)
-put_item_nests n w no_items = omega arith
-put_item_nests zero w (item j js) = omega arith
-put_item_nests (suc n) w (item j js) = let more = put_item_nests n w js in omega arith
+put_element_nests : (n : ℕ) (w : Json) (js : Items) → items_depth (put_element n w js) ≤ max (items_depth js) (depth w)
+put_element_nests n w no_items = omega arith
+put_element_nests zero w (item j js) = omega arith
+put_element_nests (suc n) w (item j js) = let more = put_element_nests n w js in omega arith
 
-put_placed_nests : (w : Json) (js : Items) (o : Option ℕ) → items_depth (if_some o (λ n. put_item n w js) js) ≤ max (items_depth js) (depth w)
+put_placed_nests : (w : Json) (js : Items) (o : Option ℕ) → items_depth (if_some o (λ n. put_element n w js) js) ≤ max (items_depth js) (depth w)
 put_placed_nests w js None = omega arith
-put_placed_nests w js (Some n) = put_item_nests n w js
+put_placed_nests w js (Some n) = put_element_nests n w js
 
 put_member_nests : (k : List ℕ) (w : Json) (ms : Members) → members_depth (put_member k w ms) ≤ max (members_depth ms) (depth w)
 put_member_nests k w no_members = omega arith
@@ -85,14 +85,14 @@ put_nests (t ∷ P) w j = by (child t j) (λ c f. child_inside t j c f) (λ c. p
 
 -- ---- taken out
 
-less_items_nest : (n : ℕ) (js : Items) → items_depth (remove_item n js) ≤ items_depth js
-less_items_nest n no_items = omega arith
-less_items_nest zero (item j js) = omega arith
-less_items_nest (suc n) (item j js) = let more = less_items_nest n js in omega arith
+less_elements_nest : (n : ℕ) (js : Items) → items_depth (remove_element n js) ≤ items_depth js
+less_elements_nest n no_items = omega arith
+less_elements_nest zero (item j js) = omega arith
+less_elements_nest (suc n) (item j js) = let more = less_elements_nest n js in omega arith
 
-less_placed_nest : (js : Items) (o : Option ℕ) → items_depth (if_some o (λ n. remove_item n js) js) ≤ items_depth js
+less_placed_nest : (js : Items) (o : Option ℕ) → items_depth (if_some o (λ n. remove_element n js) js) ≤ items_depth js
 less_placed_nest js None = omega arith
-less_placed_nest js (Some n) = less_items_nest n js
+less_placed_nest js (Some n) = less_elements_nest n js
 
 kept_nests : (l : List ℕ) (j : Json) (ms ns : Members) (b : Bool) → members_depth ns ≤ members_depth ms → members_depth (cond b ns (member l j ns)) ≤ max (depth j) (members_depth ms)
 kept_nests l j ms ns true h = omega arith
@@ -120,7 +120,7 @@ remove_nests (t ∷ P) j = by (tree_at (front_of t P) j) (λ c e. part_inside (f
 
 -- ---- added
 
-insert_nests : (n : ℕ) (w : Json) (js : Items) → items_depth (insert_item n w js) ≤ max (items_depth js) (depth w)
+insert_nests : (n : ℕ) (w : Json) (js : Items) → items_depth (insert_element n w js) ≤ max (items_depth js) (depth w)
 insert_nests n w no_items = omega arith
 insert_nests zero w (item j js) = omega arith
 insert_nests (suc n) w (item j js) = let more = insert_nests n w js in omega arith
@@ -134,11 +134,11 @@ add_child_nests t w null d e = absurd (none-some d e)
 add_child_nests t w (boolean b) d e = absurd (none-some d e)
 add_child_nests t w (number s) d e = absurd (none-some d e)
 add_child_nests t w (string s) d e = absurd (none-some d e)
-add_child_nests t w (array js) d e = by (slot_in t (items_len js)) e
+add_child_nests t w (array js) d e = by (slot_in t (elements_len js)) e
   where
-    by : (o : Option ℕ) → option_map (λ n. array (insert_item n w js)) o ≡ Some d → depth d ≤ max (depth (array js)) (suc (depth w))
+    by : (o : Option ℕ) → option_map (λ n. array (insert_element n w js)) o ≡ Some d → depth d ≤ max (depth (array js)) (suc (depth w))
     by None g = absurd (none-some d g)
-    by (Some n) g = let same : depth (array (insert_item n w js)) ≡ depth d = ap depth (same_Some (array (insert_item n w js)) d g) in let more = insert_nests n w js in omega arith
+    by (Some n) g = let same : depth (array (insert_element n w js)) ≡ depth d = ap depth (same_Some (array (insert_element n w js)) d g) in let more = insert_nests n w js in omega arith
 add_child_nests t w (object ms) d e =
     let same : depth (object (if_some (get_member t ms) (λ v. put_member t w ms) (push_member t w ms))) ≡ depth d = ap depth (same_Some _ d e) in
     let more = by (get_member t ms) in

@@ -1,4 +1,4 @@
-pub mod Blanks
+pub mod Whitespace
 pub mod Around
 pub mod Deeper
 pub mod Depths

@@ -1,4 +1,4 @@
--- Members and items in a row.
+-- Members and elements in a row.
 pub mod Parts
 pub mod Reached
 pub mod Trees

@@ -11,11 +11,11 @@ use Rattle.jsonptr.specs.PlaceLaws.{next_is_no_place}
 use Rattle.jsonptr.specs.Places.{place_of, next_token}
 use Rattle.json_lexemes.specs.Found.{IsCut, IsWithin, Placed, Stands, named, numbered}
 use Rattle.json_lexemes.specs.Places.{mode_at, left_at}
-use Rattle.json_text.specs.Pointed.{child, if_some, put_child, put_item, put_member, IsStretch}
-use Rattle.json_lexemes.specs.Spelled.{spelled, first_items, first_members, Says}
+use Rattle.json_text.specs.Pointed.{child, if_some, put_child, put_element, put_member, IsStretch}
+use Rattle.json_lexemes.specs.Spelled.{spelled, first_elements, first_members, Says}
 use Rattle.json_lexemes.specs.declared.span.Span.{Span}
-use Rattle.json_text.proofs.Around.{Around, alone, item_around, item_follows, member_around, member_follows, named_is, numbered_is}
-use Rattle.json_lexemes.proofs.Counted.{item_within}
+use Rattle.json_text.proofs.Around.{Around, alone, element_around, element_follows, member_around, member_follows, named_is, numbered_is}
+use Rattle.json_lexemes.proofs.Counted.{element_within}
 use Rattle.json_lexemes.proofs.FirstBytes.{kind, byte_by_kind}
 use Rattle.json_lexemes.proofs.Steps.{follows, operator_left, operator_end}
 use Rattle.json_text.specs.Rows.{slice}
@@ -43,20 +43,20 @@ object_opens text j o h b l says = by_value j (sym (ap kind (sym (operator_left 
     by_value (array js) k e = absurd (omega (arith, k))
     by_value (object ms) k e = record { members = ms; is = refl; inside = ap tail e }
 
-pub record IsList (text : List ℕ) (j : Json) (o : ℕ) : Type 0 where
-  pub items : Items
-  pub is : j ≡ array items
-  pub inside : left_at text (o + 1) ≡ first_items items
+pub record IsArray (text : List ℕ) (j : Json) (o : ℕ) : Type 0 where
+  pub elements : Items
+  pub is : j ≡ array elements
+  pub inside : left_at text (o + 1) ≡ first_elements elements
 
-pub list_opens : (text : List ℕ) (j : Json) (o : ℕ) → o < length text → get_or text o 32 ≡ 91 → left_at text o ≡ left_at text 0 → Says text j → IsList text j o
-list_opens text j o h b l says = by_value j (sym (ap kind (sym (operator_left text o 91 h (get_or_default text o 0 32 h ∙ b) refl) ∙ l ∙ says))) (sym (operator_left text o 91 h (get_or_default text o 0 32 h ∙ b) refl) ∙ l ∙ says)
+pub array_opens : (text : List ℕ) (j : Json) (o : ℕ) → o < length text → get_or text o 32 ≡ 91 → left_at text o ≡ left_at text 0 → Says text j → IsArray text j o
+array_opens text j o h b l says = by_value j (sym (ap kind (sym (operator_left text o 91 h (get_or_default text o 0 32 h ∙ b) refl) ∙ l ∙ says))) (sym (operator_left text o 91 h (get_or_default text o 0 32 h ∙ b) refl) ∙ l ∙ says)
   where
-    by_value : (j : Json) → kind (spelled j) ≡ 91 → operator_lexeme 91 ∷ left_at text (o + 1) ≡ spelled j → IsList text j o
+    by_value : (j : Json) → kind (spelled j) ≡ 91 → operator_lexeme 91 ∷ left_at text (o + 1) ≡ spelled j → IsArray text j o
     by_value null k e = absurd (omega (arith, k))
     by_value (boolean b) k e = absurd (omega (arith, k))
     by_value (number x) k e = absurd (omega (arith, k))
     by_value (string x) k e = absurd (omega (arith, k))
-    by_value (array js) k e = record { items = js; is = refl; inside = ap tail e }
+    by_value (array js) k e = record { elements = js; is = refl; inside = ap tail e }
     by_value (object ms) k e = absurd (omega (arith, k))
 
 pub no_child : (text t : List ℕ) (j : Json) (o : ℕ) → (o < length text → is_space (get_or text o 0) ≡ false) → (get_or text o 32 ≡ 123 → ⊥) → (get_or text o 32 ≡ 91 → ⊥) → left_at text o ≡ left_at text 0 → Says text j → child t j ≡ None
@@ -95,29 +95,29 @@ member_found text t j o r p says f c =
     (found text (object p.members) r (named t p.members) (λ w. object (put_member t w p.members)) (says ∙ ap spelled p.is) c (f p.members p.inside)
     (λ v ls e. (member_around t p.members v ls e, member_follows t p.members v ls e))))
 
-pub item_found : (text t : List ℕ) (j : Json) (o n : ℕ) (r : Option Span) → IsList text j o → Says text j → place_of t ≡ Some n → ((js : Items) → left_at text (o + 1) ≡ first_items js → Stands text r (numbered n js)) → AreCut text r → Finds text r (child t j) (λ w. put_child t w j)
-item_found text t j o n r p says i f c =
+pub element_found : (text t : List ℕ) (j : Json) (o n : ℕ) (r : Option Span) → IsArray text j o → Says text j → place_of t ≡ Some n → ((js : Items) → left_at text (o + 1) ≡ first_elements js → Stands text r (numbered n js)) → AreCut text r → Finds text r (child t j) (λ w. put_child t w j)
+element_found text t j o n r p says i f c =
     subst (λ j. Finds text r (child t j) (λ w. put_child t w j)) (sym p.is)
-    (subst (λ m. Finds text r (option_and_then (λ k. get_item k p.items) m) (λ w. array (if_some m (λ k. put_item k w p.items) p.items))) (sym i)
-    (subst (λ v. Finds text r v (λ w. array (put_item n w p.items))) (numbered_is n p.items)
-    (found text (array p.items) r (numbered n p.items) (λ w. array (put_item n w p.items)) (says ∙ ap spelled p.is) c (f p.items p.inside)
-    (λ v ls e. (item_around n p.items v ls e, item_follows n p.items v ls e)))))
+    (subst (λ m. Finds text r (option_and_then (λ k. get_item k p.elements) m) (λ w. array (if_some m (λ k. put_element k w p.elements) p.elements))) (sym i)
+    (subst (λ v. Finds text r v (λ w. array (put_element n w p.elements))) (numbered_is n p.elements)
+    (found text (array p.elements) r (numbered n p.elements) (λ w. array (put_element n w p.elements)) (says ∙ ap spelled p.is) c (f p.elements p.inside)
+    (λ v ls e. (element_around n p.elements v ls e, element_follows n p.elements v ls e)))))
 
-pub next_is_no_child : (text t : List ℕ) (j : Json) (o : ℕ) → IsList text j o → t ≡ next_token → child t j ≡ None
-next_is_no_child text t j o p e = ap (child t) p.is ∙ ap (option_and_then (λ k. get_item k p.items)) (ap place_of e ∙ next_is_no_place)
+pub next_is_no_child : (text t : List ℕ) (j : Json) (o : ℕ) → IsArray text j o → t ≡ next_token → child t j ≡ None
+next_is_no_child text t j o p e = ap (child t) p.is ∙ ap (option_and_then (λ k. get_item k p.elements)) (ap place_of e ∙ next_is_no_place)
 
-pub no_place_no_child : (text t : List ℕ) (j : Json) (o : ℕ) → IsList text j o → Says text j → length text < 2 ^ 64 → IsNoIndexText t → child t j ≡ None
+pub no_place_no_child : (text t : List ℕ) (j : Json) (o : ℕ) → IsArray text j o → Says text j → length text < 2 ^ 64 → IsNoIndexText t → child t j ≡ None
 no_place_no_child text t j o p says h n = ap (child t) p.is ∙ by_place (place_of t) n.past
   where
-    by_item : (i : ℕ) (v : Option Json) → get_item i p.items ≡ v → 2 ^ 64 ≤ i → get_item i p.items ≡ None
-    by_item i None e b = e
-    by_item i (Some v) e b = absurd (omega (arith, item_within text i p.items v (says ∙ ap spelled p.is) e, h, b))
+    by_element : (i : ℕ) (v : Option Json) → get_item i p.elements ≡ v → 2 ^ 64 ≤ i → get_item i p.elements ≡ None
+    by_element i None e b = e
+    by_element i (Some v) e b = absurd (omega (arith, element_within text i p.elements v (says ∙ ap spelled p.is) e, h, b))
 
-    by_place : (m : Option ℕ) → ((i : ℕ) → m ≡ Some i → 2 ^ 64 ≤ i) → option_and_then (λ k. get_item k p.items) m ≡ None
+    by_place : (m : Option ℕ) → ((i : ℕ) → m ≡ Some i → 2 ^ 64 ≤ i) → option_and_then (λ k. get_item k p.elements) m ≡ None
     by_place None past = refl
-    by_place (Some i) past = by_item i (get_item i p.items) refl (past i refl)
+    by_place (Some i) past = by_element i (get_item i p.elements) refl (past i refl)
 
--- ---- the text without the blanks around it
+-- ---- the text without the whitespace around it
 
 pub whole_found : (text : List ℕ) (j : Json) (s : Span) → Says text j → left_at text s.start ≡ left_at text 0 → left_at text s.end ≡ [] → IsCut text s → s.start ≤ s.end → s.end ≤ length text → IsStretch (take s.start text) (slice text s.start s.end) (drop s.end text) j (λ w. w)
 whole_found text j s says b e c h w =

@@ -10,7 +10,7 @@ use Rattle.json_text.specs.Faults.{IsTextFault}
 use Rattle.json_text.specs.Pointed.{IsTight, IsWrittenAt, ParentStands}
 use Rattle.json_text.specs.Removed.{IsTightEnd, IsTightFront}
 use Rattle.json_text.specs.Replaced.{IsReplaced}
-use Rattle.json_text.specs.Styled.{blanks_like, colons_like}
+use Rattle.json_text.specs.Styled.{colons_like, whitespace_like}
 use Rattle.json_lexemes.specs.Spelled.{IsShallowText, Says}
 use Rattle.json_text.specs.declared.fault.ChangeFault.{ChangeFault}
 use Rattle.json_text.specs.declared.fault.ChangeFault.TheVariants.{Text, Value, NoTarget, Memory}
@@ -21,36 +21,36 @@ use Rattle.json_text.specs.declared.fault.ChangeFault.TheVariants.{Text, Value, 
 abbrev pub HasNoComma : List ℕ → Type 0
 HasNoComma s = (ls : List Lexeme) → lex between s ≡ comma ∷ ls → ⊥
 
--- s ends with a member: its blanks stand behind a bracket or a comma, and its colon between its name and its value
-pub record EndsWithMember (s blank colons : List ℕ) : Type 0 where
+-- s ends with a member: its whitespace stands behind a bracket or a comma, and its colon between its name and its value
+pub record EndsWithMember (s whitespace colons : List ℕ) : Type 0 where
   pub lead : List ℕ
   pub name : List ℕ
   pub value : List ℕ
-  pub is : s ≡ lead ++ (blank ++ (name ++ (colons ++ value)))
-  pub blanks : IsTightEnd lead × (lex between blank ≡ [])
+  pub is : s ≡ lead ++ (whitespace ++ (name ++ (colons ++ value)))
+  pub tight : IsTightEnd lead × (lex between whitespace ≡ [])
   pub named : IsTight name × ((k : List ℕ) × (lex between name ≡ token (t.string k) ∷ []))
   pub colon : lex between colons ≡ colon ∷ []
   pub says : IsTight value × ((v : Json) × Says value v)
 
--- s ends with an item, whose blanks stand behind a bracket or a comma
-pub record EndsWithItem (s blank : List ℕ) : Type 0 where
+-- s ends with an element, whose whitespace stands behind a bracket or a comma
+pub record EndsWithElement (s whitespace : List ℕ) : Type 0 where
   pub lead : List ℕ
   pub value : List ℕ
-  pub is : s ≡ lead ++ (blank ++ value)
-  pub blanks : IsTightEnd lead × (lex between blank ≡ [])
+  pub is : s ≡ lead ++ (whitespace ++ value)
+  pub tight : IsTightEnd lead × (lex between whitespace ≡ [])
   pub says : IsTight value × ((v : Json) × Says value v)
 
--- s begins with an item, and behind the comma after it stand the blanks of the next one
-pub record HasSecond (s blank : List ℕ) : Type 0 where
+-- s begins with an element, and behind the comma after it stands the whitespace of the next one
+pub record HasSecond (s whitespace : List ℕ) : Type 0 where
   pub value : List ℕ
   pub gap : List ℕ
   pub rest : List ℕ
-  pub is : s ≡ value ++ (gap ++ (blank ++ rest))
+  pub is : s ≡ value ++ (gap ++ (whitespace ++ rest))
   pub says : (v : Json) × Says value v
   pub comes : IsTightEnd gap × (lex between gap ≡ comma ∷ [])
-  pub blanks : (lex between blank ≡ []) × IsTightFront rest
+  pub tight : (lex between whitespace ≡ []) × IsTightFront rest
 
--- s begins with an item, behind which no comma comes
+-- s begins with an element, behind which no comma comes
 pub record HasOne (s : List ℕ) : Type 0 where
   pub value : List ℕ
   pub rest : List ℕ
@@ -58,18 +58,18 @@ pub record HasOne (s : List ℕ) : Type 0 where
   pub says : (v : Json) × Says value v
   pub last : HasNoComma rest
 
--- before an item: the comma, and blanks like its own; before the first one like those of the second, if there is one
-abbrev pub IsBeforeItem : List ℕ → List ℕ → List ℕ → Type 0
-IsBeforeItem front trail back = (blank : List ℕ) × (trail ≡ 44 ∷ blanks_like blank) × IsTightFront back
-    × (((lex between front ≡ token t.begin_array ∷ []) × HasSecond back blank)
-    ⊎ ((lead : List ℕ) × (front ≡ lead ++ blank) × IsTightEnd lead × (lex between blank ≡ []) × (lex between front ≡ token t.begin_array ∷ [] → HasOne back)))
+-- before an element: the comma, and whitespace like its own; before the first one like that of the second, if there is one
+abbrev pub IsBeforeElement : List ℕ → List ℕ → List ℕ → Type 0
+IsBeforeElement front trail back = (whitespace : List ℕ) × (trail ≡ 44 ∷ whitespace_like whitespace) × IsTightFront back
+    × (((lex between front ≡ token t.begin_array ∷ []) × HasSecond back whitespace)
+    ⊎ ((lead : List ℕ) × (front ≡ lead ++ whitespace) × IsTightEnd lead × (lex between whitespace ≡ []) × (lex between front ≡ token t.begin_array ∷ [] → HasOne back)))
 
--- behind the last: the comma, blanks like its own, and for a member the name and a colon like that of the last
+-- behind the last: the comma, whitespace like its own, and for a member the name and a colon like that of the last
 abbrev pub IsBehindMember : List ℕ → List ℕ → List ℕ → List ℕ → List ℕ → Type 0
-IsBehindMember k front ahead trail back = (blank : List ℕ) × (colons : List ℕ) × EndsWithMember front blank colons × (ahead ≡ 44 ∷ (blanks_like blank ++ (quoted k ++ colons_like colons))) × (trail ≡ []) × HasNoComma back
+IsBehindMember k front ahead trail back = (whitespace : List ℕ) × (colons : List ℕ) × EndsWithMember front whitespace colons × (ahead ≡ 44 ∷ (whitespace_like whitespace ++ (quoted k ++ colons_like colons))) × (trail ≡ []) × HasNoComma back
 
-abbrev pub IsBehindItem : List ℕ → List ℕ → List ℕ → List ℕ → Type 0
-IsBehindItem front ahead trail back = (blank : List ℕ) × EndsWithItem front blank × (ahead ≡ 44 ∷ blanks_like blank) × (trail ≡ []) × HasNoComma back
+abbrev pub IsBehindElement : List ℕ → List ℕ → List ℕ → List ℕ → Type 0
+IsBehindElement front ahead trail back = (whitespace : List ℕ) × EndsWithElement front whitespace × (ahead ≡ 44 ∷ whitespace_like whitespace) × (trail ≡ []) × HasNoComma back
 
 -- between front and back, ahead and trail go with a new child t; with no other there, right behind the bracket
 abbrev pub IsStyled : List ℕ → Json → List ℕ → List ℕ → List ℕ → List ℕ → Type 0
@@ -80,7 +80,7 @@ IsStyled t (string s) front ahead trail back = ⊥
 IsStyled t (object no_members) front ahead trail back = IsTightEnd front × (ahead ≡ quoted t ++ (58 ∷ [])) × (trail ≡ [])
 IsStyled t (object (member k j ms)) front ahead trail back = IsBehindMember t front ahead trail back
 IsStyled t (array no_items) front ahead trail back = IsTightEnd front × (ahead ≡ []) × (trail ≡ [])
-IsStyled t (array (item j js)) front ahead trail back = IsBehindItem front ahead trail back ⊎ ((ahead ≡ []) × IsBeforeItem front trail back)
+IsStyled t (array (item j js)) front ahead trail back = IsBehindElement front ahead trail back ⊎ ((ahead ≡ []) × IsBeforeElement front trail back)
 
 -- ---- put in
 
@@ -95,7 +95,7 @@ pub record IsPutInto (text : List ℕ) (v : Json) (t put grown : List ℕ) : Typ
   pub put_in : grown ≡ front ++ (ahead ++ (put ++ (trail ++ back)))
   pub alone : (new : List ℕ) (w : Json) → Says new w → (x : Json) × (add_child t w v ≡ Some x) × Says (front ++ (ahead ++ (new ++ (trail ++ back)))) x
 
--- in the text, which says j, the object or list where the tokens but the last lead has the value put in
+-- in the text, which says j, the object or array where the tokens but the last lead has the value put in
 pub record IsPutIn (text : List ℕ) (j : Json) (P : Pointer) (value : List ℕ) (wanted : Json) (new : List ℕ) : Type 0 where
   pub at : ParentStands text j P
   pub put : List ℕ

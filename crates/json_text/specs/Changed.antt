@@ -18,23 +18,23 @@ last_of t (u ∷ P) = last_of u P
 
 -- ---- removed
 
-abbrev pub remove_item : ℕ → Items → Items
-remove_item n no_items = no_items
-remove_item zero (item j js) = js
-remove_item (suc n) (item j js) = item j (remove_item n js)
+abbrev pub remove_element : ℕ → Items → Items
+remove_element n no_items = no_items
+remove_element zero (item j js) = js
+remove_element (suc n) (item j js) = item j (remove_element n js)
 
 -- the members with none of this name
 abbrev pub without : List ℕ → Members → Members
 without k no_members = no_members
 without k (member l j ms) = cond (bytes_eq l k) (without k ms) (member l j (without k ms))
 
--- an object with no member of this name, a list without the item at this place
+-- an object with no member of this name, an array without the element at this place
 abbrev pub remove_child : List ℕ → Json → Json
 remove_child t null = null
 remove_child t (boolean b) = boolean b
 remove_child t (number s) = number s
 remove_child t (string s) = string s
-remove_child t (array js) = array (if_some (place_of t) (λ n. remove_item n js) js)
+remove_child t (array js) = array (if_some (place_of t) (λ n. remove_element n js) js)
 remove_child t (object ms) = object (without t ms)
 
 -- the tree without what P leads to; the whole isn't removed
@@ -44,17 +44,17 @@ remove_at (t ∷ P) j = if_some (tree_at (front_of t P) j) (λ c. put_at (front_
 
 -- ---- added
 
--- the items with w before the one at n, or last
-abbrev pub insert_item : ℕ → Json → Items → Items
-insert_item n w no_items = item w no_items
-insert_item zero w (item j js) = item w (item j js)
-insert_item (suc n) w (item j js) = item j (insert_item n w js)
+-- the elements with w before the one at n, or last
+abbrev pub insert_element : ℕ → Json → Items → Items
+insert_element n w no_items = item w no_items
+insert_element zero w (item j js) = item w (item j js)
+insert_element (suc n) w (item j js) = item j (insert_element n w js)
 
-abbrev pub items_len : Items → ℕ
-items_len no_items = zero
-items_len (item j js) = suc (items_len js)
+abbrev pub elements_len : Items → ℕ
+elements_len no_items = zero
+elements_len (item j js) = suc (elements_len js)
 
--- the place at which a token puts a new item among n: its index, or the end for `-`
+-- the place at which a token puts a new element among n: its index, or the end for `-`
 abbrev pub slot_in : List ℕ → ℕ → Option ℕ
 slot_in t n = if bytes_eq t next_token then Some n else option_and_then (λ i. if nat_le i n then Some i else None) (place_of t)
 
@@ -63,13 +63,13 @@ abbrev pub push_member : List ℕ → Json → Members → Members
 push_member k w no_members = member k w no_members
 push_member k w (member l j ms) = member l j (push_member k w ms)
 
--- an object whose last member of this name has the value w, or which has a new one, a list with w as an item more
+-- an object whose last member of this name has the value w, or which has a new one, an array with w as an element more
 abbrev pub add_child : List ℕ → Json → Json → Option Json
 add_child t w null = None
 add_child t w (boolean b) = None
 add_child t w (number s) = None
 add_child t w (string s) = None
-add_child t w (array js) = option_map (λ n. array (insert_item n w js)) (slot_in t (items_len js))
+add_child t w (array js) = option_map (λ n. array (insert_element n w js)) (slot_in t (elements_len js))
 add_child t w (object ms) = Some (object (if_some (get_member t ms) (λ v. put_member t w ms) (push_member t w ms)))
 
 -- the tree with w added at P

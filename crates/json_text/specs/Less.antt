@@ -1,4 +1,4 @@
--- One member or item less, in a row and in its text.
+-- One member or element less, in a row and in its text.
 use Rattle.std.specs.Prelude.{◌≡◌, ℕ, suc, List, Bool, true, false, Some, ⊤}
 use Rattle.json.specs.Json.{Json, null, boolean, number, string, array, object}
 use Rattle.jsonptr.specs.Places.{place_of}
@@ -27,7 +27,7 @@ IsLess t v w = ⊥
 abbrev pub IsLessText : List ℕ → Json → List ℕ → List ℕ → Type 0
 IsLessText text v t new = IsCutOut text v t new × (w : Json) × Says new w × IsLess t v w
 
--- neither an object nor a list
+-- neither an object nor an array
 abbrev pub IsLeaf : Json → Type 0
 IsLeaf null = ⊤
 IsLeaf (boolean b) = ⊤

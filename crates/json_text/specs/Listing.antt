@@ -1,4 +1,4 @@
--- The values in an object or a list, each with its text.
+-- The values in an object or an array, each with its text.
 use Rattle.std.specs.Prelude.{◌≡◌, ◌++◌, ℕ, zero, suc, List, [], ◌∷◌, length, drop, Bool, true, false, None, ⊤}
 use Rattle.std.specs.Borrow.{Bor}
 use Rattle.json.specs.Find.{get_member}
@@ -12,9 +12,9 @@ use Rattle.json_lexemes.specs.declared.span.Span.{Span}
 use Rattle.json.specs.Lex.{colon}
 use Rattle.json_lexemes.specs.Spelled.{Says, spelled}
 use Rattle.json_text.specs.declared.listing.Shape.{Shape}
-use Rattle.json_text.specs.declared.listing.Shape.TheVariants.{Object, List as ListShape, String, Atom}
+use Rattle.json_text.specs.declared.listing.Shape.TheVariants.{Object, Array, String, Atom}
 
--- the text says j, and neither begins nor ends with a blank
+-- the text says j, and neither begins nor ends with whitespace
 abbrev pub IsTextOf : List ℕ → Json → Type 0
 IsTextOf s j = Says s j × IsTight s
 
@@ -22,35 +22,35 @@ IsTextOf s j = Says s j × IsTight s
 abbrev pub Texts : Type 0
 Texts = Bor (List ℕ) × Bor (List ℕ)
 
-abbrev pub AreTextsOfItems : List Texts → Items → Type 0
-AreTextsOfItems [] no_items = ⊤
-AreTextsOfItems (e ∷ es) (item j js) = (e.0.now ≡ []) × IsTextOf e.1.now j × AreTextsOfItems es js
-AreTextsOfItems es js = ⊥
+abbrev pub AreTextsOfElements : List Texts → Items → Type 0
+AreTextsOfElements [] no_items = ⊤
+AreTextsOfElements (e ∷ es) (item j js) = (e.0.now ≡ []) × IsTextOf e.1.now j × AreTextsOfElements es js
+AreTextsOfElements es js = ⊥
 
 abbrev pub AreTextsOfMembers : List Texts → Members → Type 0
 AreTextsOfMembers [] no_members = ⊤
 AreTextsOfMembers (e ∷ es) (member k j ms) = IsTextOf e.0.now (string k) × IsTextOf e.1.now j × AreTextsOfMembers es ms
 AreTextsOfMembers es ms = ⊥
 
--- the texts of j's members, or of its items, in their order
+-- the texts of j's members, or of its elements, in their order
 abbrev pub AreTextsIn : Json → List Texts → Type 0
-AreTextsIn (array js) es = AreTextsOfItems es js
+AreTextsIn (array js) es = AreTextsOfElements es js
 AreTextsIn (object ms) es = AreTextsOfMembers es ms
 AreTextsIn j es = es ≡ []
 
 -- each is the stretch of the text, which says j, at its number, counted from n
-abbrev pub AreStretchesOfItems : List ℕ → Json → ℕ → List Texts → Type 0
-AreStretchesOfItems text j n [] = ⊤
-AreStretchesOfItems text j n (e ∷ es) = IsWrittenAt text j (decimal_token n ∷ []) e.1.now × AreStretchesOfItems text j (suc n) es
+abbrev pub AreStretchesOfElements : List ℕ → Json → ℕ → List Texts → Type 0
+AreStretchesOfElements text j n [] = ⊤
+AreStretchesOfElements text j n (e ∷ es) = IsWrittenAt text j (decimal_token n ∷ []) e.1.now × AreStretchesOfElements text j (suc n) es
 
 -- each is the stretch of the text, which says j, at its name, but where a later member has that name too
 abbrev pub AreStretchesOfMembers : List ℕ → Json → List Texts → Members → Type 0
 AreStretchesOfMembers text j (e ∷ es) (member k v ms) = (get_member k ms ≡ None → IsWrittenAt text j (k ∷ []) e.1.now) × AreStretchesOfMembers text j es ms
 AreStretchesOfMembers text j es ms = ⊤
 
--- the texts of j's members, or of its items, are the stretches of the text where these stand
+-- the texts of j's members, or of its elements, are the stretches of the text where these stand
 abbrev pub AreStretchesIn : List ℕ → Json → List Texts → Type 0
-AreStretchesIn text (array js) es = AreStretchesOfItems text (array js) zero es
+AreStretchesIn text (array js) es = AreStretchesOfElements text (array js) zero es
 AreStretchesIn text (object ms) es = AreStretchesOfMembers text (object ms) es ms
 AreStretchesIn text j es = ⊤
 
@@ -59,7 +59,7 @@ shape_of null = Atom
 shape_of (boolean b) = Atom
 shape_of (number s) = Atom
 shape_of (string s) = String
-shape_of (array js) = ListShape
+shape_of (array js) = Array
 shape_of (object ms) = Object
 
 -- ---- for private clauses

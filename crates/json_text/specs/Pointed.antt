@@ -10,7 +10,7 @@ use Rattle.json_lexemes.specs.Spelled.{Says}
 
 -- ---- in the tree
 
--- what a token names: of an object the member of this name, of several the last; of a list the item at this place
+-- what a token names: of an object the member of this name, of several the last; of an array the element at this place
 abbrev pub child : List ℕ → Json → Option Json
 child t null = None
 child t (boolean b) = None
@@ -31,10 +31,10 @@ abbrev pub if_some : {A B : Type 0} → Option A → (A → B) → B → B
 if_some None f b = b
 if_some (Some a) f b = f a
 
-abbrev pub put_item : ℕ → Json → Items → Items
-put_item n w no_items = no_items
-put_item zero w (item j js) = item w js
-put_item (suc n) w (item j js) = item j (put_item n w js)
+abbrev pub put_element : ℕ → Json → Items → Items
+put_element n w no_items = no_items
+put_element zero w (item j js) = item w js
+put_element (suc n) w (item j js) = item j (put_element n w js)
 
 -- a member of this name is exchanged where no later one has it
 abbrev pub put_member : List ℕ → Json → Members → Members
@@ -46,7 +46,7 @@ put_child t w null = null
 put_child t w (boolean b) = boolean b
 put_child t w (number s) = number s
 put_child t w (string s) = string s
-put_child t w (array js) = array (if_some (place_of t) (λ n. put_item n w js) js)
+put_child t w (array js) = array (if_some (place_of t) (λ n. put_element n w js) js)
 put_child t w (object ms) = object (put_member t w ms)
 
 abbrev pub put_at : Pointer → Json → Json → Json
@@ -55,7 +55,7 @@ put_at (t ∷ P) w j = if_some (child t j) (λ c. put_child t (put_at P w c) j) 
 
 -- ---- the stretch of a text
 
--- no blank stands at its front or its end
+-- no whitespace stands at its front or its end
 abbrev pub IsTight : List ℕ → Type 0
 IsTight s = (is_space (get_or s 0 32) ≡ false) × (is_space (get_or s (length s - 1) 32) ≡ false)
 
@@ -73,7 +73,7 @@ StandsBetween before s behind j P = (v : Json) × (tree_at P j ≡ Some v) × Is
 abbrev pub IsWrittenAt : List ℕ → Json → Pointer → List ℕ → Type 0
 IsWrittenAt text j P s = (before : List ℕ) × (behind : List ℕ) × (text ≡ before ++ (s ++ behind)) × StandsBetween before s behind j P
 
--- the object or list that all tokens of P but the last lead to in j, and where it stands in the text
+-- the object or array that all tokens of P but the last lead to in j, and where it stands in the text
 pub record ParentStands (text : List ℕ) (j : Json) (P : Pointer) : Type 0 where
   pub front : Pointer
   pub last : List ℕ

@@ -1,4 +1,4 @@
--- A text with one member or item cut out, and every other byte kept.
+-- A text with one member or element cut out, and every other byte kept.
 use Rattle.std.specs.Prelude.{◌≡◌, ◌⊎◌, ℕ, zero, suc, ◌-◌, List, [], ◌∷◌, ◌++◌, length, get_or, false, ⊤}
 use Rattle.json.specs.Json.{Json}
 use Rattle.json.specs.Token as t
@@ -15,18 +15,18 @@ use Rattle.json_text.specs.declared.fault.ChangeFault.TheVariants.{Text, Value, 
 
 -- ---- the piece that is cut out with a value
 
--- no blank stands at its front; at its end
+-- no whitespace stands at its front; at its end
 abbrev pub IsTightFront : List ℕ → Type 0
 IsTightFront s = is_space (get_or s 0 32) ≡ false
 
 abbrev pub IsTightEnd : List ℕ → Type 0
 IsTightEnd s = is_space (get_or s (length s - 1) 32) ≡ false
 
--- what stands before a value: the name of a member and its colon, and nothing before an item
+-- what stands before a value: the name of a member and its colon, and nothing before an element
 abbrev pub IsNaming : List Lexeme → Type 0
 IsNaming ls = (ls ≡ []) ⊎ ((k : List ℕ) × (ls ≡ token (t.string k) ∷ colon ∷ []))
 
--- A value stands in its object or list between front and back, which go with it, and these between before and behind. It is
+-- A value stands in its object or array between front and back, which go with it, and these between before and behind. It is
 -- not the last: the piece goes from its start to the start of the next;
 abbrev pub UpToNext : List Lexeme → List ℕ → List ℕ → List ℕ → List ℕ → Type 0
 UpToNext name front value back behind = IsTightFront (front ++ value) × (lex between front ≡ name) × (lex between back ≡ comma ∷ []) × IsTightFront behind
@@ -62,7 +62,7 @@ abbrev pub AreCutOut : ℕ → List ℕ → Json → List ℕ → List ℕ → T
 AreCutOut zero text v t new = new ≡ text
 AreCutOut (suc n) text v t new = (less : List ℕ) × (w : Json) × AreCutOut n text v t less × Says less w × IsCutOut less w t new
 
--- in the text the object or list where the tokens but the last lead has all that the last one names cut out
+-- in the text the object or array where the tokens but the last lead has all that the last one names cut out
 pub record IsRemoved (text : List ℕ) (P : Pointer) (new : List ℕ) : Type 0 where
   pub tree : Json
   pub says : IsShallowText text tree

@@ -1,4 +1,4 @@
--- The members of an object, or the items of a list, in a row.
+-- The members of an object, or the elements of an array, in a row.
 use Rattle.std.specs.Prelude.{◌≡◌, ◌⊎◌, ◌<◌, ◌≤◌, ◌+◌, ℕ, zero, suc, List, [], ◌∷◌, ◌++◌, length, take, ◌-◌, drop, get_or, Bool, true, false, cond, Option, Some, None, MatchOption, IfSome, IfNone, option_map}
 use Rattle.std.specs.Str.{bytes_eq, IsUtf8, IsCharBoundary}
 use Rattle.json.specs.Json.{Json, array, object, Items, no_items, item, Members, no_members, member}
@@ -10,12 +10,12 @@ use Rattle.json.specs.Word.{is_space}
 use Rattle.json_lexemes.specs.Spelled.{spelled, Says}
 use Rattle.json_lexemes.specs.Places.{mode_at, left_at, HasEnd, IsEnd}
 use Rattle.json_lexemes.specs.Found.{IsCut, IsWithin, or_else}
-use Rattle.json_text.specs.Styled.{blanks_like, colons_like}
+use Rattle.json_text.specs.Styled.{colons_like, whitespace_like}
 use Rattle.json_text.specs.declared.parts.Numbered.{Numbered}
 use Rattle.json_text.specs.declared.parts.Part.{Part}
 use Rattle.json_lexemes.specs.declared.span.Span.{Span}
 
--- a member's name, empty for an item, and its value
+-- a member's name, empty for an element, and its value
 abbrev pub Child : Type 0
 Child = List ℕ × Json
 
@@ -48,13 +48,13 @@ abbrev pub members_in : List Child → Members
 members_in [] = no_members
 members_in (c ∷ cs) = member c.0 c.1 (members_in cs)
 
-abbrev pub items_in : List Child → Items
-items_in [] = no_items
-items_in (c ∷ cs) = item c.1 (items_in cs)
+abbrev pub elements_in : List Child → Items
+elements_in [] = no_items
+elements_in (c ∷ cs) = item c.1 (elements_in cs)
 
 abbrev pub tree_in : Bool → List Child → Json
 tree_in true cs = object (members_in cs)
-tree_in false cs = array (items_in cs)
+tree_in false cs = array (elements_in cs)
 
 -- the number of the last of this name
 abbrev pub last_named : List ℕ → List Child → Option ℕ
@@ -66,7 +66,7 @@ last_named k (c ∷ cs) = or_else (option_map suc (last_named k cs)) (cond (byte
 abbrev pub slice : List ℕ → ℕ → ℕ → List ℕ
 slice t i k = take (k - i) (drop i t)
 
--- no blank stands at this place
+-- no whitespace stands at this place
 abbrev pub IsSolid : List ℕ → ℕ → Type 0
 IsSolid t i = i < length t → is_space (get_or t i 0) ≡ false
 
@@ -131,7 +131,7 @@ pub record IsNumbered (t : List ℕ) (b : Bool) (cs : List Child) (n : ℕ) (r :
   pub part : IsPart t b (drop n cs) r.part
   pub places : ArePlaces t r.part
 
--- the inside of an object or a list begins at from
+-- the inside of an object or an array begins at from
 abbrev pub IsInside : List ℕ → Bool → List Child → ℕ → Type 0
 IsInside t b cs from = (left_at t from ≡ inside b cs) × (mode_at t from ≡ between) × HasEnd t from
 
@@ -151,7 +151,7 @@ IsChild t n r = (b : Bool) × (cs : List Child) × Says t (tree_in b cs) × IsNu
 abbrev pub IsMember : List ℕ → ℕ → Numbered → Type 0
 IsMember t n r = (cs : List Child) × Says t (tree_in true cs) × IsNumbered t true cs n r
 
--- the text is JSON, an object or a list with this inside
+-- the text is JSON, an object or an array with this inside
 abbrev pub HasRow : List ℕ → Bool → ℕ → Type 0
 HasRow t b from = (cs : List Child) × Says t (tree_in b cs) × IsInside t b cs from
 
@@ -160,7 +160,7 @@ pub record IsLast (t : List ℕ) (b : Bool) (cs : List Child) (n : ℕ) (r : Num
   pub numbered : IsNumbered t b cs n r
   pub last : drop (n + 1) cs ≡ []
 
--- only blanks stand from i to k, behind a bracket or a comma
+-- only whitespace stands from i to k, behind a bracket or a comma
 pub record IsGap (t : List ℕ) (i k : ℕ) : Type 0 where
   pub left : left_at t i ≡ left_at t k
   pub begins : mode_at t i ≡ between
@@ -168,7 +168,7 @@ pub record IsGap (t : List ℕ) (i k : ℕ) : Type 0 where
   pub some : 0 < i
   pub order : i ≤ k
 
--- the name of the member r ends at k, where the blanks and the colon begin
+-- the name of the member r ends at k, where the whitespace and the colon begin
 pub record EndsName (t : List ℕ) (r : Numbered) (k : ℕ) : Type 0 where
   pub left : left_at t k ≡ colon ∷ left_at t r.part.value.start
   pub begins : mode_at t k ≡ between
@@ -176,15 +176,15 @@ pub record EndsName (t : List ℕ) (r : Numbered) (k : ℕ) : Type 0 where
   pub behind : r.part.start < k
   pub order : k ≤ r.part.value.start
 
--- the comma, and blanks like those before a child
+-- the comma, and whitespace like that before a child
 abbrev pub IsComma : List ℕ → ℕ → List ℕ → Type 0
-IsComma t start s = (i : ℕ) × IsGap t i start × (s ≡ 44 ∷ blanks_like (slice t i start))
+IsComma t start s = (i : ℕ) × IsGap t i start × (s ≡ 44 ∷ whitespace_like (slice t i start))
 
--- the comma, blanks like those before a member, the name k, and a colon like its own
+-- the comma, whitespace like that before a member, the name k, and a colon like its own
 abbrev pub IsMemberAhead : List ℕ → Numbered → List ℕ → List ℕ → Type 0
-IsMemberAhead t r k s = (i : ℕ) × (e : ℕ) × IsGap t i r.part.start × EndsName t r e × (s ≡ 44 ∷ (blanks_like (slice t i r.part.start) ++ (quoted k ++ colons_like (slice t e r.part.value.start))))
+IsMemberAhead t r k s = (i : ℕ) × (e : ℕ) × IsGap t i r.part.start × EndsName t r e × (s ≡ 44 ∷ (whitespace_like (slice t i r.part.start) ++ (quoted k ++ colons_like (slice t e r.part.value.start))))
 
--- the comma, and the blanks behind a value before the item r of number n, like those before it: before the first like those of the second
+-- the comma, and the whitespace behind a value before the element r of number n, like that before it: before the first like that of the second
 abbrev pub IsTrail : List ℕ → ℕ → ℕ → Numbered → List ℕ → Type 0
 IsTrail t from n r s = (cs : List Child) → IsInside t false cs from
     → ((n ≡ 0) × ((r2 : Numbered) × IsNumbered t false cs 1 r2 × AreInOrder t r2.part × IsComma t r2.part.start s))

@@ -1,13 +1,13 @@
--- What a new member or item takes over from a neighbour: at most so many bytes of blanks.
+-- What a new member or element takes over from a neighbour: at most so many bytes of whitespace.
 use Rattle.std.specs.Prelude.{ℕ, List, [], ◌∷◌, length, if◌then◌else◌, nat_le}
 
-abbrev pub most_blanks : ℕ
-most_blanks = 128
+abbrev pub most_whitespace : ℕ
+most_whitespace = 128
 
--- its blanks, by those of the neighbour: none, if those are more
-abbrev pub blanks_like : List ℕ → List ℕ
-blanks_like s = if nat_le (length s) most_blanks then s else []
+-- its whitespace, by that of the neighbour: none, if that is more
+abbrev pub whitespace_like : List ℕ → List ℕ
+whitespace_like s = if nat_le (length s) most_whitespace then s else []
 
--- its colon with the blanks around it, by the neighbour's: bare, if those are more
+-- its colon with the whitespace around it, by the neighbour's: bare, if that is more
 abbrev pub colons_like : List ℕ → List ℕ
-colons_like s = if nat_le (length s) most_blanks then s else (58 ∷ [])
+colons_like s = if nat_le (length s) most_whitespace then s else (58 ∷ [])

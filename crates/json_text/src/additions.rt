@@ -48,13 +48,14 @@ fn standing_member(
 /// it was.
 ///
 /// The whole value, and a member that stands, of several of one name the last, is exchanged. A new
-/// member comes behind the last, a new item before the one at the index, or behind the last for `-` and
-/// the index past it. The value is put in as it is written, without the blanks around it.
+/// member comes behind the last, a new element before the one at the index, or behind the last for `-`
+/// and the index past it. The value is put in as it is written, without the whitespace around it.
 ///
-/// Behind the comma come the blanks that stand before the last member or item, or before the item that
-/// the new one precedes (before the first those of the second). A member has the last one's colon with
-/// the blanks around it. Of more than 128 bytes neither is taken over: then no blank comes, and the colon
-/// is bare. With no neighbour the value comes right behind the bracket, with no blank.
+/// Behind the comma comes the whitespace that stands before the last member or element, or before the
+/// element that the new one precedes (before the first that of the second). A member has the last one's
+/// colon with the whitespace around it. Of more than 128 bytes neither is taken over: then no whitespace
+/// comes, and the colon is bare. With no neighbour the value comes right behind the bracket, with no
+/// whitespace.
 ///
 /// ```rust
 /// let text = r#"{"name": "x", "list": [1.50, 2] }"#;

@@ -36,7 +36,7 @@ pub(crate) fn exchanged(
 
 /// The text with another value where the pointer leads, and every other byte as it was.
 ///
-/// The value is a JSON text, and is put in as it is written, without the blanks around it. Of several
+/// The value is a JSON text, and is put in as it is written, without the whitespace around it. Of several
 /// members of one name the last is meant.
 ///
 /// ```rust
@@ -71,9 +71,10 @@ pub fn replace(
 /// The text without what stands where the pointer leads (RFC 6902, section 4.2), and every other byte
 /// as it was.
 ///
-/// Of an object all members of the name go. With a member or an item go the blanks before the next
-/// one and the comma there; of the last one, and not alone, the comma and the blanks before it; of one
-/// that is alone all blanks between the brackets. The whole isn't removed: the pointer needs a token.
+/// Of an object all members of the name go. With a member or an element go the comma behind it and the
+/// whitespace before the next one; of the last one, and not alone, the comma and the whitespace before
+/// it; of one that is alone all whitespace between the brackets. The whole isn't removed: the pointer
+/// needs a token.
 ///
 /// ```rust
 /// let text = r#"{"name": "x", "list": [1.50, 2] }"#;

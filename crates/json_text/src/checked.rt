@@ -60,7 +60,7 @@ impl<'a> CheckedText<'a> {
     ///
     /// ```rust
     /// let text = CheckedText::within(r#"{"list": [1.50, 2] }"#, 2);
-    /// // Some: the list stands in the object
+    /// // Some: the array stands in the object
     /// ```
     pub fn within(text: &'a str, levels: usize) -> Option<CheckedText<'a>>
         ensures text { IfSome result (λ checked. text_in checked ≡ text.now) }
@@ -94,7 +94,7 @@ impl<'a> CheckedText<'a> {
     ///
     /// ```rust
     /// let text = CheckedText::new(alloc, r#"{"list": [1.50, 2] }"#)?;
-    /// let list = text.value(alloc, place)?;
+    /// let array = text.value(alloc, place)?;
     /// // [1.50, 2]
     /// ```
     pub fn value(

@@ -8,7 +8,7 @@ ghost use Rattle.json_lexemes.specs.Places.{left_at, mode_at};
 ghost use Rattle.json_lexemes.specs.Spelled.{Says};
 ghost use Rattle.json_text.specs.Pointed.{child, put_child, IsStretch};
 
-use json_lexemes::{Span, blank_end, byte_at, item, last_end, member};
+use json_lexemes::{Span, byte_at, element, last_end, member, whitespace_end};
 use jsonptr::index::Index;
 
 /// The value that a token names in a text that is JSON.
@@ -19,7 +19,7 @@ pub(crate) fn child(text: &[u8], name: &str) -> Option<Span>
         (drop s.end text.now) v (λ w. put_child name.now w j)) }
     ensures within { IfSome result (IsWithin text.now) }
 {
-    let open = blank_end(text, 0);
+    let open = whitespace_end(text, 0);
     let first = byte_at(text, open);
     if first == b'{' {
         return member(text, open + 1, name.as_bytes());
@@ -27,16 +27,16 @@ pub(crate) fn child(text: &[u8], name: &str) -> Option<Span>
     if first != b'[' {
         return None;
     }
-    // The length of a text fits a `usize`, so a place that doesn't has no item.
+    // The length of a text fits a `usize`, so a place that doesn't has no element.
     let _fits = text.len();
     match Index::parse(name) {
-        Ok(Index::Num(number)) => item(text, open + 1, number),
+        Ok(Index::Num(number)) => element(text, open + 1, number),
         Ok(Index::Next) => None,
         Err(_) => None,
     }
 }
 
-/// The text with none of the blanks around it, where it is JSON.
+/// The text with none of the whitespace around it, where it is JSON.
 pub(crate) fn whole(text: &[u8]) -> Span
     ensures whole { (j : Json) → Says text.now j
         → IsStretch (take result.start text.now)
@@ -47,7 +47,7 @@ pub(crate) fn whole(text: &[u8]) -> Span
     ensures begins { mode_at text.now result.start ≡ between }
     ensures ends { left_at text.now result.end ≡ [] }
 {
-    let start = blank_end(text, 0);
+    let start = whitespace_end(text, 0);
     let end = last_end(text, start);
     Span { start, end }
 }

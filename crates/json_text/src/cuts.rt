@@ -1,10 +1,10 @@
-//! The members of an object, or the items of a list, each cut into its parts.
+//! The members of an object, or the elements of an array, each cut into its parts.
 
 ghost use Rattle.std.specs.Prelude.{◌≡◌, ◌≤◌, ◌++◌, ℕ, Bool, length, List, [], MatchOption, IfSome};
 ghost use Rattle.std.specs.Bool.{Decides};
 ghost use Rattle.std.specs.Str.{IsCharBoundary};
 ghost use Rattle.json.specs.Json.{Json, string};
-ghost use Rattle.json_text.specs.Cuts.{ClosesAt, CutsFirst, IsBlank, GoesOn, IsBehindMark};
+ghost use Rattle.json_text.specs.Cuts.{ClosesAt, CutsFirst, IsWhitespace, GoesOn, IsBehindMark};
 ghost use Rattle.json_text.specs.Listing.{IsTextOf};
 ghost use Rattle.json_text.specs.Pointed.{IsStretch};
 ghost use Rattle.json_text.specs.Rows.{Child};
@@ -13,26 +13,26 @@ ghost use Rattle.json_lexemes.specs.Spelled.{Says};
 use crate::children::whole;
 use crate::listing::name_from;
 use crate::parts::part_from;
-use json_lexemes::{blank_end, is_name};
+use json_lexemes::{is_name, whitespace_end};
 
-/// A member or an item, as it stands in the text: its parts in their order, and nothing between them.
+/// A member or an element, as it stands in the text: its parts in their order, and nothing between them.
 #[derive(Clone, Copy, Debug, Drop)]
 pub struct Cut<'a> {
-    /// The blanks behind the bracket or the comma before it.
-    pub blank: &'a str,
-    /// A member's name as it is written, with its quotes; of an item nothing.
+    /// The whitespace behind the bracket or the comma before it.
+    pub whitespace: &'a str,
+    /// A member's name as it is written, with its quotes; of an element nothing.
     pub name: &'a str,
-    /// A member's colon, with the blanks around it; of an item nothing.
+    /// A member's colon, with the whitespace around it; of an element nothing.
     pub colons: &'a str,
     pub value: &'a str,
-    /// The blanks behind it.
+    /// The whitespace behind it.
     pub trail: &'a str,
-    /// The place behind the comma that follows, where the next one's blanks begin.
+    /// The place behind the comma that follows, where the next one's whitespace begins.
     pub next: Option<usize>,
 }
 
-/// The member or item whose blanks begin at `from`, right behind a bracket or a comma; `None` where the
-/// closing bracket follows the blanks.
+/// The member or element whose whitespace begins at `from`, right behind a bracket or a comma; `None`
+/// where the closing bracket follows the whitespace.
 pub fn cut_at<'a>(text: &'a str, from: usize, named: bool) -> Option<Cut<'a>>
     requires within { from ≤ length text.now }
     requires boundary { IsCharBoundary text.now from }
@@ -43,19 +43,19 @@ pub fn cut_at<'a>(text: &'a str, from: usize, named: bool) -> Option<Cut<'a>>
     ensures next { IfSome result (GoesOn text.now from) }
 {
     let bytes = text.as_bytes();
-    let start = blank_end(bytes, from);
+    let start = whitespace_end(bytes, from);
     let Some(part) = part_from(bytes, start, named) else {
         return None;
     };
     let name = name_from(bytes, start, named);
     let value = part.value;
-    let end = blank_end(bytes, value.end);
+    let end = whitespace_end(bytes, value.end);
     let next = match part.next {
         Some(_) => Some(end + 1),
         None => None,
     };
     Some(Cut {
-        blank: &text[from..start],
+        whitespace: &text[from..start],
         name: &text[start..name.end],
         colons: &text[name.end..value.start],
         value: &text[value.start..value.end],
@@ -64,13 +64,13 @@ pub fn cut_at<'a>(text: &'a str, from: usize, named: bool) -> Option<Cut<'a>>
     })
 }
 
-/// The blanks from `from` on.
-pub fn blanks_at(text: &str, from: usize) -> &str
+/// The whitespace from `from` on.
+pub fn whitespace_at(text: &str, from: usize) -> &str
     requires within { from ≤ length text.now }
     requires boundary { IsCharBoundary text.now from }
     ensures { (b : Bool) → IsBehindMark text.now b [] from → ClosesAt text.now b from result.now }
 {
-    &text[from..blank_end(text.as_bytes(), from)]
+    &text[from..whitespace_end(text.as_bytes(), from)]
 }
 
 /// Whether the text of a name, with its quotes and escapes, stands for this one.
@@ -80,12 +80,12 @@ pub fn is_name_text(text: &str, name: &str) -> bool
     !text.is_empty() && is_name(text.as_bytes(), 1, name.as_bytes())
 }
 
-/// The blanks before a value, its text, and the blanks behind it, of a text that is JSON.
-pub fn split_blanks<'a>(text: &'a str) -> (&'a str, &'a str, &'a str)
+/// The whitespace before a value, its text, and the whitespace behind it, of a text that is JSON.
+pub fn split_off_whitespace<'a>(text: &'a str) -> (&'a str, &'a str, &'a str)
     ensures whole { text.now ≡ result.0.now ++ (result.1.now ++ result.2.now) }
     ensures value { (j : Json) → Says text.now j
         → IsStretch result.0.now result.1.now result.2.now j (λ w. w) }
-    ensures blanks { IsBlank result.0.now × IsBlank result.2.now }
+    ensures whitespace { IsWhitespace result.0.now × IsWhitespace result.2.now }
 {
     let place = whole(text.as_bytes());
     (

@@ -1,4 +1,4 @@
-//! A member or an item cut out of its object or list.
+//! A member or an element cut out of its object or array.
 
 ghost use Rattle.std.specs.Prelude.{◌≡◌, ◌<◌, ◌≤◌, ◌+◌, ◌++◌, List, None, ℕ, IfOk, IfSome, MatchOption, length, take, drop};
 ghost use Rattle.std.specs.String.{string_bytes};
@@ -12,10 +12,10 @@ ghost use Rattle.json_lexemes.specs.Spelled.{Says};
 
 use crate::changes::exchanged;
 use crate::parts::{Numbered, is_object, number_of, part_at, row_in};
-use json_lexemes::{Span, blank_end};
+use json_lexemes::{Span, whitespace_end};
 use std::alloc::{AllocError, Global};
 
-/// What goes with a member or an item, so that no comma is left: up to the next one; from the one
+/// What goes with a member or an element, so that no comma is left: up to the next one; from the one
 /// before, where it is the last; all between the brackets, where it is alone.
 fn edges(text: &[u8], number: usize, found: Numbered) -> Span
     requires order { AreInOrder text.now found.part }
@@ -31,7 +31,7 @@ fn edges(text: &[u8], number: usize, found: Numbered) -> Span
     }
     let start = found.before;
     let end = if number == 0 {
-        blank_end(text, value.end)
+        whitespace_end(text, value.end)
     } else {
         value.end
     };
@@ -50,7 +50,7 @@ fn piece(text: &[u8], name: &str) -> Option<Span>
     Some(edges(text, number, found))
 }
 
-/// The text of an object or a list without one thing that a token names.
+/// The text of an object or an array without one thing that a token names.
 fn without_one(alloc: Global, text: &str, name: &str) -> Result<Option<String>, AllocError>
     ensures { IfOk result (λ less. (v : Json) → Says text.now v
         → MatchOption less (child name.now v ≡ None)
@@ -63,7 +63,7 @@ fn without_one(alloc: Global, text: &str, name: &str) -> Result<Option<String>, 
     Ok(Some(new))
 }
 
-/// The text of an object or a list without all that a token names.
+/// The text of an object or an array without all that a token names.
 pub(crate) fn without(alloc: Global, text: &str, name: &str) -> Result<Option<String>, AllocError>
     requires { (v : Json) × Says text.now v }
     ensures { IfOk result (λ less. (v : Json) → Says text.now v

@@ -1,4 +1,4 @@
-//! A value put into the text of an object or a list, in the style of its neighbours.
+//! A value put into the text of an object or an array, in the style of its neighbours.
 
 ghost use Rattle.std.specs.Prelude.{◌≡◌, ◌≢◌, ◌<◌, ◌≤◌, ◌+◌, ◌^◌, ◌++◌, List, None, true, false, IfOk, IfSome, MatchOption, length, take, drop, []};
 ghost use Rattle.std.specs.Str.{IsUtf8, IsCharBoundary};
@@ -14,9 +14,9 @@ ghost use Rattle.json_text.specs.Rows.{AreInOrder, CutNone, Child, HasRow, IsChi
 ghost use Rattle.json_text.specs.Rows.{IsMember, IsMemberAhead, IsNumbered, IsTrail};
 
 use crate::parts::{Numbered, last_part, part_at, row_in};
-use crate::style::{blanks_like, colons_like};
+use crate::style::{colons_like, whitespace_like};
 use json::Writer;
-use json_lexemes::{blank_end, string_end};
+use json_lexemes::{string_end, whitespace_end};
 use jsonptr::index::Index;
 use std::alloc::{AllocError, Global};
 
@@ -55,7 +55,7 @@ fn put_in(
     Ok(new)
 }
 
-/// Where the blanks of a member or an item begin, behind the bracket or the comma before it.
+/// Where the whitespace of a member or an element begins, behind the bracket or the comma before it.
 fn gap(text: &[u8], number: usize, found: Numbered) -> usize
     requires child { IsChild text.now number found }
     requires order { found.before ≤ found.part.start }
@@ -67,11 +67,11 @@ fn gap(text: &[u8], number: usize, found: Numbered) -> usize
     if number == 0 {
         found.before
     } else {
-        blank_end(text, found.before) + 1
+        whitespace_end(text, found.before) + 1
     }
 }
 
-/// What stands before a value behind the last item: a comma, and blanks like those of that item.
+/// What stands before a value behind the last element: a comma, and whitespace like that element's.
 fn comma(alloc: Global, text: &str, number: usize, last: Numbered) -> Result<String, AllocError>
     requires child { IsChild text.now number last }
     requires order { last.before ≤ last.part.start }
@@ -82,7 +82,7 @@ fn comma(alloc: Global, text: &str, number: usize, last: Numbered) -> Result<Str
     let gap = gap(text.as_bytes(), number, last);
     let mut ahead = String::new(alloc);
     ahead.push(',')?;
-    ahead.push_str(blanks_like(&text[gap..last.part.start]))?;
+    ahead.push_str(whitespace_like(&text[gap..last.part.start]))?;
     Ok(ahead)
 }
 
@@ -133,7 +133,7 @@ fn with_member(
     put_in(alloc, text, end, (ahead.as_str(), ""), value)
 }
 
-/// The second item, if `number` is that of the first.
+/// The second element, if `number` is that of the first.
 fn second(text: &[u8], start: usize, number: usize) -> Option<Numbered>
     requires { start ≤ length text.now }
     ensures second { (cs : List Child) → IsInside text.now false cs start
@@ -150,8 +150,8 @@ fn second(text: &[u8], start: usize, number: usize) -> Option<Numbered>
     }
 }
 
-/// What stands behind a value before an item: a comma, and blanks like those of that item, but before
-/// the first like those of the second, if there is one.
+/// What stands behind a value before an element: a comma, and whitespace like that element's, but before
+/// the first like the second's, if there is one.
 fn trail(
     alloc: Global,
     text: &str,
@@ -174,8 +174,8 @@ fn trail(
     }
 }
 
-/// The text of a list, whose inside begins at `start`, with a new item.
-fn with_item(
+/// The text of an array, whose inside begins at `start`, with a new element.
+fn with_element(
     alloc: Global,
     text: &str,
     start: usize,
@@ -222,7 +222,7 @@ fn count(last: Option<(usize, Numbered)>) -> usize
     }
 }
 
-/// The text of an object or a list with a value put in as what a token names.
+/// The text of an object or an array with a value put in as what a token names.
 pub(crate) fn with_child(
     alloc: Global,
     text: &str,
@@ -239,7 +239,7 @@ pub(crate) fn with_child(
         return Ok(None);
     };
     if !row.named {
-        return with_item(alloc, text, row.start, name, value);
+        return with_element(alloc, text, row.start, name, value);
     }
     let new = with_member(alloc, text, row.start, name, value)?;
     Ok(Some(new))

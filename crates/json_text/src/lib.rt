@@ -3,12 +3,12 @@
 //! A text says a tree: of each number its text, of each string what its escapes stand for, and the
 //! members in their order, with names that come twice. [`value_text`] answers with the stretch of the
 //! text where a pointer leads, as it is written there. [`replace`] exchanges that stretch alone, and
-//! [`remove`] and [`add`] take a member or item out or put one in, in the style of its neighbours. A
+//! [`remove`] and [`add`] take a member or element out or put one in, in the style of its neighbours. A
 //! [`CheckedText`] is checked once, and does all this with no further check.
 //!
 //! ```rust
 //! let text = r#"{"name": "x", "list": [1.50, "\u0041"] }"#;
-//! let list = value_text(alloc, text, place)?;
+//! let array = value_text(alloc, text, place)?;
 //! // [1.50, "\u0041"]
 //! ```
 #![tactic(auto)]
@@ -31,10 +31,10 @@ mod style;
 pub use additions::add;
 pub use changes::{remove, replace};
 pub use checked::CheckedText;
-pub use cuts::{Cut, blanks_at, cut_at, is_name_text, split_blanks};
+pub use cuts::{Cut, cut_at, is_name_text, split_off_whitespace, whitespace_at};
 pub use fault::{ChangeFault, TextFault};
 pub use growing::quoted;
 pub use listing::{Shape, child_texts};
 pub use reading::{is_deeper, value_text};
 pub use strings::string_of;
-pub use style::{blanks_like, colons_like};
+pub use style::{colons_like, whitespace_like};

@@ -1,4 +1,4 @@
-//! The texts of the values in an object or in a list.
+//! The texts of the values in an object or in an array.
 
 ghost use Rattle.std.specs.Prelude.{◌≡◌, ◌≤◌, true, length, IfOk, IfSome, List};
 ghost use Rattle.std.specs.Str.{IsUtf8, IsCharBoundary};
@@ -11,14 +11,14 @@ ghost use Rattle.json_text.specs.Rows.{Child, IsSolid, inside};
 ghost use Rattle.json_lexemes.specs.Spelled.{Says};
 
 use crate::parts::{part_from, row_in};
-use json_lexemes::{Span, blank_end, byte_at, string_end};
+use json_lexemes::{Span, byte_at, string_end, whitespace_end};
 use std::alloc::{AllocError, Global};
 
 /// What a value is, by its first byte.
 #[derive(Clone, Copy, Debug, Drop)]
 pub enum Shape {
     Object,
-    List,
+    Array,
     String,
     /// A number or a literal.
     Atom,
@@ -30,11 +30,11 @@ impl Shape {
         ensures { (j : Json) → Says text.now j → result ≡ shape_of j }
     {
         let bytes = text.as_bytes();
-        let first = byte_at(bytes, blank_end(bytes, 0));
+        let first = byte_at(bytes, whitespace_end(bytes, 0));
         if first == b'{' {
             Shape::Object
         } else if first == b'[' {
-            Shape::List
+            Shape::Array
         } else if first == b'"' {
             Shape::String
         } else {
@@ -62,9 +62,9 @@ pub(crate) fn name_from(text: &[u8], start: usize, named: bool) -> Span
     }
 }
 
-/// The texts of an object's members, each its name's and its value's, or of a list's items, each with
-/// an empty name, in their order and without the blanks around them. Any other value has none. The text
-/// is to be JSON.
+/// The texts of an object's members, each its name's and its value's, or of an array's elements, each
+/// with an empty name, in their order and without the whitespace around them. Any other value has none.
+/// The text is to be JSON.
 ///
 /// ```rust
 /// let found = child_texts(alloc, r#"{"a": 1.50, "b": [ ]}"#)?;
@@ -80,7 +80,7 @@ pub fn child_texts<'a>(alloc: Global, text: &'a str) -> Result<Vec<(&'a str, &'a
     let Some(row) = row_in(bytes) else {
         return Ok(found);
     };
-    let mut start = blank_end(bytes, row.start);
+    let mut start = whitespace_end(bytes, row.start);
     while let Some(part) = part_from(bytes, start, row.named) {
         let name = name_from(bytes, start, row.named);
         found.push((

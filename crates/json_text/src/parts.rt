@@ -1,4 +1,4 @@
-//! The members of an object, or the items of a list, by their places in a text.
+//! The members of an object, or the elements of an array, by their places in a text.
 
 ghost use Rattle.std.specs.Prelude.{◌≡◌, ◌<◌, ◌≤◌, ◌+◌, ◌^◌, true, length, drop, List, Some, None, [], if◌then◌else◌, Option};
 ghost use Rattle.std.specs.Prelude.{IfNone, IfSome, MatchOption, false, ℕ};
@@ -12,10 +12,10 @@ ghost use Rattle.json_text.specs.Rows.{ArePlaces, AreInOrder, Child, CutNone, Fi
 ghost use Rattle.json_text.specs.Rows.{IsInside, IsLast, IsNumbered, IsSolid, inside, last_named, tree_in};
 ghost use Rattle.json_lexemes.specs.Spelled.{Says};
 
-use json_lexemes::{Span, after, blank_end, byte_at, is_name, string_end, value_from};
+use json_lexemes::{Span, after, byte_at, is_name, string_end, value_from, whitespace_end};
 use jsonptr::index::Index;
 
-/// A member or an item.
+/// A member or an element.
 #[derive(Clone, Copy, Debug, Drop)]
 pub(crate) struct Part {
     /// Its first byte.
@@ -25,7 +25,7 @@ pub(crate) struct Part {
     pub next: Option<usize>,
 }
 
-/// A member or an item among others.
+/// A member or an element among others.
 #[derive(Clone, Copy, Debug, Drop)]
 pub(crate) struct Numbered {
     /// The end of the one before, or of the bracket.
@@ -33,7 +33,7 @@ pub(crate) struct Numbered {
     pub part: Part,
 }
 
-/// Where the value of the member begins whose name begins at `start`, or of the item there.
+/// Where the value of the member begins whose name begins at `start`, or of the element there.
 fn value_start(text: &[u8], start: usize, named: bool) -> Option<usize>
     requires within { start ≤ length text.now }
     requires solid { IsSolid text.now start }
@@ -41,7 +41,7 @@ fn value_start(text: &[u8], start: usize, named: bool) -> Option<usize>
         → FindsValue text.now named cs start result }
     ensures bounds { IfSome result (λ v. (start ≤ v) × (v ≤ length text.now)) }
     ensures quoted { IfSome result (λ v. named ≡ true → start < v) }
-    ensures item { named ≡ false → IfSome result (λ v. v ≡ start) }
+    ensures element { named ≡ false → IfSome result (λ v. v ≡ start) }
     ensures solid { IfSome result (IsSolid text.now) }
     ensures begins { mode_at text.now start ≡ between
         → IfSome result (λ v. mode_at text.now v ≡ between) }
@@ -58,13 +58,13 @@ fn value_start(text: &[u8], start: usize, named: bool) -> Option<usize>
     after(text, string_end(text, start + 1), b':')
 }
 
-/// The member or item that begins at `start`.
+/// The member or element that begins at `start`.
 pub(crate) fn part_from(text: &[u8], start: usize, named: bool) -> Option<Part>
     requires within { start ≤ length text.now }
     requires solid { IsSolid text.now start }
     ensures start { IfSome result (λ p. p.start ≡ start) }
     ensures quoted { IfSome result (λ p. named ≡ true → start < length text.now) }
-    ensures item { named ≡ false → IfSome result (λ p. p.value.start ≡ start) }
+    ensures element { named ≡ false → IfSome result (λ p. p.value.start ≡ start) }
     ensures part { (cs : List Child) → left_at text.now start ≡ inside named cs
         → FindsPart text.now named cs result }
     ensures places { mode_at text.now start ≡ between → IfSome result (ArePlaces text.now) }
@@ -77,7 +77,7 @@ pub(crate) fn part_from(text: &[u8], start: usize, named: bool) -> Option<Part>
     Some(Part { start, value, next })
 }
 
-/// The member or item of this number, in an object or a list whose inside begins at `from`.
+/// The member or element of this number, in an object or an array whose inside begins at `from`.
 pub(crate) fn part_at(text: &[u8], from: usize, named: bool, number: usize) -> Option<Numbered>
     requires { from ≤ length text.now }
     ensures found { (cs : List Child) → IsInside text.now named cs from
@@ -87,7 +87,7 @@ pub(crate) fn part_at(text: &[u8], from: usize, named: bool, number: usize) -> O
         (λ r. (IsUtf8 text.now → IsCharBoundary text.now r.before) × CutNone text.now r.part) }
 {
     let mut before = from;
-    let mut start = blank_end(text, from);
+    let mut start = whitespace_end(text, from);
     let mut passed = 0;
     while let Some(part) = part_from(text, start, named) {
         if passed == number {
@@ -103,7 +103,7 @@ pub(crate) fn part_at(text: &[u8], from: usize, named: bool, number: usize) -> O
     None
 }
 
-/// The last member or item and its number, in an object or a list whose inside begins at `from`.
+/// The last member or element and its number, in an object or an array whose inside begins at `from`.
 pub(crate) fn last_part(text: &[u8], from: usize, named: bool) -> Option<(usize, Numbered)>
     requires { from ≤ length text.now }
     ensures last { (cs : List Child) → IsInside text.now named cs from
@@ -114,7 +114,7 @@ pub(crate) fn last_part(text: &[u8], from: usize, named: bool) -> Option<(usize,
         (λ r. (IsUtf8 text.now → IsCharBoundary text.now r.1.before) × CutNone text.now r.1.part) }
 {
     let mut before = from;
-    let mut start = blank_end(text, from);
+    let mut start = whitespace_end(text, from);
     let mut number = 0;
     while let Some(part) = part_from(text, start, named) {
         let Some(next) = part.next else {
@@ -141,7 +141,7 @@ pub(crate) fn last_named(text: &[u8], from: usize, name: &[u8]) -> Option<usize>
         → result ≡ last_named name.now cs }
 {
     let mut found = None;
-    let mut start = blank_end(text, from);
+    let mut start = whitespace_end(text, from);
     let mut number = 0;
     while let Some(part) = part_from(text, start, true) {
         found = latest(is_name(text, start + 1, name), number, found);
@@ -154,21 +154,21 @@ pub(crate) fn last_named(text: &[u8], from: usize, name: &[u8]) -> Option<usize>
     found
 }
 
-/// Where the inside of an object or of a list begins, and whether it has names.
+/// Where the inside of an object or of an array begins, and whether it has names.
 #[derive(Clone, Copy, Debug, Drop)]
 pub(crate) struct Row {
     pub named: bool,
     pub start: usize,
 }
 
-/// The inside of a text that is JSON, `None` where that is neither an object nor a list.
+/// The inside of a text that is JSON, `None` where that is neither an object nor an array.
 pub(crate) fn row_in(text: &[u8]) -> Option<Row>
     ensures row { (v : Json) → Says text.now v
         → MatchOption result (IsLeaf v) (HasInside text.now v) }
     ensures within { IfSome result (λ o. o.start ≤ length text.now) }
     ensures boundary { IsUtf8 text.now → IfSome result (λ o. IsCharBoundary text.now o.start) }
 {
-    let open = blank_end(text, 0);
+    let open = whitespace_end(text, 0);
     let first = byte_at(text, open);
     if first == b'{' {
         let start = open + 1;
@@ -189,7 +189,7 @@ pub(crate) fn is_object(text: &[u8]) -> bool
     ensures yes { (v : Json) → Says text.now v → result ≡ true → IsObject v }
     ensures no { (v : Json) → Says text.now v → result ≡ false → ¬ IsObject v }
 {
-    byte_at(text, blank_end(text, 0)) == b'{'
+    byte_at(text, whitespace_end(text, 0)) == b'{'
 }
 
 /// The number of what a token names: of several members of one name that of the last.
@@ -205,7 +205,7 @@ pub(crate) fn number_of(text: &[u8], within: Row, name: &str) -> Option<usize>
     if within.named {
         return last_named(text, within.start, name.as_bytes());
     }
-    // The length of a text fits a `usize`, so a place that doesn't has no item.
+    // The length of a text fits a `usize`, so a place that doesn't has no element.
     let _fits = text.len();
     match Index::parse(name) {
         Ok(Index::Num(number)) => Some(number),

@@ -52,14 +52,14 @@ pub(crate) fn find(alloc: Global, text: &str, pointer: Pointer) -> Result<Option
 }
 
 /// The text of the value where the pointer leads (RFC 6901, section 4), as it stands in `text`, with
-/// none of the blanks around it; `None` where nothing stands there.
+/// none of the whitespace around it; `None` where nothing stands there.
 ///
 /// Names are compared with their escapes read. Of several members of one name the last is meant. The
 /// token `-` names nothing that stands.
 ///
 /// ```rust
 /// let text = r#"{"name": "x", "list": [1.50, "\u0041"] }"#;
-/// let list = value_text(alloc, text, place)?;
+/// let array = value_text(alloc, text, place)?;
 /// // [1.50, "\u0041"]
 /// ```
 pub fn value_text<'a>(

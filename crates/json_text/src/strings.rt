@@ -40,10 +40,10 @@ fn read(alloc: Global, text: &str) -> Result<Option<String>, AllocError>
 }
 
 /// The string that a text says, with its escapes read, or `None` where the text says another value. The
-/// text is to be JSON, and blanks may stand around the string.
+/// text is to be JSON, and whitespace may stand around the string.
 ///
-/// One with no escape, and no blanks around it, is copied from between its quotes. Any other is read by
-/// the toolchain's reader.
+/// One with no escape, and no whitespace around it, is copied from between its quotes. Any other is read
+/// by the toolchain's reader.
 ///
 /// ```rust
 /// let name = string_of(alloc, r#""caf\u00e9""#)?;

@@ -14,7 +14,7 @@ use std::alloc::{AllocError, Global};
 /// The line of the example that a call has in its comment.
 pub(crate) fn answer(alloc: Global, call: &str, place: Pointer) -> Result<String, AllocError> {
     match call {
-        "value_text" => told(alloc, list_in(alloc, place)),
+        "value_text" => told(alloc, array_in(alloc, place)),
         "add" => told(alloc, added(alloc, place)),
         "remove" => told(alloc, removed(alloc, place)),
         "replace" => told(alloc, replaced(alloc, place)),
@@ -31,12 +31,12 @@ pub(crate) fn answer(alloc: Global, call: &str, place: Pointer) -> Result<String
 fn of_checked(alloc: Global, call: &str, place: Pointer) -> Result<String, AllocError> {
     match call {
         "CheckedText::within" => told(alloc, found(alloc, is_of_two_levels().then_some("yes"))),
-        "CheckedText::value" => told(alloc, list_in_checked(alloc, place)),
+        "CheckedText::value" => told(alloc, array_in_checked(alloc, place)),
         "CheckedText::add" => told(alloc, added_to_checked(alloc, place)),
         "CheckedText::remove" => told(alloc, removed_from_checked(alloc, place)),
         "CheckedText::replace" => told(alloc, replaced_in_checked(alloc, place)),
         "Pieces" => told(alloc, moved_out(alloc, place)),
-        "Pieces::value" => told(alloc, list_in_pieces(alloc, place)),
+        "Pieces::value" => told(alloc, array_in_pieces(alloc, place)),
         "Pieces::shape" => told(alloc, shape_in_pieces(alloc, place)),
         "Pieces::add" => told(alloc, added_to_pieces(alloc, place)),
         "Pieces::remove" => told(alloc, removed_from_pieces(alloc, place)),
@@ -47,10 +47,10 @@ fn of_checked(alloc: Global, call: &str, place: Pointer) -> Result<String, Alloc
 
 // ---- of the functions on texts
 
-fn list_in(alloc: Global, place: Pointer) -> Result<String, TextFault> {
+fn array_in(alloc: Global, place: Pointer) -> Result<String, TextFault> {
     let text = r#"{"name": "x", "list": [1.50, "\u0041"] }"#;
-    let list = value_text(alloc, text, place)?;
-    Ok(found(alloc, list)?)
+    let array = value_text(alloc, text, place)?;
+    Ok(found(alloc, array)?)
 }
 
 fn replaced(alloc: Global, place: Pointer) -> Result<String, ChangeFault> {
@@ -92,10 +92,10 @@ fn is_of_two_levels() -> bool {
     text.is_some()
 }
 
-fn list_in_checked(alloc: Global, place: Pointer) -> Result<String, TextFault> {
+fn array_in_checked(alloc: Global, place: Pointer) -> Result<String, TextFault> {
     let text = CheckedText::new(alloc, r#"{"list": [1.50, 2] }"#)?;
-    let list = text.value(alloc, place)?;
-    Ok(found(alloc, list.map(|list| list.as_str()))?)
+    let array = text.value(alloc, place)?;
+    Ok(found(alloc, array.map(|array| array.as_str()))?)
 }
 
 fn replaced_in_checked(alloc: Global, place: Pointer) -> Result<String, TextFault> {
@@ -128,11 +128,11 @@ fn left(alloc: Global, new: Option<String>) -> Result<String, AllocError> {
 
 // ---- of pieces
 
-fn list_in_pieces(alloc: Global, place: Pointer) -> Result<String, TextFault> {
+fn array_in_pieces(alloc: Global, place: Pointer) -> Result<String, TextFault> {
     let text = CheckedText::new(alloc, r#"{"list": [1.50, 2] }"#)?;
     let mut pieces = Pieces::new(text);
-    let list = pieces.value(alloc, place)?;
-    Ok(left(alloc, list)?)
+    let array = pieces.value(alloc, place)?;
+    Ok(left(alloc, array)?)
 }
 
 fn shape_in_pieces(alloc: Global, place: Pointer) -> Result<String, TextFault> {

@@ -71,7 +71,7 @@ pub(crate) fn shape(alloc: Global, text: &str) -> Result<String, AllocError> {
 pub(crate) fn shape_name(shape: Option<Shape>) -> &'static str {
     match shape {
         Some(Shape::Object) => "object",
-        Some(Shape::List) => "list",
+        Some(Shape::Array) => "array",
         Some(Shape::String) => "string",
         Some(Shape::Atom) => "atom",
         None => "nothing",

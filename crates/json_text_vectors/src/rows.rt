@@ -99,23 +99,23 @@ fn on_three(
 /// begins with a number that many.
 fn words_of(alloc: Global, line: &str) -> Result<Vec<String>, AllocError> {
     let mut words = Vec::new(alloc);
-    let Ok(Value::Array(items)) = Value::from_str(alloc, line) else {
+    let Ok(Value::Array(elements)) = Value::from_str(alloc, line) else {
         return Ok(words);
     };
-    for item in items.iter() {
+    for element in elements.iter() {
         let mut word = String::new(alloc);
-        append(&mut word, item)?;
+        append(&mut word, element)?;
         words.push(word)?;
     }
     Ok(words)
 }
 
 /// Appends a string, or each string of an array.
-fn append(word: &mut String, item: &Value) -> Result<(), AllocError> {
-    if let Some(text) = item.as_str() {
+fn append(word: &mut String, element: &Value) -> Result<(), AllocError> {
+    if let Some(text) = element.as_str() {
         return word.push_str(text);
     }
-    let Some(parts) = item.as_array() else {
+    let Some(parts) = element.as_array() else {
         return Ok(());
     };
     let mut times = 1;

@@ -29,9 +29,10 @@ it, so that DOCUMENT has the old content or the new one whenever the command is 
 device or a pipe, such as /dev/stdout with --in-place. Where two results would go to one place, or a result
 over what is read, nothing is written.
 
-apply, merge, record and get keep the text: blanks, the order of members, and the way in which numbers and
-strings are written; what is added follows its neighbours. With --indent, and by diff, the result is written
-anew. Numbers are 64-bit integers alone, but for apply, merge and get without --indent, which take any.
+apply, merge, record and get keep the text: whitespace, the order of members, and the way in which numbers
+and strings are written; what is added follows its neighbours. With --indent, and by diff, the result is
+written anew. Numbers are 64-bit integers alone, but for apply, merge and get without --indent, which take
+any.
 
 exit status:
   0   done

@@ -18,10 +18,10 @@ if TYPE_CHECKING:
 
 
 def apply_text(text: _Text, patch: Patch, *, limits: Limits = DEFAULT) -> _Text:
-    """What a patch, as a list of operations, a JSON text or a JsonPatch, leaves of a JSON text. Blanks, the
-    order of members and the way in which numbers and strings are written stay, and what is added follows
-    its neighbours: blanks, or a colon with blanks, of at most 128 bytes are taken over. Numbers may be
-    any, and are compared exactly.
+    """What a patch, as a list of operations, a JSON text or a JsonPatch, leaves of a JSON text. Whitespace,
+    the order of members and the way in which numbers and strings are written stay, and what is added
+    follows its neighbours: whitespace, or a colon with whitespace, of at most 128 bytes is taken over.
+    Numbers may be any, and are compared exactly.
 
     >>> print(apply_text('''{
     ...   "price": 1.50,

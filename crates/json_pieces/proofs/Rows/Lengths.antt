@@ -2,34 +2,34 @@
 use Rattle.std.proofs.Common.{◌≡◌, ℕ, zero, suc, ◌+◌, ◌<◌, ◌≤◌, Bool, true, false, List, [], ◌∷◌, ◌++◌, length, take, drop, get_or, refl, sym, ap, ap₂, ◌∙◌, subst, arith, length-append}
 use Rattle.std.specs.List.{remove}
 use Rattle.json_text.specs.Cuts.{Piece, row_text}
-use Rattle.json_text.specs.Styled.{blanks_like, colons_like}
+use Rattle.json_text.specs.Styled.{colons_like, whitespace_like}
 use Rattle.json_pieces.specs.Nodes.{piece_with, text_bytes, tree_text, view}
-use Rattle.json_pieces.specs.PieceLists.{item_between, item_pushed, item_put, item_put_by, led, member_like, member_pushed, taken, taken_by, trailed}
+use Rattle.json_pieces.specs.PieceLists.{element_between, element_pushed, element_put, element_put_by, led, member_like, member_pushed, taken, taken_by, trailed}
 use Rattle.json_pieces.specs.declared.node.Node.{Node}
 use Rattle.json_pieces.specs.declared.seams.Seam.{Seam}
 use Rattle.json_pieces.proofs.Lists.{AreSoundIn, no_pieces, pieces_are, pieces_in}
 use Rattle.json_pieces.proofs.Rows.Moves.{own_like}
 use Rattle.json_pieces.proofs.Rows.Parts.{first_same, joined, no_cons, rest_same, row_split, trail_set}
-use Rattle.json_pieces.proofs.Rows.Put.{item_set, member_set}
+use Rattle.json_pieces.proofs.Rows.Put.{element_set, member_set}
 
 -- ---- over pieces
 
 next_size : (b : Bool) (hollow hollow2 : List ℕ) (pre : List Piece) (p q : Piece) (post : List Piece)
-    → length (row_text b hollow (pre ++ (p ∷ q ∷ post))) ≡ length (row_text b hollow2 (pre ++ (led p.blank q ∷ post))) + (length q.blank + length p.name + length p.colons + length p.trail + length p.value + 1)
+    → length (row_text b hollow (pre ++ (p ∷ q ∷ post))) ≡ length (row_text b hollow2 (pre ++ (led p.whitespace q ∷ post))) + (length q.whitespace + length p.name + length p.colons + length p.trail + length p.value + 1)
 next_size b hollow hollow2 pre p q post =
     let old = simp length-append at (ap length (row_split b hollow pre p (q ∷ post))) in
-    let new = simp length-append at (ap length (row_split b hollow2 pre (led p.blank q) post)) in
+    let new = simp length-append at (ap length (row_split b hollow2 pre (led p.whitespace q) post)) in
     omega (arith, old, new)
 
 last_size : (b : Bool) (hollow hollow2 : List ℕ) (pre : List Piece) (o p : Piece)
-    → length (row_text b hollow (pre ++ (o ∷ p ∷ []))) ≡ length (row_text b hollow2 (pre ++ (trailed p.trail o ∷ []))) + (length p.blank + length p.name + length p.colons + length o.trail + length p.value + 1)
+    → length (row_text b hollow (pre ++ (o ∷ p ∷ []))) ≡ length (row_text b hollow2 (pre ++ (trailed p.trail o ∷ []))) + (length p.whitespace + length p.name + length p.colons + length o.trail + length p.value + 1)
 last_size b hollow hollow2 pre o p =
     let old = simp length-append at (ap length (row_split b hollow pre o (p ∷ []))) in
     let new = simp length-append at (ap length (row_split b hollow2 pre (trailed p.trail o) [])) in
     omega (arith, old, new)
 
 pushed_size : (b : Bool) (hollow hollow2 : List ℕ) (pre : List Piece) (o new : Piece)
-    → length (row_text b hollow2 (pre ++ (trailed [] o ∷ new ∷ []))) + length o.trail ≡ length (row_text b hollow (pre ++ (o ∷ []))) + (length new.blank + length new.name + length new.colons + length new.trail + length new.value + 1)
+    → length (row_text b hollow2 (pre ++ (trailed [] o ∷ new ∷ []))) + length o.trail ≡ length (row_text b hollow (pre ++ (o ∷ []))) + (length new.whitespace + length new.name + length new.colons + length new.trail + length new.value + 1)
 pushed_size b hollow hollow2 pre o new =
     let old = simp length-append at (ap length (row_split b hollow pre o [])) in
     let more = simp length-append at (ap length (row_split b hollow2 pre (trailed [] o) (new ∷ []))) in
@@ -40,13 +40,13 @@ trail_fits b hollow pre o post =
     let old = simp length-append at (ap length (row_split b hollow pre o post)) in
     omega (arith, old)
 
-blank_fits : (b : Bool) (hollow : List ℕ) (pre : List Piece) (o : Piece) (post : List Piece) → length o.blank ≤ length (row_text b hollow (pre ++ (o ∷ post)))
-blank_fits b hollow pre o post =
+whitespace_fits : (b : Bool) (hollow : List ℕ) (pre : List Piece) (o : Piece) (post : List Piece) → length o.whitespace ≤ length (row_text b hollow (pre ++ (o ∷ post)))
+whitespace_fits b hollow pre o post =
     let old = simp length-append at (ap length (row_split b hollow pre o post)) in
     omega (arith, old)
 
 put_before_size : (b : Bool) (hollow hollow2 like : List ℕ) (pre : List Piece) (p new : Piece) (post : List Piece)
-    → length (row_text b hollow2 (pre ++ (new ∷ led like p ∷ post))) + length p.blank ≡ length (row_text b hollow (pre ++ (p ∷ post))) + length like + (length new.blank + length new.name + length new.colons + length new.trail + length new.value + 1)
+    → length (row_text b hollow2 (pre ++ (new ∷ led like p ∷ post))) + length p.whitespace ≡ length (row_text b hollow (pre ++ (p ∷ post))) + length like + (length new.whitespace + length new.name + length new.colons + length new.trail + length new.value + 1)
 put_before_size b hollow hollow2 like pre p new post =
     let old = simp length-append at (ap length (row_split b hollow pre p post)) in
     let more = simp length-append at (ap length (row_split b hollow2 pre new (led like p ∷ post))) in
@@ -120,24 +120,24 @@ last_at (a ∷ b ∷ ss) (w ∷ z ∷ vs) (suc n) s t v h l e f g = let r = last
 -- ---- one less
 
 pub take_next_size : (b : Bool) (hollow hollow2 : List ℕ) (ss : List Seam) (vs : List Node) (n : ℕ) (s t : Seam) (v : Node) → AreSoundIn ss vs → suc n < length vs → s ≡ get_or ss n s → t ≡ get_or (remove ss n) n t → v ≡ get_or vs n v
-    → length (row_text b hollow (pieces_in ss vs)) ≡ length (row_text b hollow2 (taken n (pieces_in ss vs))) + (length (text_bytes t.blank) + length (text_bytes s.name) + length (text_bytes s.colons) + length (text_bytes s.trail) + length (tree_text (view v)) + 1)
+    → length (row_text b hollow (pieces_in ss vs)) ≡ length (row_text b hollow2 (taken n (pieces_in ss vs))) + (length (text_bytes t.whitespace) + length (text_bytes s.name) + length (text_bytes s.colons) + length (text_bytes s.trail) + length (tree_text (view v)) + 1)
 take_next_size b hollow hollow2 ss vs n s t v h l e f g =
     let ps = pieces_in ss vs in
     let r = next_at ss vs n s t v h l e f g in
     let p = piece_with s (tree_text (view v)) in
     let q = piece_with t r.text in
     ap (λ x. length (row_text b hollow x)) (joined n ps p (q ∷ r.rest) r.is) ∙ next_size b hollow hollow2 (take n ps) p q r.rest
-    ∙ ap (λ x. length (row_text b hollow2 (taken_by (take n ps) x)) + (length q.blank + length p.name + length p.colons + length p.trail + length p.value + 1)) (sym r.is)
+    ∙ ap (λ x. length (row_text b hollow2 (taken_by (take n ps) x)) + (length q.whitespace + length p.name + length p.colons + length p.trail + length p.value + 1)) (sym r.is)
 
 pub take_last_size : (b : Bool) (hollow hollow2 : List ℕ) (ss : List Seam) (vs : List Node) (m n : ℕ) (s t : Seam) (v : Node) → m ≡ n + 1 → AreSoundIn ss vs → length vs ≡ m + 1 → s ≡ get_or ss m s → t ≡ get_or (remove ss m) n t → v ≡ get_or vs m v
-    → length (row_text b hollow (pieces_in ss vs)) ≡ length (row_text b hollow2 (taken m (pieces_in ss vs))) + (length (text_bytes s.blank) + length (text_bytes s.name) + length (text_bytes s.colons) + length (text_bytes t.trail) + length (tree_text (view v)) + 1)
+    → length (row_text b hollow (pieces_in ss vs)) ≡ length (row_text b hollow2 (taken m (pieces_in ss vs))) + (length (text_bytes s.whitespace) + length (text_bytes s.name) + length (text_bytes s.colons) + length (text_bytes t.trail) + length (tree_text (view v)) + 1)
 take_last_size b hollow hollow2 ss vs m n s t v is h l e f g =
     let next : m ≡ suc n = omega (arith, is) in
     subst (λ x. s ≡ get_or ss x s → t ≡ get_or (remove ss x) n t → v ≡ get_or vs x v
-    → length (row_text b hollow (pieces_in ss vs)) ≡ length (row_text b hollow2 (taken x (pieces_in ss vs))) + (length (text_bytes s.blank) + length (text_bytes s.name) + length (text_bytes s.colons) + length (text_bytes t.trail) + length (tree_text (view v)) + 1)) (sym next) by_next e f g
+    → length (row_text b hollow (pieces_in ss vs)) ≡ length (row_text b hollow2 (taken x (pieces_in ss vs))) + (length (text_bytes s.whitespace) + length (text_bytes s.name) + length (text_bytes s.colons) + length (text_bytes t.trail) + length (tree_text (view v)) + 1)) (sym next) by_next e f g
   where
     by_next : s ≡ get_or ss (suc n) s → t ≡ get_or (remove ss (suc n)) n t → v ≡ get_or vs (suc n) v
-        → length (row_text b hollow (pieces_in ss vs)) ≡ length (row_text b hollow2 (taken (suc n) (pieces_in ss vs))) + (length (text_bytes s.blank) + length (text_bytes s.name) + length (text_bytes s.colons) + length (text_bytes t.trail) + length (tree_text (view v)) + 1)
+        → length (row_text b hollow (pieces_in ss vs)) ≡ length (row_text b hollow2 (taken (suc n) (pieces_in ss vs))) + (length (text_bytes s.whitespace) + length (text_bytes s.name) + length (text_bytes s.colons) + length (text_bytes t.trail) + length (tree_text (view v)) + 1)
     by_next e f g =
         let ps = pieces_in ss vs in
         let r = last_at ss vs n s t v h (omega (arith, l, is)) e f g in
@@ -172,13 +172,13 @@ module _ (b : Bool) (hollow : List ℕ) (ss : List Seam) (vs : List Node) (n : �
       let r = seam_at ss vs n t h l e in
       subst (λ x. length (text_bytes t.trail) ≤ length (row_text b hollow x)) (sym (joined n (pieces_in ss vs) (piece_with t r.text) r.rest r.is)) (trail_fits b hollow (take n (pieces_in ss vs)) (piece_with t r.text) r.rest)
 
-  pub its_blank_fits : AreSoundIn ss vs → n < length vs → t ≡ get_or ss n t → length (text_bytes t.blank) ≤ length (row_text b hollow (pieces_in ss vs))
-  its_blank_fits h l e =
+  pub its_whitespace_fits : AreSoundIn ss vs → n < length vs → t ≡ get_or ss n t → length (text_bytes t.whitespace) ≤ length (row_text b hollow (pieces_in ss vs))
+  its_whitespace_fits h l e =
       let r = seam_at ss vs n t h l e in
-      subst (λ x. length (text_bytes t.blank) ≤ length (row_text b hollow x)) (sym (joined n (pieces_in ss vs) (piece_with t r.text) r.rest r.is)) (blank_fits b hollow (take n (pieces_in ss vs)) (piece_with t r.text) r.rest)
+      subst (λ x. length (text_bytes t.whitespace) ≤ length (row_text b hollow x)) (sym (joined n (pieces_in ss vs) (piece_with t r.text) r.rest r.is)) (whitespace_fits b hollow (take n (pieces_in ss vs)) (piece_with t r.text) r.rest)
 
 pub push_member_size : (hollow hollow2 name u : List ℕ) (ss : List Seam) (vs : List Node) (m n : ℕ) (t : Seam) → m ≡ n + 1 → AreSoundIn ss vs → length vs ≡ m → t ≡ get_or ss n t
-    → length (row_text true hollow2 (member_pushed hollow name u (pieces_in ss vs))) ≡ length (row_text true hollow (pieces_in ss vs)) + (length (blanks_like (text_bytes t.blank)) + length name + length (colons_like (text_bytes t.colons)) + length u + 1)
+    → length (row_text true hollow2 (member_pushed hollow name u (pieces_in ss vs))) ≡ length (row_text true hollow (pieces_in ss vs)) + (length (whitespace_like (text_bytes t.whitespace)) + length name + length (colons_like (text_bytes t.colons)) + length u + 1)
 push_member_size hollow hollow2 name u ss vs m n t is h l e =
     let ps = pieces_in ss vs in
     let r = seam_at ss vs n t h (omega (arith, l, is)) e in
@@ -188,15 +188,15 @@ push_member_size hollow hollow2 name u ss vs m n t is h l e =
     let size = pushed_size true hollow hollow2 (take n ps) o (member_like o name u) in
     omega (arith, size, ap (λ x. length (row_text true hollow x)) whole, ap (λ x. length (row_text true hollow2 x)) new)
 
-pub push_item_size : (hollow hollow2 u : List ℕ) (ss : List Seam) (vs : List Node) (m n : ℕ) (t : Seam) → m ≡ n + 1 → AreSoundIn ss vs → length vs ≡ m → t ≡ get_or ss n t
-    → length (row_text false hollow2 (item_pushed hollow u (pieces_in ss vs))) ≡ length (row_text false hollow (pieces_in ss vs)) + (length (blanks_like (text_bytes t.blank)) + length u + 1)
-push_item_size hollow hollow2 u ss vs m n t is h l e =
+pub push_element_size : (hollow hollow2 u : List ℕ) (ss : List Seam) (vs : List Node) (m n : ℕ) (t : Seam) → m ≡ n + 1 → AreSoundIn ss vs → length vs ≡ m → t ≡ get_or ss n t
+    → length (row_text false hollow2 (element_pushed hollow u (pieces_in ss vs))) ≡ length (row_text false hollow (pieces_in ss vs)) + (length (whitespace_like (text_bytes t.whitespace)) + length u + 1)
+push_element_size hollow hollow2 u ss vs m n t is h l e =
     let ps = pieces_in ss vs in
     let r = seam_at ss vs n t h (omega (arith, l, is)) e in
     let o = piece_with t r.text in
     let whole : ps ≡ take n ps ++ (o ∷ []) = joined n ps o r.rest r.is ∙ ap (λ x. take n ps ++ (o ∷ x)) (last_rest ss vs n t h (l ∙ is) r) in
-    let new : item_pushed hollow u ps ≡ take n ps ++ (trailed [] o ∷ item_between (blanks_like o.blank) u o.trail ∷ []) = ap (item_pushed hollow u) whole ∙ item_set hollow u (take n ps) o in
-    let size = pushed_size false hollow hollow2 (take n ps) o (item_between (blanks_like o.blank) u o.trail) in
+    let new : element_pushed hollow u ps ≡ take n ps ++ (trailed [] o ∷ element_between (whitespace_like o.whitespace) u o.trail ∷ []) = ap (element_pushed hollow u) whole ∙ element_set hollow u (take n ps) o in
+    let size = pushed_size false hollow hollow2 (take n ps) o (element_between (whitespace_like o.whitespace) u o.trail) in
     omega (arith, size, ap (λ x. length (row_text false hollow x)) whole, ap (λ x. length (row_text false hollow2 x)) new)
 
 -- in an empty row
@@ -206,32 +206,32 @@ first_member_size hollow hollow2 name u ss vs l =
     let size : length (row_text true hollow2 (member_pushed hollow name u [])) ≡ length (row_text true hollow []) + (length name + 1 + length u) = simp length-append (omega arith) in
     subst (λ x. length (row_text true hollow2 (member_pushed hollow name u x)) ≡ length (row_text true hollow x) + (length name + 1 + length u)) (sym none) size
 
-pub first_item_size : (hollow hollow2 u : List ℕ) (ss : List Seam) (vs : List Node) → length vs ≡ 0 → length (row_text false hollow2 (item_pushed hollow u (pieces_in ss vs))) ≡ length (row_text false hollow (pieces_in ss vs)) + length u
-first_item_size hollow hollow2 u ss vs l =
+pub first_element_size : (hollow hollow2 u : List ℕ) (ss : List Seam) (vs : List Node) → length vs ≡ 0 → length (row_text false hollow2 (element_pushed hollow u (pieces_in ss vs))) ≡ length (row_text false hollow (pieces_in ss vs)) + length u
+first_element_size hollow hollow2 u ss vs l =
     let none = no_pieces ss vs l in
-    let size : length (row_text false hollow2 (item_pushed hollow u [])) ≡ length (row_text false hollow []) + length u = simp length-append (omega arith) in
-    subst (λ x. length (row_text false hollow2 (item_pushed hollow u x)) ≡ length (row_text false hollow x) + length u) (sym none) size
+    let size : length (row_text false hollow2 (element_pushed hollow u [])) ≡ length (row_text false hollow []) + length u = simp length-append (omega arith) in
+    subst (λ x. length (row_text false hollow2 (element_pushed hollow u x)) ≡ length (row_text false hollow x) + length u) (sym none) size
 
 pub hollow_fits : (b : Bool) (hollow : List ℕ) (ss : List Seam) (vs : List Node) → length vs ≡ 0 → length (row_text b hollow (pieces_in ss vs)) ≡ length hollow + 2
 hollow_fits b hollow ss vs l =
     let size : length (row_text b hollow []) ≡ length hollow + 2 = simp length-append (omega arith) in
     subst (λ x. length (row_text b hollow x) ≡ length hollow + 2) (sym (no_pieces ss vs l)) size
 
--- before an item
+-- before an element
 pub put_own_size : (hollow hollow2 u : List ℕ) (ss : List Seam) (vs : List Node) (n : ℕ) (t : Seam) → AreSoundIn ss vs → n < length vs → (n ≡ 0 → length vs ≡ 1) → t ≡ get_or ss n t
-    → length (row_text false hollow2 (item_put n u (pieces_in ss vs))) ≡ length (row_text false hollow (pieces_in ss vs)) + (length (blanks_like (text_bytes t.blank)) + length u + 1)
+    → length (row_text false hollow2 (element_put n u (pieces_in ss vs))) ≡ length (row_text false hollow (pieces_in ss vs)) + (length (whitespace_like (text_bytes t.whitespace)) + length u + 1)
 put_own_size hollow hollow2 u ss vs n t h l one e =
     let ps = pieces_in ss vs in
     let r = seam_at ss vs n t h l e in
     let p = piece_with t r.text in
     let whole : ps ≡ take n ps ++ (p ∷ r.rest) = joined n ps p r.rest r.is in
-    let new : item_put n u ps ≡ take n ps ++ (item_between p.blank u [] ∷ led (blanks_like p.blank) p ∷ r.rest) =
-    ap (item_put_by u (take n ps)) r.is ∙ ap (λ x. take n ps ++ (item_between p.blank u [] ∷ led (blanks_like x) p ∷ r.rest)) (own_like ps n p r.rest r.is (λ z. pieces_are ss vs h ∙ one z)) in
-    let size = put_before_size false hollow hollow2 (blanks_like p.blank) (take n ps) p (item_between p.blank u []) r.rest in
+    let new : element_put n u ps ≡ take n ps ++ (element_between p.whitespace u [] ∷ led (whitespace_like p.whitespace) p ∷ r.rest) =
+    ap (element_put_by u (take n ps)) r.is ∙ ap (λ x. take n ps ++ (element_between p.whitespace u [] ∷ led (whitespace_like x) p ∷ r.rest)) (own_like ps n p r.rest r.is (λ z. pieces_are ss vs h ∙ one z)) in
+    let size = put_before_size false hollow hollow2 (whitespace_like p.whitespace) (take n ps) p (element_between p.whitespace u []) r.rest in
     omega (arith, size, ap (λ x. length (row_text false hollow x)) whole, ap (λ x. length (row_text false hollow2 x)) new)
 
 pub put_first_size : (hollow hollow2 u : List ℕ) (ss : List Seam) (vs : List Node) (o : Seam) → AreSoundIn ss vs → 1 < length vs → o ≡ get_or ss 1 o
-    → length (row_text false hollow2 (item_put 0 u (pieces_in ss vs))) ≡ length (row_text false hollow (pieces_in ss vs)) + (length (blanks_like (text_bytes o.blank)) + length u + 1)
+    → length (row_text false hollow2 (element_put 0 u (pieces_in ss vs))) ≡ length (row_text false hollow (pieces_in ss vs)) + (length (whitespace_like (text_bytes o.whitespace)) + length u + 1)
 put_first_size hollow hollow2 u [] [] o h l e = absurd (omega (arith, l))
 put_first_size hollow hollow2 u [] (w ∷ vs) o h l e = absurd h
 put_first_size hollow hollow2 u (a ∷ ss) [] o h l e = absurd h
@@ -239,6 +239,6 @@ put_first_size hollow hollow2 u (a ∷ ss) (w ∷ []) o h l e = absurd (omega (a
 put_first_size hollow hollow2 u (a ∷ []) (w ∷ z ∷ vs) o h l e = absurd h.1
 put_first_size hollow hollow2 u (a ∷ b ∷ ss) (w ∷ z ∷ vs) o h l e =
     let p = piece_with a (tree_text (view w)) in
-    let size = put_before_size false hollow hollow2 (blanks_like (text_bytes b.blank)) [] p (item_between p.blank u []) (pieces_in (b ∷ ss) (z ∷ vs)) in
-    let same : length (blanks_like (text_bytes b.blank)) ≡ length (blanks_like (text_bytes o.blank)) = ap (λ x. length (blanks_like (text_bytes x.blank))) (sym e) in
+    let size = put_before_size false hollow hollow2 (whitespace_like (text_bytes b.whitespace)) [] p (element_between p.whitespace u []) (pieces_in (b ∷ ss) (z ∷ vs)) in
+    let same : length (whitespace_like (text_bytes b.whitespace)) ≡ length (whitespace_like (text_bytes o.whitespace)) = ap (λ x. length (whitespace_like (text_bytes x.whitespace))) (sym e) in
     omega (arith, size, same)

@@ -3,9 +3,9 @@ use Rattle.std.proofs.Common.{◌≡◌, ℕ, zero, suc, ◌+◌, ◌<◌, List,
 use Rattle.std.specs.List.{insert, remove}
 use Rattle.std.specs.Prelude.{slice_set}
 use Rattle.json_text.specs.Cuts.{Piece}
-use Rattle.json_text.specs.Styled.{blanks_like}
+use Rattle.json_text.specs.Styled.{whitespace_like}
 use Rattle.json_pieces.specs.Nodes.{IsSound, piece_with, text_bytes, tree_text, view}
-use Rattle.json_pieces.specs.PieceLists.{item_between, item_pushed, item_put, item_put_by, led, member_alone, member_like, member_pushed, neighbour_blank, taken, taken_by, trailed}
+use Rattle.json_pieces.specs.PieceLists.{element_between, element_pushed, element_put, element_put_by, led, member_alone, member_like, member_pushed, neighbour_whitespace, taken, taken_by, trailed}
 use Rattle.json_pieces.specs.declared.node.Node.{Node}
 use Rattle.json_pieces.specs.declared.seams.Seam.{Seam}
 use Rattle.json_pieces.proofs.Lists.{AreSoundIn, pieces_are, pieces_in}
@@ -38,9 +38,9 @@ insert_sound (t ∷ ss) (w ∷ vs) (suc n) s v h k = (h.0, insert_sound ss vs n 
 
 -- ---- one is taken out
 
--- another seam in the place of t: with the blanks s before it; with those behind it
-abbrev pub HasBlank : List ℕ → Seam → Seam → Type 0
-HasBlank s t new = (u : List ℕ) → piece_with new u ≡ led s (piece_with t u)
+-- another seam in the place of t: with the whitespace s before it; with that behind it
+abbrev pub HasWhitespace : List ℕ → Seam → Seam → Type 0
+HasWhitespace s t new = (u : List ℕ) → piece_with new u ≡ led s (piece_with t u)
 
 abbrev pub HasTrail : List ℕ → Seam → Seam → Type 0
 HasTrail s t new = (u : List ℕ) → piece_with new u ≡ trailed s (piece_with t u)
@@ -60,8 +60,8 @@ two_there (suc n) (p ∷ ps) h = let r = two_there n ps (omega (arith, h)) in re
 taken_later : (n : ℕ) (p : Piece) (ps : List Piece) → HasTwo n ps → taken (suc n) (p ∷ ps) ≡ p ∷ taken n ps
 taken_later n p ps h = ap (taken_by (p ∷ take n ps)) h.is ∙ sym (ap (λ l. p ∷ taken_by (take n ps) l) h.is)
 
--- not the last: its blanks go to the next
-pub take_next : (ss : List Seam) (vs : List Node) (n : ℕ) (s t new : Seam) → AreSoundIn ss vs → suc n < length vs → s ≡ get_or ss n s → t ≡ get_or (remove ss n) n t → HasBlank (text_bytes s.blank) t new
+-- not the last: its whitespace goes to the next
+pub take_next : (ss : List Seam) (vs : List Node) (n : ℕ) (s t new : Seam) → AreSoundIn ss vs → suc n < length vs → s ≡ get_or ss n s → t ≡ get_or (remove ss n) n t → HasWhitespace (text_bytes s.whitespace) t new
     → pieces_in (slice_set (remove ss n) n new) (remove vs n) ≡ taken n (pieces_in ss vs)
 take_next [] [] n s t new h l e f k = absurd (omega (arith, l))
 take_next [] (v ∷ vs) n s t new h l e f k = absurd h
@@ -70,7 +70,7 @@ take_next (a ∷ []) (v ∷ []) zero s t new h l e f k = absurd (omega (arith, l
 take_next (a ∷ []) (v ∷ w ∷ vs) zero s t new h l e f k = absurd h.1
 take_next (a ∷ b ∷ ss) (v ∷ []) zero s t new h l e f k = absurd h.1
 take_next (a ∷ b ∷ ss) (v ∷ w ∷ vs) zero s t new h l e f k =
-    ap (λ x. x ∷ pieces_in ss vs) (k (tree_text (view w)) ∙ ap₂ (λ x y. led (text_bytes x.blank) (piece_with y (tree_text (view w)))) e f)
+    ap (λ x. x ∷ pieces_in ss vs) (k (tree_text (view w)) ∙ ap₂ (λ x y. led (text_bytes x.whitespace) (piece_with y (tree_text (view w)))) e f)
 take_next (a ∷ ss) (v ∷ vs) (suc n) s t new h l e f k =
     let count : length (pieces_in ss vs) ≡ length vs = pieces_are ss vs h.1 in
     ap (λ x. piece_with a (tree_text (view v)) ∷ x) (take_next ss vs n s t new h.1 (omega (arith, l)) e f k)
@@ -128,8 +128,8 @@ take_alone (s ∷ t ∷ ss) (v ∷ w ∷ vs) h l = absurd (omega (arith, l))
 abbrev pub IsMemberLike : Seam → List ℕ → Seam → Type 0
 IsMemberLike t name s = (x u : List ℕ) → piece_with s u ≡ member_like (piece_with t x) name u
 
-abbrev pub IsItemLike : Seam → Seam → Type 0
-IsItemLike t s = (u : List ℕ) → piece_with s u ≡ item_between (blanks_like (text_bytes t.blank)) u (text_bytes t.trail)
+abbrev pub IsElementLike : Seam → Seam → Type 0
+IsElementLike t s = (u : List ℕ) → piece_with s u ≡ element_between (whitespace_like (text_bytes t.whitespace)) u (text_bytes t.trail)
 
 pub push_member_first : (ss : List Seam) (vs : List Node) (s : Seam) (v : Node) (hollow name : List ℕ) → AreSoundIn ss vs → length vs ≡ 0 → ((u : List ℕ) → piece_with s u ≡ member_alone hollow name u) → pieces_in (insert ss 0 s) (insert vs 0 v) ≡ member_pushed hollow name (tree_text (view v)) (pieces_in ss vs)
 push_member_first [] [] s v hollow name h l k = ap (λ x. x ∷ []) (k (tree_text (view v)))
@@ -137,11 +137,11 @@ push_member_first [] (w ∷ vs) s v hollow name h l k = absurd h
 push_member_first (t ∷ ss) [] s v hollow name h l k = absurd h
 push_member_first (t ∷ ss) (w ∷ vs) s v hollow name h l k = absurd (omega (arith, l))
 
-pub push_item_first : (ss : List Seam) (vs : List Node) (s : Seam) (v : Node) (hollow : List ℕ) → AreSoundIn ss vs → length vs ≡ 0 → ((u : List ℕ) → piece_with s u ≡ item_between [] u hollow) → pieces_in (insert ss 0 s) (insert vs 0 v) ≡ item_pushed hollow (tree_text (view v)) (pieces_in ss vs)
-push_item_first [] [] s v hollow h l k = ap (λ x. x ∷ []) (k (tree_text (view v)))
-push_item_first [] (w ∷ vs) s v hollow h l k = absurd h
-push_item_first (t ∷ ss) [] s v hollow h l k = absurd h
-push_item_first (t ∷ ss) (w ∷ vs) s v hollow h l k = absurd (omega (arith, l))
+pub push_element_first : (ss : List Seam) (vs : List Node) (s : Seam) (v : Node) (hollow : List ℕ) → AreSoundIn ss vs → length vs ≡ 0 → ((u : List ℕ) → piece_with s u ≡ element_between [] u hollow) → pieces_in (insert ss 0 s) (insert vs 0 v) ≡ element_pushed hollow (tree_text (view v)) (pieces_in ss vs)
+push_element_first [] [] s v hollow h l k = ap (λ x. x ∷ []) (k (tree_text (view v)))
+push_element_first [] (w ∷ vs) s v hollow h l k = absurd h
+push_element_first (t ∷ ss) [] s v hollow h l k = absurd h
+push_element_first (t ∷ ss) (w ∷ vs) s v hollow h l k = absurd (omega (arith, l))
 
 member_more : (ss : List Seam) (vs : List Node) (n : ℕ) (s t new : Seam) (v : Node) (hollow name : List ℕ) → AreSoundIn ss vs → length vs ≡ suc n → t ≡ get_or ss n t → HasTrail [] t new → IsMemberLike t name s
     → pieces_in (insert (slice_set ss n new) (suc n) s) (insert vs (suc n) v) ≡ member_pushed hollow name (tree_text (view v)) (pieces_in ss vs)
@@ -164,34 +164,34 @@ push_member_more ss vs m n s t new v hollow name is h l e k q =
     let next : m ≡ suc n = omega (arith, is) in
     subst (λ x. pieces_in (insert (slice_set ss n new) x s) (insert vs x v) ≡ member_pushed hollow name (tree_text (view v)) (pieces_in ss vs)) (sym next) (member_more ss vs n s t new v hollow name h (l ∙ next) e k q)
 
-item_more : (ss : List Seam) (vs : List Node) (n : ℕ) (s t new : Seam) (v : Node) (hollow : List ℕ) → AreSoundIn ss vs → length vs ≡ suc n → t ≡ get_or ss n t → HasTrail [] t new → IsItemLike t s
-    → pieces_in (insert (slice_set ss n new) (suc n) s) (insert vs (suc n) v) ≡ item_pushed hollow (tree_text (view v)) (pieces_in ss vs)
-item_more [] [] n s t new v hollow h l e k m = absurd (omega (arith, l))
-item_more [] (w ∷ vs) n s t new v hollow h l e k m = absurd h
-item_more (a ∷ ss) [] n s t new v hollow h l e k m = absurd h
-item_more (a ∷ []) (w ∷ []) zero s t new v hollow h l e k m =
+element_more : (ss : List Seam) (vs : List Node) (n : ℕ) (s t new : Seam) (v : Node) (hollow : List ℕ) → AreSoundIn ss vs → length vs ≡ suc n → t ≡ get_or ss n t → HasTrail [] t new → IsElementLike t s
+    → pieces_in (insert (slice_set ss n new) (suc n) s) (insert vs (suc n) v) ≡ element_pushed hollow (tree_text (view v)) (pieces_in ss vs)
+element_more [] [] n s t new v hollow h l e k m = absurd (omega (arith, l))
+element_more [] (w ∷ vs) n s t new v hollow h l e k m = absurd h
+element_more (a ∷ ss) [] n s t new v hollow h l e k m = absurd h
+element_more (a ∷ []) (w ∷ []) zero s t new v hollow h l e k m =
     ap₂ (λ x y. x ∷ y ∷ []) (k (tree_text (view w)) ∙ ap (λ x. trailed [] (piece_with x (tree_text (view w)))) e)
-    (m (tree_text (view v)) ∙ ap (λ x. item_between (blanks_like (text_bytes x.blank)) (tree_text (view v)) (text_bytes x.trail)) e)
-item_more (a ∷ b ∷ ss) (w ∷ []) n s t new v hollow h l e k m = absurd h.1
-item_more (a ∷ []) (w ∷ z ∷ vs) n s t new v hollow h l e k m = absurd h.1
-item_more (a ∷ ss) (w ∷ []) (suc n) s t new v hollow h l e k m = absurd (omega (arith, l))
-item_more (a ∷ ss) (w ∷ z ∷ vs) zero s t new v hollow h l e k m = absurd (omega (arith, l))
-item_more (a ∷ b ∷ ss) (w ∷ z ∷ vs) (suc n) s t new v hollow h l e k m =
-    ap (λ x. piece_with a (tree_text (view w)) ∷ x) (item_more (b ∷ ss) (z ∷ vs) n s t new v hollow h.1 (omega (arith, l)) e k m)
+    (m (tree_text (view v)) ∙ ap (λ x. element_between (whitespace_like (text_bytes x.whitespace)) (tree_text (view v)) (text_bytes x.trail)) e)
+element_more (a ∷ b ∷ ss) (w ∷ []) n s t new v hollow h l e k m = absurd h.1
+element_more (a ∷ []) (w ∷ z ∷ vs) n s t new v hollow h l e k m = absurd h.1
+element_more (a ∷ ss) (w ∷ []) (suc n) s t new v hollow h l e k m = absurd (omega (arith, l))
+element_more (a ∷ ss) (w ∷ z ∷ vs) zero s t new v hollow h l e k m = absurd (omega (arith, l))
+element_more (a ∷ b ∷ ss) (w ∷ z ∷ vs) (suc n) s t new v hollow h l e k m =
+    ap (λ x. piece_with a (tree_text (view w)) ∷ x) (element_more (b ∷ ss) (z ∷ vs) n s t new v hollow h.1 (omega (arith, l)) e k m)
 
-pub push_item_more : (ss : List Seam) (vs : List Node) (m n : ℕ) (s t new : Seam) (v : Node) (hollow : List ℕ) → m ≡ n + 1 → AreSoundIn ss vs → length vs ≡ m → t ≡ get_or ss n t → HasTrail [] t new → IsItemLike t s
-    → pieces_in (insert (slice_set ss n new) m s) (insert vs m v) ≡ item_pushed hollow (tree_text (view v)) (pieces_in ss vs)
-push_item_more ss vs m n s t new v hollow is h l e k q =
+pub push_element_more : (ss : List Seam) (vs : List Node) (m n : ℕ) (s t new : Seam) (v : Node) (hollow : List ℕ) → m ≡ n + 1 → AreSoundIn ss vs → length vs ≡ m → t ≡ get_or ss n t → HasTrail [] t new → IsElementLike t s
+    → pieces_in (insert (slice_set ss n new) m s) (insert vs m v) ≡ element_pushed hollow (tree_text (view v)) (pieces_in ss vs)
+push_element_more ss vs m n s t new v hollow is h l e k q =
     let next : m ≡ suc n = omega (arith, is) in
-    subst (λ x. pieces_in (insert (slice_set ss n new) x s) (insert vs x v) ≡ item_pushed hollow (tree_text (view v)) (pieces_in ss vs)) (sym next) (item_more ss vs n s t new v hollow h (l ∙ next) e k q)
+    subst (λ x. pieces_in (insert (slice_set ss n new) x s) (insert vs x v) ≡ element_pushed hollow (tree_text (view v)) (pieces_in ss vs)) (sym next) (element_more ss vs n s t new v hollow h (l ∙ next) e k q)
 
--- ---- an item is put in before another
+-- ---- an element is put in before another
 
-abbrev pub IsItemBefore : Seam → Seam → Type 0
-IsItemBefore t s = (u : List ℕ) → piece_with s u ≡ item_between (text_bytes t.blank) u []
+abbrev pub IsElementBefore : Seam → Seam → Type 0
+IsElementBefore t s = (u : List ℕ) → piece_with s u ≡ element_between (text_bytes t.whitespace) u []
 
-put_shape : (ss : List Seam) (vs : List Node) (n : ℕ) (s t new : Seam) (v : Node) (like : List ℕ) (p : Piece) (rest : List Piece) → AreSoundIn ss vs → t ≡ get_or ss n t → HasBlank like t new → IsItemBefore t s → drop n (pieces_in ss vs) ≡ p ∷ rest
-    → pieces_in (insert (slice_set ss n new) n s) (insert vs n v) ≡ take n (pieces_in ss vs) ++ (item_between p.blank (tree_text (view v)) [] ∷ led like p ∷ rest)
+put_shape : (ss : List Seam) (vs : List Node) (n : ℕ) (s t new : Seam) (v : Node) (like : List ℕ) (p : Piece) (rest : List Piece) → AreSoundIn ss vs → t ≡ get_or ss n t → HasWhitespace like t new → IsElementBefore t s → drop n (pieces_in ss vs) ≡ p ∷ rest
+    → pieces_in (insert (slice_set ss n new) n s) (insert vs n v) ≡ take n (pieces_in ss vs) ++ (element_between p.whitespace (tree_text (view v)) [] ∷ led like p ∷ rest)
 put_shape [] [] zero s t new v like p rest h e k m i = absurd (no_cons p rest i)
 put_shape [] [] (suc n) s t new v like p rest h e k m i = absurd (no_cons p rest i)
 put_shape [] (w ∷ vs) n s t new v like p rest h e k m i = absurd h
@@ -199,17 +199,17 @@ put_shape (a ∷ ss) [] n s t new v like p rest h e k m i = absurd h
 put_shape (a ∷ ss) (w ∷ vs) zero s t new v like p rest h e k m i =
     let u = tree_text (view v) in
     let x = tree_text (view w) in
-    ap₂ (λ y z. y ∷ z ∷ pieces_in ss vs) (m u ∙ ap (λ y. item_between (text_bytes y.blank) u []) e) (k x ∙ ap (λ y. led like (piece_with y x)) e)
-    ∙ ap₂ (λ y l. item_between y.blank u [] ∷ led like y ∷ l) (first_same (piece_with a x) p (pieces_in ss vs) rest i) (rest_same (piece_with a x) p (pieces_in ss vs) rest i)
+    ap₂ (λ y z. y ∷ z ∷ pieces_in ss vs) (m u ∙ ap (λ y. element_between (text_bytes y.whitespace) u []) e) (k x ∙ ap (λ y. led like (piece_with y x)) e)
+    ∙ ap₂ (λ y l. element_between y.whitespace u [] ∷ led like y ∷ l) (first_same (piece_with a x) p (pieces_in ss vs) rest i) (rest_same (piece_with a x) p (pieces_in ss vs) rest i)
 put_shape (a ∷ ss) (w ∷ vs) (suc n) s t new v like p rest h e k m i = ap (λ l. piece_with a (tree_text (view w)) ∷ l) (put_shape ss vs n s t new v like p rest h.1 e k m i)
 
-blank_at : (ss : List Seam) (vs : List Node) (n : ℕ) (t : Seam) (p : Piece) (rest : List Piece) → AreSoundIn ss vs → t ≡ get_or ss n t → drop n (pieces_in ss vs) ≡ p ∷ rest → p.blank ≡ text_bytes t.blank
-blank_at [] [] zero t p rest h e i = absurd (no_cons p rest i)
-blank_at [] [] (suc n) t p rest h e i = absurd (no_cons p rest i)
-blank_at [] (w ∷ vs) n t p rest h e i = absurd h
-blank_at (a ∷ ss) [] n t p rest h e i = absurd h
-blank_at (a ∷ ss) (w ∷ vs) zero t p rest h e i = ap (λ y. y.blank) (sym (first_same (piece_with a (tree_text (view w))) p (pieces_in ss vs) rest i)) ∙ ap (λ y. text_bytes y.blank) (sym e)
-blank_at (a ∷ ss) (w ∷ vs) (suc n) t p rest h e i = blank_at ss vs n t p rest h.1 e i
+whitespace_at : (ss : List Seam) (vs : List Node) (n : ℕ) (t : Seam) (p : Piece) (rest : List Piece) → AreSoundIn ss vs → t ≡ get_or ss n t → drop n (pieces_in ss vs) ≡ p ∷ rest → p.whitespace ≡ text_bytes t.whitespace
+whitespace_at [] [] zero t p rest h e i = absurd (no_cons p rest i)
+whitespace_at [] [] (suc n) t p rest h e i = absurd (no_cons p rest i)
+whitespace_at [] (w ∷ vs) n t p rest h e i = absurd h
+whitespace_at (a ∷ ss) [] n t p rest h e i = absurd h
+whitespace_at (a ∷ ss) (w ∷ vs) zero t p rest h e i = ap (λ y. y.whitespace) (sym (first_same (piece_with a (tree_text (view w))) p (pieces_in ss vs) rest i)) ∙ ap (λ y. text_bytes y.whitespace) (sym e)
+whitespace_at (a ∷ ss) (w ∷ vs) (suc n) t p rest h e i = whitespace_at ss vs n t p rest h.1 e i
 
 record HasOneThere (n : ℕ) (ps : List Piece) : Type 0 where
   first : Piece
@@ -221,35 +221,35 @@ one_there n [] h = absurd (omega (arith, h))
 one_there zero (p ∷ ps) h = record { first = p; rest = ps; is = refl }
 one_there (suc n) (p ∷ ps) h = let r = one_there n ps (omega (arith, h)) in record { first = r.first; rest = r.rest; is = r.is }
 
--- not the first, or alone: its own blanks
-pub own_like : (ps : List Piece) (n : ℕ) (p : Piece) (rest : List Piece) → drop n ps ≡ p ∷ rest → (n ≡ 0 → length ps ≡ 1) → neighbour_blank (take n ps) p rest ≡ p.blank
+-- not the first, or alone: its own whitespace
+pub own_like : (ps : List Piece) (n : ℕ) (p : Piece) (rest : List Piece) → drop n ps ≡ p ∷ rest → (n ≡ 0 → length ps ≡ 1) → neighbour_whitespace (take n ps) p rest ≡ p.whitespace
 own_like [] zero p rest e one = absurd (no_cons p rest e)
 own_like [] (suc n) p rest e one = absurd (no_cons p rest e)
 own_like (o ∷ ps) (suc n) p rest e one = refl
 own_like (o ∷ ps) zero p [] e one = refl
 own_like (o ∷ ps) zero p (q ∷ rest) e one = absurd (omega (arith, one refl, ap length e))
 
-pub put_item_own : (ss : List Seam) (vs : List Node) (n : ℕ) (s t new : Seam) (v : Node) → AreSoundIn ss vs → n < length vs → (n ≡ 0 → length vs ≡ 1) → t ≡ get_or ss n t → HasBlank (blanks_like (text_bytes t.blank)) t new → IsItemBefore t s
-    → pieces_in (insert (slice_set ss n new) n s) (insert vs n v) ≡ item_put n (tree_text (view v)) (pieces_in ss vs)
-put_item_own ss vs n s t new v h l one e k m =
+pub put_element_own : (ss : List Seam) (vs : List Node) (n : ℕ) (s t new : Seam) (v : Node) → AreSoundIn ss vs → n < length vs → (n ≡ 0 → length vs ≡ 1) → t ≡ get_or ss n t → HasWhitespace (whitespace_like (text_bytes t.whitespace)) t new → IsElementBefore t s
+    → pieces_in (insert (slice_set ss n new) n s) (insert vs n v) ≡ element_put n (tree_text (view v)) (pieces_in ss vs)
+put_element_own ss vs n s t new v h l one e k m =
     let ps = pieces_in ss vs in
     let u = tree_text (view v) in
     let count : length ps ≡ length vs = pieces_are ss vs h in
     let r = one_there n ps (omega (arith, l, count)) in
-    let like : text_bytes t.blank ≡ neighbour_blank (take n ps) r.first r.rest = sym (blank_at ss vs n t r.first r.rest h e r.is) ∙ sym (own_like ps n r.first r.rest r.is (λ z. count ∙ one z)) in
-    put_shape ss vs n s t new v (blanks_like (text_bytes t.blank)) r.first r.rest h e k m r.is
-    ∙ ap (λ x. take n ps ++ (item_between r.first.blank u [] ∷ led (blanks_like x) r.first ∷ r.rest)) like ∙ sym (ap (item_put_by u (take n ps)) r.is)
+    let like : text_bytes t.whitespace ≡ neighbour_whitespace (take n ps) r.first r.rest = sym (whitespace_at ss vs n t r.first r.rest h e r.is) ∙ sym (own_like ps n r.first r.rest r.is (λ z. count ∙ one z)) in
+    put_shape ss vs n s t new v (whitespace_like (text_bytes t.whitespace)) r.first r.rest h e k m r.is
+    ∙ ap (λ x. take n ps ++ (element_between r.first.whitespace u [] ∷ led (whitespace_like x) r.first ∷ r.rest)) like ∙ sym (ap (element_put_by u (take n ps)) r.is)
 
--- the first of several: the blanks of the second, which has the seam o
-pub put_item_first : (ss : List Seam) (vs : List Node) (s t o new : Seam) (v : Node) → AreSoundIn ss vs → 1 < length vs → t ≡ get_or ss 0 t → o ≡ get_or ss 1 o → HasBlank (blanks_like (text_bytes o.blank)) t new → IsItemBefore t s
-    → pieces_in (insert (slice_set ss 0 new) 0 s) (insert vs 0 v) ≡ item_put 0 (tree_text (view v)) (pieces_in ss vs)
-put_item_first [] [] s t o new v h l e f k m = absurd (omega (arith, l))
-put_item_first [] (w ∷ vs) s t o new v h l e f k m = absurd h
-put_item_first (a ∷ ss) [] s t o new v h l e f k m = absurd h
-put_item_first (a ∷ ss) (w ∷ []) s t o new v h l e f k m = absurd (omega (arith, l))
-put_item_first (a ∷ []) (w ∷ z ∷ vs) s t o new v h l e f k m = absurd h.1
-put_item_first (a ∷ b ∷ ss) (w ∷ z ∷ vs) s t o new v h l e f k m =
+-- the first of several: the whitespace of the second, which has the seam o
+pub put_element_first : (ss : List Seam) (vs : List Node) (s t o new : Seam) (v : Node) → AreSoundIn ss vs → 1 < length vs → t ≡ get_or ss 0 t → o ≡ get_or ss 1 o → HasWhitespace (whitespace_like (text_bytes o.whitespace)) t new → IsElementBefore t s
+    → pieces_in (insert (slice_set ss 0 new) 0 s) (insert vs 0 v) ≡ element_put 0 (tree_text (view v)) (pieces_in ss vs)
+put_element_first [] [] s t o new v h l e f k m = absurd (omega (arith, l))
+put_element_first [] (w ∷ vs) s t o new v h l e f k m = absurd h
+put_element_first (a ∷ ss) [] s t o new v h l e f k m = absurd h
+put_element_first (a ∷ ss) (w ∷ []) s t o new v h l e f k m = absurd (omega (arith, l))
+put_element_first (a ∷ []) (w ∷ z ∷ vs) s t o new v h l e f k m = absurd h.1
+put_element_first (a ∷ b ∷ ss) (w ∷ z ∷ vs) s t o new v h l e f k m =
     let p = piece_with a (tree_text (view w)) in
     let rest = pieces_in (b ∷ ss) (z ∷ vs) in
-    put_shape (a ∷ b ∷ ss) (w ∷ z ∷ vs) 0 s t new v (blanks_like (text_bytes o.blank)) p rest h e k m refl
-    ∙ ap (λ x. item_between p.blank (tree_text (view v)) [] ∷ led (blanks_like (text_bytes x.blank)) p ∷ rest) f
+    put_shape (a ∷ b ∷ ss) (w ∷ z ∷ vs) 0 s t new v (whitespace_like (text_bytes o.whitespace)) p rest h e k m refl
+    ∙ ap (λ x. element_between p.whitespace (tree_text (view v)) [] ∷ led (whitespace_like (text_bytes x.whitespace)) p ∷ rest) f

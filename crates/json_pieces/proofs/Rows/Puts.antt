@@ -6,26 +6,26 @@ use Rattle.std.specs.List.{insert}
 use Rattle.std.specs.Prelude.{slice_set}
 use Rattle.json.specs.Json.{Json}
 use Rattle.json.specs.Print.{quoted}
-use Rattle.json_text.specs.Cuts.{AllSuit, IsBlank, Piece, row_text}
+use Rattle.json_text.specs.Cuts.{AllSuit, IsWhitespace, Piece, row_text}
 use Rattle.json_text.specs.Listing.{IsTextOf}
-use Rattle.json_text.specs.Styled.{blanks_like, colons_like}
+use Rattle.json_text.specs.Styled.{colons_like, whitespace_like}
 use Rattle.json_pieces.specs.Lengths.{HasGained, HasLost, seam_length}
 use Rattle.json_pieces.specs.Nodes.{IsSound, piece_with, text_bytes, tree_text, view}
-use Rattle.json_pieces.specs.PieceLists.{item_between, item_pushed, item_put, member_alone, member_like, member_pushed, with_value}
+use Rattle.json_pieces.specs.PieceLists.{element_between, element_pushed, element_put, member_alone, member_like, member_pushed, with_value}
 use Rattle.json_pieces.specs.declared.node.Node.{Node}
 use Rattle.json_pieces.specs.declared.node.Node.TheVariants.{Closed}
 use Rattle.json_pieces.specs.declared.seams.Seam.{Seam}
 use Rattle.json_pieces.specs.declared.text.Text.{Text}
 use Rattle.json_pieces.proofs.Levels.{view_closed}
 use Rattle.json_pieces.proofs.Lists.{AreSoundIn, pieces_are, pieces_in, seams_are, set_pieces, set_sound, value_there}
-use Rattle.json_pieces.proofs.Rows.Answers.{AreOfSome, item_of_some, member_of_some, put_of_some, value_of_some}
-use Rattle.json_pieces.proofs.Rows.Lengths.{first_item_size, first_member_size, push_item_size, push_member_size, put_first_size, put_own_size}
-use Rattle.json_pieces.proofs.Rows.Moves.{HasBlank, insert_sound, put_item_first, put_item_own, push_item_first, push_item_more, push_member_first, push_member_more, seam_sound}
+use Rattle.json_pieces.proofs.Rows.Answers.{AreOfSome, element_of_some, member_of_some, put_of_some, value_of_some}
+use Rattle.json_pieces.proofs.Rows.Lengths.{first_element_size, first_member_size, push_element_size, push_member_size, put_first_size, put_own_size}
+use Rattle.json_pieces.proofs.Rows.Moves.{HasWhitespace, insert_sound, put_element_first, put_element_own, push_element_first, push_element_more, push_member_first, push_member_more, seam_sound}
 use Rattle.json_pieces.proofs.Rows.Steps.{IsKept}
 use Rattle.json_pieces.proofs.Rows.Numbers.{put_size, value_at, value_fits}
 
-pub kept_pieces : (b : Bool) (m : ℕ) (hollow : List ℕ) (ss : List Seam) (vs : List Node) (qs : List Piece) → AreOfSome b qs → pieces_in ss vs ≡ qs → AreSoundIn ss vs → IsBlank hollow → m ≡ length (row_text b hollow qs) → IsKept b m hollow ss vs
-kept_pieces b m hollow ss vs qs (cs, h) is sound blank size = (record { cs = cs; suit = subst (AllSuit b cs) (sym is) h; blank = blank; size = size ∙ ap (λ ps. length (row_text b hollow ps)) (sym is) }, sound)
+pub kept_pieces : (b : Bool) (m : ℕ) (hollow : List ℕ) (ss : List Seam) (vs : List Node) (qs : List Piece) → AreOfSome b qs → pieces_in ss vs ≡ qs → AreSoundIn ss vs → IsWhitespace hollow → m ≡ length (row_text b hollow qs) → IsKept b m hollow ss vs
+kept_pieces b m hollow ss vs qs (cs, h) is sound whitespace size = (record { cs = cs; suit = subst (AllSuit b cs) (sym is) h; whitespace = whitespace; size = size ∙ ap (λ ps. length (row_text b hollow ps)) (sym is) }, sound)
 
 pub closed_text : (s : Text) → tree_text (view (Closed s)) ≡ text_bytes s
 closed_text s = ap tree_text (view_closed s)
@@ -48,29 +48,29 @@ value_kept b m k hollow ss vs n v s x w (r, h) l e is text size =
     let within : n < length ps = omega (arith, l, pieces_are ss vs h) in
     let old : length (value_at n ps) ≡ length (tree_text (view v)) = ap length (value_there ss vs n v h l e) in
     let new : k ≡ length (row_text b hollow (with_value n x ps)) = put_size b hollow n m k ps x within r.size (omega (arith, size, old)) in
-    kept_pieces b k hollow ss (slice_set vs n (Closed s)) (with_value n x ps) (value_of_some b ps n x w (r.cs, r.suit) within text) (value_pieces ss vs n s x is) (set_sound ss vs n (Closed s) h (closed_sound s)) r.blank new
+    kept_pieces b k hollow ss (slice_set vs n (Closed s)) (with_value n x ps) (value_of_some b ps n x w (r.cs, r.suit) within text) (value_pieces ss vs n s x is) (set_sound ss vs n (Closed s) h (closed_sound s)) r.whitespace new
 
 -- ---- in an empty row
 
 pub first_member_pieces : (ss : List Seam) (vs : List Node) (s : Seam) (v : Text) (hollow name : List ℕ) → AreSoundIn ss vs → length vs ≡ 0 → ((u : List ℕ) → piece_with s u ≡ member_alone hollow name u) → pieces_in (insert ss 0 s) (insert vs 0 (Closed v)) ≡ member_pushed hollow name (text_bytes v) (pieces_in ss vs)
 first_member_pieces ss vs s v hollow name h l k = push_member_first ss vs s (Closed v) hollow name h l k ∙ ap (λ u. member_pushed hollow name u (pieces_in ss vs)) (closed_text v)
 
-pub first_item_pieces : (ss : List Seam) (vs : List Node) (s : Seam) (v : Text) (hollow : List ℕ) → AreSoundIn ss vs → length vs ≡ 0 → ((u : List ℕ) → piece_with s u ≡ item_between [] u hollow) → pieces_in (insert ss 0 s) (insert vs 0 (Closed v)) ≡ item_pushed hollow (text_bytes v) (pieces_in ss vs)
-first_item_pieces ss vs s v hollow h l k = push_item_first ss vs s (Closed v) hollow h l k ∙ ap (λ u. item_pushed hollow u (pieces_in ss vs)) (closed_text v)
+pub first_element_pieces : (ss : List Seam) (vs : List Node) (s : Seam) (v : Text) (hollow : List ℕ) → AreSoundIn ss vs → length vs ≡ 0 → ((u : List ℕ) → piece_with s u ≡ element_between [] u hollow) → pieces_in (insert ss 0 s) (insert vs 0 (Closed v)) ≡ element_pushed hollow (text_bytes v) (pieces_in ss vs)
+first_element_pieces ss vs s v hollow h l k = push_element_first ss vs s (Closed v) hollow h l k ∙ ap (λ u. element_pushed hollow u (pieces_in ss vs)) (closed_text v)
 
 pub next_member_pieces : (ss ts : List Seam) (vs : List Node) (m n : ℕ) (s : Seam) (v trail : Text) (hollow name : List ℕ) → m ≡ n + 1 → AreSoundIn ss vs → length vs ≡ m → (o : HasLost ss n trail ts) → ((x u : List ℕ) → piece_with s u ≡ member_like (piece_with o.seam x) name u)
     → pieces_in (insert ts m s) (insert vs m (Closed v)) ≡ member_pushed hollow name (text_bytes v) (pieces_in ss vs)
 next_member_pieces ss ts vs m n s v trail hollow name is h l o k =
     ap (λ y. pieces_in (insert y m s) (insert vs m (Closed v))) o.left
-    ∙ push_member_more ss vs m n s o.seam _ (Closed v) hollow name is h l o.is (λ u. ap (λ y. record { blank = text_bytes o.seam.blank; name = text_bytes o.seam.name; colons = text_bytes o.seam.colons; value = u; trail = y }) o.empty) k
+    ∙ push_member_more ss vs m n s o.seam _ (Closed v) hollow name is h l o.is (λ u. ap (λ y. record { whitespace = text_bytes o.seam.whitespace; name = text_bytes o.seam.name; colons = text_bytes o.seam.colons; value = u; trail = y }) o.empty) k
     ∙ ap (λ u. member_pushed hollow name u (pieces_in ss vs)) (closed_text v)
 
-pub next_item_pieces : (ss ts : List Seam) (vs : List Node) (m n : ℕ) (s : Seam) (v trail : Text) (hollow : List ℕ) → m ≡ n + 1 → AreSoundIn ss vs → length vs ≡ m → (o : HasLost ss n trail ts) → ((u : List ℕ) → piece_with s u ≡ item_between (blanks_like (text_bytes o.seam.blank)) u (text_bytes o.seam.trail))
-    → pieces_in (insert ts m s) (insert vs m (Closed v)) ≡ item_pushed hollow (text_bytes v) (pieces_in ss vs)
-next_item_pieces ss ts vs m n s v trail hollow is h l o k =
+pub next_element_pieces : (ss ts : List Seam) (vs : List Node) (m n : ℕ) (s : Seam) (v trail : Text) (hollow : List ℕ) → m ≡ n + 1 → AreSoundIn ss vs → length vs ≡ m → (o : HasLost ss n trail ts) → ((u : List ℕ) → piece_with s u ≡ element_between (whitespace_like (text_bytes o.seam.whitespace)) u (text_bytes o.seam.trail))
+    → pieces_in (insert ts m s) (insert vs m (Closed v)) ≡ element_pushed hollow (text_bytes v) (pieces_in ss vs)
+next_element_pieces ss ts vs m n s v trail hollow is h l o k =
     ap (λ y. pieces_in (insert y m s) (insert vs m (Closed v))) o.left
-    ∙ push_item_more ss vs m n s o.seam _ (Closed v) hollow is h l o.is (λ u. ap (λ y. record { blank = text_bytes o.seam.blank; name = text_bytes o.seam.name; colons = text_bytes o.seam.colons; value = u; trail = y }) o.empty) k
-    ∙ ap (λ u. item_pushed hollow u (pieces_in ss vs)) (closed_text v)
+    ∙ push_element_more ss vs m n s o.seam _ (Closed v) hollow is h l o.is (λ u. ap (λ y. record { whitespace = text_bytes o.seam.whitespace; name = text_bytes o.seam.name; colons = text_bytes o.seam.colons; value = u; trail = y }) o.empty) k
+    ∙ ap (λ u. element_pushed hollow u (pieces_in ss vs)) (closed_text v)
 
 lost_sound : (ss ts : List Seam) (vs : List Node) (n m : ℕ) (s : Seam) (v trail : Text) → AreSoundIn ss vs → HasLost ss n trail ts → AreSoundIn (insert ts m s) (insert vs m (Closed v))
 lost_sound ss ts vs n m s v trail h o = insert_sound ts vs m s (Closed v) (subst (λ y. AreSoundIn y vs) (sym o.left) (seam_sound ss vs n _ h)) (closed_sound v)
@@ -86,35 +86,35 @@ module _ (b d : Bool) (m i k : ℕ) (hollow hollow2 : List ℕ) (ss ss1 ss2 : Li
   first_member_put name h l e f g q a =
       ap (λ y. pieces_in y vs2) (g ∙ ap (λ y. insert y 0 s) e) ∙ ap (λ y. pieces_in (insert ss 0 s) y) (q ∙ ap (λ y. insert y 0 (Closed v)) f) ∙ first_member_pieces ss vs s v hollow name h.1 l a
 
-  pub first_item_put : IsKept b m hollow ss vs → length vs ≡ 0 → ss1 ≡ ss → vs1 ≡ vs → ss2 ≡ insert ss1 0 s → vs2 ≡ insert vs1 0 (Closed v) → ((u : List ℕ) → piece_with s u ≡ item_between [] u hollow) → pieces_in ss2 vs2 ≡ item_pushed hollow (text_bytes v) (pieces_in ss vs)
-  first_item_put h l e f g q a =
-      ap (λ y. pieces_in y vs2) (g ∙ ap (λ y. insert y 0 s) e) ∙ ap (λ y. pieces_in (insert ss 0 s) y) (q ∙ ap (λ y. insert y 0 (Closed v)) f) ∙ first_item_pieces ss vs s v hollow h.1 l a
+  pub first_element_put : IsKept b m hollow ss vs → length vs ≡ 0 → ss1 ≡ ss → vs1 ≡ vs → ss2 ≡ insert ss1 0 s → vs2 ≡ insert vs1 0 (Closed v) → ((u : List ℕ) → piece_with s u ≡ element_between [] u hollow) → pieces_in ss2 vs2 ≡ element_pushed hollow (text_bytes v) (pieces_in ss vs)
+  first_element_put h l e f g q a =
+      ap (λ y. pieces_in y vs2) (g ∙ ap (λ y. insert y 0 s) e) ∙ ap (λ y. pieces_in (insert ss 0 s) y) (q ∙ ap (λ y. insert y 0 (Closed v)) f) ∙ first_element_pieces ss vs s v hollow h.1 l a
 
   first_sound : AreSoundIn ss vs → ss1 ≡ ss → vs1 ≡ vs → ss2 ≡ insert ss1 0 s → vs2 ≡ insert vs1 0 (Closed v) → AreSoundIn ss2 vs2
   first_sound h e f g q =
       subst (λ y. AreSoundIn y vs2) (sym (g ∙ ap (λ y. insert y 0 s) e)) (subst (AreSoundIn (insert ss 0 s)) (sym (q ∙ ap (λ y. insert y 0 (Closed v)) f)) (insert_sound ss vs 0 s (Closed v) h (closed_sound v)))
 
   pub first_member_kept : (k2 : List ℕ) (w : Json) → b ≡ true → d ≡ b → IsKept b m hollow ss vs → length vs ≡ 0 → ss1 ≡ ss → vs1 ≡ vs → ss2 ≡ insert ss1 0 s → vs2 ≡ insert vs1 0 (Closed v) → ((u : List ℕ) → piece_with s u ≡ member_alone hollow (quoted k2) u)
-      → IsBlank hollow2 → IsTextOf (text_bytes v) w → i + length hollow ≡ m → Lengthens k i s (text_bytes v) 0 → IsKept d k hollow2 ss2 vs2
-  first_member_kept k2 w y z (r, h) l e f g q a blank text size grown =
+      → IsWhitespace hollow2 → IsTextOf (text_bytes v) w → i + length hollow ≡ m → Lengthens k i s (text_bytes v) 0 → IsKept d k hollow2 ss2 vs2
+  first_member_kept k2 w y z (r, h) l e f g q a whitespace text size grown =
       let ps = pieces_in ss vs in
       let u = text_bytes v in
-      let some : AreOfSome true (member_pushed hollow (quoted k2) u ps) = member_of_some hollow k2 u w ps (r.cs, subst (λ c. AllSuit c r.cs ps) y r.suit) r.blank text in
+      let some : AreOfSome true (member_pushed hollow (quoted k2) u ps) = member_of_some hollow k2 u w ps (r.cs, subst (λ c. AllSuit c r.cs ps) y r.suit) r.whitespace text in
       let old : m ≡ length (row_text true hollow ps) = r.size ∙ ap (λ c. length (row_text c hollow ps)) y in
-      let long : seam_length s ≡ length (quoted k2) + 1 + length hollow = omega (arith, ap (λ p. length p.blank) (a []), ap (λ p. length p.name) (a []), ap (λ p. length p.colons) (a []), ap (λ p. length p.trail) (a [])) in
+      let long : seam_length s ≡ length (quoted k2) + 1 + length hollow = omega (arith, ap (λ p. length p.whitespace) (a []), ap (λ p. length p.name) (a []), ap (λ p. length p.colons) (a []), ap (λ p. length p.trail) (a [])) in
       let new : k ≡ length (row_text true hollow2 (member_pushed hollow (quoted k2) u ps)) = omega (arith, grown, size, old, long, first_member_size hollow hollow2 (quoted k2) u ss vs l) in
-      subst (λ c. IsKept c k hollow2 ss2 vs2) (sym (z ∙ y)) (kept_pieces true k hollow2 ss2 vs2 (member_pushed hollow (quoted k2) u ps) some (first_member_put (quoted k2) (r, h) l e f g q a) (first_sound h e f g q) blank new)
+      subst (λ c. IsKept c k hollow2 ss2 vs2) (sym (z ∙ y)) (kept_pieces true k hollow2 ss2 vs2 (member_pushed hollow (quoted k2) u ps) some (first_member_put (quoted k2) (r, h) l e f g q a) (first_sound h e f g q) whitespace new)
 
-  pub first_item_kept : (w : Json) → b ≡ false → d ≡ b → IsKept b m hollow ss vs → length vs ≡ 0 → ss1 ≡ ss → vs1 ≡ vs → ss2 ≡ insert ss1 0 s → vs2 ≡ insert vs1 0 (Closed v) → ((u : List ℕ) → piece_with s u ≡ item_between [] u hollow)
-      → IsBlank hollow2 → IsTextOf (text_bytes v) w → i + length hollow ≡ m → Lengthens k i s (text_bytes v) 0 → IsKept d k hollow2 ss2 vs2
-  first_item_kept w y z (r, h) l e f g q a blank text size grown =
+  pub first_element_kept : (w : Json) → b ≡ false → d ≡ b → IsKept b m hollow ss vs → length vs ≡ 0 → ss1 ≡ ss → vs1 ≡ vs → ss2 ≡ insert ss1 0 s → vs2 ≡ insert vs1 0 (Closed v) → ((u : List ℕ) → piece_with s u ≡ element_between [] u hollow)
+      → IsWhitespace hollow2 → IsTextOf (text_bytes v) w → i + length hollow ≡ m → Lengthens k i s (text_bytes v) 0 → IsKept d k hollow2 ss2 vs2
+  first_element_kept w y z (r, h) l e f g q a whitespace text size grown =
       let ps = pieces_in ss vs in
       let u = text_bytes v in
-      let some : AreOfSome false (item_pushed hollow u ps) = item_of_some hollow u w ps (r.cs, subst (λ c. AllSuit c r.cs ps) y r.suit) r.blank text in
+      let some : AreOfSome false (element_pushed hollow u ps) = element_of_some hollow u w ps (r.cs, subst (λ c. AllSuit c r.cs ps) y r.suit) r.whitespace text in
       let old : m ≡ length (row_text false hollow ps) = r.size ∙ ap (λ c. length (row_text c hollow ps)) y in
-      let long : seam_length s ≡ length hollow = omega (arith, ap (λ p. length p.blank) (a []), ap (λ p. length p.name) (a []), ap (λ p. length p.colons) (a []), ap (λ p. length p.trail) (a [])) in
-      let new : k ≡ length (row_text false hollow2 (item_pushed hollow u ps)) = omega (arith, grown, size, old, long, first_item_size hollow hollow2 u ss vs l) in
-      subst (λ c. IsKept c k hollow2 ss2 vs2) (sym (z ∙ y)) (kept_pieces false k hollow2 ss2 vs2 (item_pushed hollow u ps) some (first_item_put (r, h) l e f g q a) (first_sound h e f g q) blank new)
+      let long : seam_length s ≡ length hollow = omega (arith, ap (λ p. length p.whitespace) (a []), ap (λ p. length p.name) (a []), ap (λ p. length p.colons) (a []), ap (λ p. length p.trail) (a [])) in
+      let new : k ≡ length (row_text false hollow2 (element_pushed hollow u ps)) = omega (arith, grown, size, old, long, first_element_size hollow hollow2 u ss vs l) in
+      subst (λ c. IsKept c k hollow2 ss2 vs2) (sym (z ∙ y)) (kept_pieces false k hollow2 ss2 vs2 (element_pushed hollow u ps) some (first_element_put (r, h) l e f g q a) (first_sound h e f g q) whitespace new)
 
   -- behind the last, of number n; trail is what was behind it
   pub next_member_put : (n at : ℕ) (trail : Text) (name : List ℕ) → at ≡ n + 1 → IsKept b m hollow ss vs → length vs ≡ at → (o : HasLost ss n trail ss1) → vs1 ≡ vs → ss2 ≡ insert ss1 at s → vs2 ≡ insert vs1 at (Closed v) → ((x u : List ℕ) → piece_with s u ≡ member_like (piece_with o.seam x) name u)
@@ -122,35 +122,35 @@ module _ (b d : Bool) (m i k : ℕ) (hollow hollow2 : List ℕ) (ss ss1 ss2 : Li
   next_member_put n at trail name is h l o f g q a =
       ap (λ y. pieces_in y vs2) g ∙ ap (λ y. pieces_in (insert ss1 at s) y) (q ∙ ap (λ y. insert y at (Closed v)) f) ∙ next_member_pieces ss ss1 vs at n s v trail hollow name is h.1 l o a
 
-  pub next_item_put : (n at : ℕ) (trail : Text) → at ≡ n + 1 → IsKept b m hollow ss vs → length vs ≡ at → (o : HasLost ss n trail ss1) → vs1 ≡ vs → ss2 ≡ insert ss1 at s → vs2 ≡ insert vs1 at (Closed v) → ((u : List ℕ) → piece_with s u ≡ item_between (blanks_like (text_bytes o.seam.blank)) u (text_bytes o.seam.trail))
-      → pieces_in ss2 vs2 ≡ item_pushed hollow (text_bytes v) (pieces_in ss vs)
-  next_item_put n at trail is h l o f g q a =
-      ap (λ y. pieces_in y vs2) g ∙ ap (λ y. pieces_in (insert ss1 at s) y) (q ∙ ap (λ y. insert y at (Closed v)) f) ∙ next_item_pieces ss ss1 vs at n s v trail hollow is h.1 l o a
+  pub next_element_put : (n at : ℕ) (trail : Text) → at ≡ n + 1 → IsKept b m hollow ss vs → length vs ≡ at → (o : HasLost ss n trail ss1) → vs1 ≡ vs → ss2 ≡ insert ss1 at s → vs2 ≡ insert vs1 at (Closed v) → ((u : List ℕ) → piece_with s u ≡ element_between (whitespace_like (text_bytes o.seam.whitespace)) u (text_bytes o.seam.trail))
+      → pieces_in ss2 vs2 ≡ element_pushed hollow (text_bytes v) (pieces_in ss vs)
+  next_element_put n at trail is h l o f g q a =
+      ap (λ y. pieces_in y vs2) g ∙ ap (λ y. pieces_in (insert ss1 at s) y) (q ∙ ap (λ y. insert y at (Closed v)) f) ∙ next_element_pieces ss ss1 vs at n s v trail hollow is h.1 l o a
 
   next_sound : (n at : ℕ) (trail : Text) → AreSoundIn ss vs → HasLost ss n trail ss1 → vs1 ≡ vs → ss2 ≡ insert ss1 at s → vs2 ≡ insert vs1 at (Closed v) → AreSoundIn ss2 vs2
   next_sound n at trail h o f g q = subst (λ y. AreSoundIn y vs2) (sym g) (subst (AreSoundIn (insert ss1 at s)) (sym (q ∙ ap (λ y. insert y at (Closed v)) f)) (lost_sound ss ss1 vs n at s v trail h o))
 
   pub next_member_kept : (n at : ℕ) (trail : Text) (k2 : List ℕ) (w : Json) → b ≡ true → d ≡ b → at ≡ n + 1 → IsKept b m hollow ss vs → length vs ≡ at → (o : HasLost ss n trail ss1) → vs1 ≡ vs → ss2 ≡ insert ss1 at s → vs2 ≡ insert vs1 at (Closed v)
-      → ((x u : List ℕ) → piece_with s u ≡ member_like (piece_with o.seam x) (quoted k2) u) → IsBlank hollow2 → IsTextOf (text_bytes v) w → i + length (text_bytes trail) ≡ m → Lengthens k i s (text_bytes v) 1 → IsKept d k hollow2 ss2 vs2
-  next_member_kept n at trail k2 w y z is (r, h) l o f g q a blank text size grown =
+      → ((x u : List ℕ) → piece_with s u ≡ member_like (piece_with o.seam x) (quoted k2) u) → IsWhitespace hollow2 → IsTextOf (text_bytes v) w → i + length (text_bytes trail) ≡ m → Lengthens k i s (text_bytes v) 1 → IsKept d k hollow2 ss2 vs2
+  next_member_kept n at trail k2 w y z is (r, h) l o f g q a whitespace text size grown =
       let ps = pieces_in ss vs in
       let u = text_bytes v in
-      let some : AreOfSome true (member_pushed hollow (quoted k2) u ps) = member_of_some hollow k2 u w ps (r.cs, subst (λ c. AllSuit c r.cs ps) y r.suit) r.blank text in
+      let some : AreOfSome true (member_pushed hollow (quoted k2) u ps) = member_of_some hollow k2 u w ps (r.cs, subst (λ c. AllSuit c r.cs ps) y r.suit) r.whitespace text in
       let old : m ≡ length (row_text true hollow ps) = r.size ∙ ap (λ c. length (row_text c hollow ps)) y in
-      let long : seam_length s ≡ length (blanks_like (text_bytes o.seam.blank)) + length (quoted k2) + length (colons_like (text_bytes o.seam.colons)) + length (text_bytes o.seam.trail) = omega (arith, ap (λ p. length p.blank) (a [] []), ap (λ p. length p.name) (a [] []), ap (λ p. length p.colons) (a [] []), ap (λ p. length p.trail) (a [] [])) in
+      let long : seam_length s ≡ length (whitespace_like (text_bytes o.seam.whitespace)) + length (quoted k2) + length (colons_like (text_bytes o.seam.colons)) + length (text_bytes o.seam.trail) = omega (arith, ap (λ p. length p.whitespace) (a [] []), ap (λ p. length p.name) (a [] []), ap (λ p. length p.colons) (a [] []), ap (λ p. length p.trail) (a [] [])) in
       let new : k ≡ length (row_text true hollow2 (member_pushed hollow (quoted k2) u ps)) = omega (arith, grown, size, old, long, ap (λ x. length (text_bytes x)) o.trail_is, push_member_size hollow hollow2 (quoted k2) u ss vs at n o.seam is h l o.is) in
-      subst (λ c. IsKept c k hollow2 ss2 vs2) (sym (z ∙ y)) (kept_pieces true k hollow2 ss2 vs2 (member_pushed hollow (quoted k2) u ps) some (next_member_put n at trail (quoted k2) is (r, h) l o f g q a) (next_sound n at trail h o f g q) blank new)
+      subst (λ c. IsKept c k hollow2 ss2 vs2) (sym (z ∙ y)) (kept_pieces true k hollow2 ss2 vs2 (member_pushed hollow (quoted k2) u ps) some (next_member_put n at trail (quoted k2) is (r, h) l o f g q a) (next_sound n at trail h o f g q) whitespace new)
 
-  pub next_item_kept : (n at : ℕ) (trail : Text) (w : Json) → b ≡ false → d ≡ b → at ≡ n + 1 → IsKept b m hollow ss vs → length vs ≡ at → (o : HasLost ss n trail ss1) → vs1 ≡ vs → ss2 ≡ insert ss1 at s → vs2 ≡ insert vs1 at (Closed v)
-      → ((u : List ℕ) → piece_with s u ≡ item_between (blanks_like (text_bytes o.seam.blank)) u (text_bytes o.seam.trail)) → IsBlank hollow2 → IsTextOf (text_bytes v) w → i + length (text_bytes trail) ≡ m → Lengthens k i s (text_bytes v) 1 → IsKept d k hollow2 ss2 vs2
-  next_item_kept n at trail w y z is (r, h) l o f g q a blank text size grown =
+  pub next_element_kept : (n at : ℕ) (trail : Text) (w : Json) → b ≡ false → d ≡ b → at ≡ n + 1 → IsKept b m hollow ss vs → length vs ≡ at → (o : HasLost ss n trail ss1) → vs1 ≡ vs → ss2 ≡ insert ss1 at s → vs2 ≡ insert vs1 at (Closed v)
+      → ((u : List ℕ) → piece_with s u ≡ element_between (whitespace_like (text_bytes o.seam.whitespace)) u (text_bytes o.seam.trail)) → IsWhitespace hollow2 → IsTextOf (text_bytes v) w → i + length (text_bytes trail) ≡ m → Lengthens k i s (text_bytes v) 1 → IsKept d k hollow2 ss2 vs2
+  next_element_kept n at trail w y z is (r, h) l o f g q a whitespace text size grown =
       let ps = pieces_in ss vs in
       let u = text_bytes v in
-      let some : AreOfSome false (item_pushed hollow u ps) = item_of_some hollow u w ps (r.cs, subst (λ c. AllSuit c r.cs ps) y r.suit) r.blank text in
+      let some : AreOfSome false (element_pushed hollow u ps) = element_of_some hollow u w ps (r.cs, subst (λ c. AllSuit c r.cs ps) y r.suit) r.whitespace text in
       let old : m ≡ length (row_text false hollow ps) = r.size ∙ ap (λ c. length (row_text c hollow ps)) y in
-      let long : seam_length s ≡ length (blanks_like (text_bytes o.seam.blank)) + length (text_bytes o.seam.trail) = omega (arith, ap (λ p. length p.blank) (a []), ap (λ p. length p.name) (a []), ap (λ p. length p.colons) (a []), ap (λ p. length p.trail) (a [])) in
-      let new : k ≡ length (row_text false hollow2 (item_pushed hollow u ps)) = omega (arith, grown, size, old, long, ap (λ x. length (text_bytes x)) o.trail_is, push_item_size hollow hollow2 u ss vs at n o.seam is h l o.is) in
-      subst (λ c. IsKept c k hollow2 ss2 vs2) (sym (z ∙ y)) (kept_pieces false k hollow2 ss2 vs2 (item_pushed hollow u ps) some (next_item_put n at trail is (r, h) l o f g q a) (next_sound n at trail h o f g q) blank new)
+      let long : seam_length s ≡ length (whitespace_like (text_bytes o.seam.whitespace)) + length (text_bytes o.seam.trail) = omega (arith, ap (λ p. length p.whitespace) (a []), ap (λ p. length p.name) (a []), ap (λ p. length p.colons) (a []), ap (λ p. length p.trail) (a [])) in
+      let new : k ≡ length (row_text false hollow2 (element_pushed hollow u ps)) = omega (arith, grown, size, old, long, ap (λ x. length (text_bytes x)) o.trail_is, push_element_size hollow hollow2 u ss vs at n o.seam is h l o.is) in
+      subst (λ c. IsKept c k hollow2 ss2 vs2) (sym (z ∙ y)) (kept_pieces false k hollow2 ss2 vs2 (element_pushed hollow u ps) some (next_element_put n at trail is (r, h) l o f g q a) (next_sound n at trail h o f g q) whitespace new)
 
 -- ---- the seams of the code
 
@@ -158,16 +158,16 @@ pub same_seam : (ss : List Seam) (n : ℕ) (s t : Seam) → n < length ss → s 
 same_seam ss n s t l e f = f ∙ get_or_default ss n t s l ∙ sym e
 
 abbrev piece_of_parts : List ℕ → List ℕ → List ℕ → List ℕ → List ℕ → Piece
-piece_of_parts a c e u g = record { blank = a; name = c; colons = e; value = u; trail = g }
+piece_of_parts a c e u g = record { whitespace = a; name = c; colons = e; value = u; trail = g }
 
 same_piece : (a b c d e f g h u : List ℕ) → a ≡ b → c ≡ d → e ≡ f → g ≡ h → piece_of_parts a c e u g ≡ piece_of_parts b d f u h
 same_piece a b c d e f g h u i j k l = ap (λ x. piece_of_parts x c e u g) i ∙ ap (λ x. piece_of_parts b x e u g) j ∙ ap (λ x. piece_of_parts b d x u g) k ∙ ap (λ x. piece_of_parts b d f u x) l
 
-pub like_member : (s o t t2 : Seam) (name : List ℕ) → t ≡ o → t2 ≡ o → text_bytes s.blank ≡ blanks_like (text_bytes t.blank) → text_bytes s.name ≡ name → text_bytes s.colons ≡ colons_like (text_bytes t2.colons) → s.trail ≡ o.trail → (x u : List ℕ) → piece_with s u ≡ member_like (piece_with o x) name u
-like_member s o t t2 name e f a b c d x u = same_piece (text_bytes s.blank) (blanks_like (text_bytes o.blank)) (text_bytes s.name) name (text_bytes s.colons) (colons_like (text_bytes o.colons)) (text_bytes s.trail) (text_bytes o.trail) u (a ∙ ap (λ y. blanks_like (text_bytes y.blank)) e) b (c ∙ ap (λ y. colons_like (text_bytes y.colons)) f) (ap text_bytes d)
+pub like_member : (s o t t2 : Seam) (name : List ℕ) → t ≡ o → t2 ≡ o → text_bytes s.whitespace ≡ whitespace_like (text_bytes t.whitespace) → text_bytes s.name ≡ name → text_bytes s.colons ≡ colons_like (text_bytes t2.colons) → s.trail ≡ o.trail → (x u : List ℕ) → piece_with s u ≡ member_like (piece_with o x) name u
+like_member s o t t2 name e f a b c d x u = same_piece (text_bytes s.whitespace) (whitespace_like (text_bytes o.whitespace)) (text_bytes s.name) name (text_bytes s.colons) (colons_like (text_bytes o.colons)) (text_bytes s.trail) (text_bytes o.trail) u (a ∙ ap (λ y. whitespace_like (text_bytes y.whitespace)) e) b (c ∙ ap (λ y. colons_like (text_bytes y.colons)) f) (ap text_bytes d)
 
-pub like_item : (o t : Seam) (blank trail u : List ℕ) → t ≡ o → blank ≡ blanks_like (text_bytes t.blank) → trail ≡ text_bytes o.trail → item_between blank u trail ≡ item_between (blanks_like (text_bytes o.blank)) u (text_bytes o.trail)
-like_item o t blank trail u e a b = same_piece blank (blanks_like (text_bytes o.blank)) [] [] [] [] trail (text_bytes o.trail) u (a ∙ ap (λ y. blanks_like (text_bytes y.blank)) e) refl refl b
+pub like_element : (o t : Seam) (whitespace trail u : List ℕ) → t ≡ o → whitespace ≡ whitespace_like (text_bytes t.whitespace) → trail ≡ text_bytes o.trail → element_between whitespace u trail ≡ element_between (whitespace_like (text_bytes o.whitespace)) u (text_bytes o.trail)
+like_element o t whitespace trail u e a b = same_piece whitespace (whitespace_like (text_bytes o.whitespace)) [] [] [] [] trail (text_bytes o.trail) u (a ∙ ap (λ y. whitespace_like (text_bytes y.whitespace)) e) refl refl b
 
 pub lost_count : (ss : List Seam) (n : ℕ) (trail : Text) (ts : List Seam) → HasLost ss n trail ts → length ts ≡ length ss
 lost_count ss n trail ts o = ap length o.left ∙ set_count ss n _
@@ -177,7 +177,7 @@ lost_count ss n trail ts o = ap length o.left ∙ set_count ss n _
     set_count (t ∷ ss) zero s = refl
     set_count (t ∷ ss) (suc n) s = ap suc (set_count ss n s)
 
--- ---- an item before another
+-- ---- an element before another
 
 pub gained_count : (ss : List Seam) (n : ℕ) (bytes : List ℕ) (old : Text) (ts : List Seam) → HasGained ss n bytes old ts → length ts ≡ length ss
 gained_count ss n bytes old ts o = ap length o.left ∙ set_count ss n _
@@ -187,7 +187,7 @@ gained_count ss n bytes old ts o = ap length o.left ∙ set_count ss n _
     set_count (t ∷ ss) zero s = refl
     set_count (t ∷ ss) (suc n) s = ap suc (set_count ss n s)
 
--- x is the seam whose blanks come before the item of number n
+-- x is the seam whose whitespace comes before the element of number n
 pub record IsLike (ss : List Seam) (count n : ℕ) (like : ℕ) (x : Seam) : Type 0 where
   pub is : x ≡ get_or ss like x
   pub within : like < count
@@ -197,30 +197,30 @@ pub record IsLike (ss : List Seam) (count n : ℕ) (like : ℕ) (x : Seam) : Typ
 module _ (b d : Bool) (m i k : ℕ) (hollow hollow2 : List ℕ) (ss ss1 ss2 : List Seam) (vs vs1 vs2 : List Node) (s : Seam) (v : Text) (n like : ℕ) (x : Seam) (old : Text) where
   -- what the pieces become, and how long they are
   abbrev Before : Type 0
-  Before = (pieces_in ss2 vs2 ≡ item_put n (text_bytes v) (pieces_in ss vs)) × (length (row_text false hollow2 (item_put n (text_bytes v) (pieces_in ss vs))) ≡ length (row_text false hollow (pieces_in ss vs)) + (length (blanks_like (text_bytes x.blank)) + length (text_bytes v) + 1))
+  Before = (pieces_in ss2 vs2 ≡ element_put n (text_bytes v) (pieces_in ss vs)) × (length (row_text false hollow2 (element_put n (text_bytes v) (pieces_in ss vs))) ≡ length (row_text false hollow (pieces_in ss vs)) + (length (whitespace_like (text_bytes x.whitespace)) + length (text_bytes v) + 1))
 
-  before_by : IsKept b m hollow ss vs → n < length vs → IsLike ss (length vs) n like x → (o : HasGained ss n (blanks_like (text_bytes x.blank)) old ss1) → vs1 ≡ vs → ss2 ≡ insert ss1 n s → vs2 ≡ insert vs1 n (Closed v) → ((u : List ℕ) → piece_with s u ≡ item_between (text_bytes o.seam.blank) u []) → (n ≡ 0) ⊎ (n ≡ 0 → ⊥) → (length vs ≡ 1) ⊎ (length vs ≡ 1 → ⊥) → Before
+  before_by : IsKept b m hollow ss vs → n < length vs → IsLike ss (length vs) n like x → (o : HasGained ss n (whitespace_like (text_bytes x.whitespace)) old ss1) → vs1 ≡ vs → ss2 ≡ insert ss1 n s → vs2 ≡ insert vs1 n (Closed v) → ((u : List ℕ) → piece_with s u ≡ element_between (text_bytes o.seam.whitespace) u []) → (n ≡ 0) ⊎ (n ≡ 0 → ⊥) → (length vs ≡ 1) ⊎ (length vs ≡ 1 → ⊥) → Before
   before_by (r, h) l z o f g q a c1 c2 = by_number c1 c2
     where
       there : n < length ss
       there = omega (arith, seams_are ss vs h, l)
 
-      outer : pieces_in ss2 vs2 ≡ pieces_in (insert (slice_set ss n (record { blank = o.given; name = o.seam.name; colons = o.seam.colons; trail = o.seam.trail })) n s) (insert vs n (Closed v))
-      outer = ap (λ y. pieces_in y vs2) (g ∙ ap (λ y. insert y n s) o.left) ∙ ap (λ y. pieces_in (insert (slice_set ss n (record { blank = o.given; name = o.seam.name; colons = o.seam.colons; trail = o.seam.trail })) n s) y) (q ∙ ap (λ y. insert y n (Closed v)) f)
+      outer : pieces_in ss2 vs2 ≡ pieces_in (insert (slice_set ss n (record { whitespace = o.given; name = o.seam.name; colons = o.seam.colons; trail = o.seam.trail })) n s) (insert vs n (Closed v))
+      outer = ap (λ y. pieces_in y vs2) (g ∙ ap (λ y. insert y n s) o.left) ∙ ap (λ y. pieces_in (insert (slice_set ss n (record { whitespace = o.given; name = o.seam.name; colons = o.seam.colons; trail = o.seam.trail })) n s) y) (q ∙ ap (λ y. insert y n (Closed v)) f)
 
-      closed : item_put n (tree_text (view (Closed v))) (pieces_in ss vs) ≡ item_put n (text_bytes v) (pieces_in ss vs)
-      closed = ap (λ u. item_put n u (pieces_in ss vs)) (closed_text v)
+      closed : element_put n (tree_text (view (Closed v))) (pieces_in ss vs) ≡ element_put n (text_bytes v) (pieces_in ss vs)
+      closed = ap (λ u. element_put n u (pieces_in ss vs)) (closed_text v)
 
-      given : (bytes : List ℕ) → blanks_like (text_bytes x.blank) ≡ bytes → HasBlank bytes o.seam (record { blank = o.given; name = o.seam.name; colons = o.seam.colons; trail = o.seam.trail })
+      given : (bytes : List ℕ) → whitespace_like (text_bytes x.whitespace) ≡ bytes → HasWhitespace bytes o.seam (record { whitespace = o.given; name = o.seam.name; colons = o.seam.colons; trail = o.seam.trail })
       given bytes e u = ap (λ y. piece_of_parts y (text_bytes o.seam.name) (text_bytes o.seam.colons) u (text_bytes o.seam.trail)) (o.has ∙ e)
 
       own_case : (n ≡ 0 → length vs ≡ 1) → Before
       own_case one =
           let at : like ≡ n = z.own one in
           let same : o.seam ≡ x = same_seam ss n x o.seam there (z.is ∙ ap (λ y. get_or ss y x) at) o.is in
-          let blank : text_bytes x.blank ≡ text_bytes o.seam.blank = ap (λ y. text_bytes y.blank) (sym same) in (
-            outer ∙ put_item_own ss vs n s o.seam _ (Closed v) h l one o.is (given (blanks_like (text_bytes o.seam.blank)) (ap blanks_like blank)) a ∙ closed,
-            put_own_size hollow hollow2 (text_bytes v) ss vs n o.seam h l one o.is ∙ ap (λ y. length (row_text false hollow (pieces_in ss vs)) + (length (blanks_like y) + length (text_bytes v) + 1)) (sym blank),
+          let whitespace : text_bytes x.whitespace ≡ text_bytes o.seam.whitespace = ap (λ y. text_bytes y.whitespace) (sym same) in (
+            outer ∙ put_element_own ss vs n s o.seam _ (Closed v) h l one o.is (given (whitespace_like (text_bytes o.seam.whitespace)) (ap whitespace_like whitespace)) a ∙ closed,
+            put_own_size hollow hollow2 (text_bytes v) ss vs n o.seam h l one o.is ∙ ap (λ y. length (row_text false hollow (pieces_in ss vs)) + (length (whitespace_like y) + length (text_bytes v) + 1)) (sym whitespace),
           )
 
       first_case : n ≡ 0 → 1 < length vs → Before
@@ -228,11 +228,11 @@ module _ (b d : Bool) (m i k : ℕ) (hollow hollow2 : List ℕ) (ss ss1 ss2 : Li
           let at : like ≡ 1 = z.first e more in
           let seat : x ≡ get_or ss 1 x = z.is ∙ ap (λ y. get_or ss y x) at in
           let zero_seam : o.seam ≡ get_or ss 0 o.seam = o.is ∙ ap (λ y. get_or ss y o.seam) e in
-          let moved : pieces_in (insert (slice_set ss n (record { blank = o.given; name = o.seam.name; colons = o.seam.colons; trail = o.seam.trail })) n s) (insert vs n (Closed v)) ≡ item_put n (tree_text (view (Closed v))) (pieces_in ss vs) =
-          subst (λ y. pieces_in (insert (slice_set ss y (record { blank = o.given; name = o.seam.name; colons = o.seam.colons; trail = o.seam.trail })) y s) (insert vs y (Closed v)) ≡ item_put y (tree_text (view (Closed v))) (pieces_in ss vs)) (sym e)
-          (put_item_first ss vs s o.seam x _ (Closed v) h more zero_seam seat (given (blanks_like (text_bytes x.blank)) refl) a) in (
+          let moved : pieces_in (insert (slice_set ss n (record { whitespace = o.given; name = o.seam.name; colons = o.seam.colons; trail = o.seam.trail })) n s) (insert vs n (Closed v)) ≡ element_put n (tree_text (view (Closed v))) (pieces_in ss vs) =
+          subst (λ y. pieces_in (insert (slice_set ss y (record { whitespace = o.given; name = o.seam.name; colons = o.seam.colons; trail = o.seam.trail })) y s) (insert vs y (Closed v)) ≡ element_put y (tree_text (view (Closed v))) (pieces_in ss vs)) (sym e)
+          (put_element_first ss vs s o.seam x _ (Closed v) h more zero_seam seat (given (whitespace_like (text_bytes x.whitespace)) refl) a) in (
             outer ∙ moved ∙ closed,
-            ap (λ y. length (row_text false hollow2 (item_put y (text_bytes v) (pieces_in ss vs)))) e ∙ put_first_size hollow hollow2 (text_bytes v) ss vs x h more seat,
+            ap (λ y. length (row_text false hollow2 (element_put y (text_bytes v) (pieces_in ss vs)))) e ∙ put_first_size hollow hollow2 (text_bytes v) ss vs x h more seat,
           )
 
       by_number : (n ≡ 0) ⊎ (n ≡ 0 → ⊥) → (length vs ≡ 1) ⊎ (length vs ≡ 1 → ⊥) → Before
@@ -243,21 +243,21 @@ module _ (b d : Bool) (m i k : ℕ) (hollow hollow2 : List ℕ) (ss ss1 ss2 : Li
           several : (y : ℕ) → 0 < y → (y ≡ 1 → ⊥) → 1 < y
           several y p q = grind arith
 
-  before_put : IsKept b m hollow ss vs → n < length vs → IsLike ss (length vs) n like x → (o : HasGained ss n (blanks_like (text_bytes x.blank)) old ss1) → vs1 ≡ vs → ss2 ≡ insert ss1 n s → vs2 ≡ insert vs1 n (Closed v) → ((u : List ℕ) → piece_with s u ≡ item_between (text_bytes o.seam.blank) u []) → Before
+  before_put : IsKept b m hollow ss vs → n < length vs → IsLike ss (length vs) n like x → (o : HasGained ss n (whitespace_like (text_bytes x.whitespace)) old ss1) → vs1 ≡ vs → ss2 ≡ insert ss1 n s → vs2 ≡ insert vs1 n (Closed v) → ((u : List ℕ) → piece_with s u ≡ element_between (text_bytes o.seam.whitespace) u []) → Before
   before_put h l z o f g q a = before_by h l z o f g q a (cases_eq n 0) (cases_eq (length vs) 1)
 
-  pub item_before_put : IsKept b m hollow ss vs → n < length vs → IsLike ss (length vs) n like x → (o : HasGained ss n (blanks_like (text_bytes x.blank)) old ss1) → vs1 ≡ vs → ss2 ≡ insert ss1 n s → vs2 ≡ insert vs1 n (Closed v) → ((u : List ℕ) → piece_with s u ≡ item_between (text_bytes o.seam.blank) u []) → pieces_in ss2 vs2 ≡ item_put n (text_bytes v) (pieces_in ss vs)
-  item_before_put h l z o f g q a = (before_put h l z o f g q a).0
+  pub element_before_put : IsKept b m hollow ss vs → n < length vs → IsLike ss (length vs) n like x → (o : HasGained ss n (whitespace_like (text_bytes x.whitespace)) old ss1) → vs1 ≡ vs → ss2 ≡ insert ss1 n s → vs2 ≡ insert vs1 n (Closed v) → ((u : List ℕ) → piece_with s u ≡ element_between (text_bytes o.seam.whitespace) u []) → pieces_in ss2 vs2 ≡ element_put n (text_bytes v) (pieces_in ss vs)
+  element_before_put h l z o f g q a = (before_put h l z o f g q a).0
 
-  pub item_before_kept : (w : Json) → b ≡ false → d ≡ b → IsKept b m hollow ss vs → n < length vs → IsLike ss (length vs) n like x → (o : HasGained ss n (blanks_like (text_bytes x.blank)) old ss1) → vs1 ≡ vs → ss2 ≡ insert ss1 n s → vs2 ≡ insert vs1 n (Closed v) → ((u : List ℕ) → piece_with s u ≡ item_between (text_bytes o.seam.blank) u [])
-      → IsBlank hollow2 → IsTextOf (text_bytes v) w → i + length (text_bytes old) ≡ m + length (blanks_like (text_bytes x.blank)) → Lengthens k i s (text_bytes v) 1 → IsKept d k hollow2 ss2 vs2
-  item_before_kept w y e (r, h) l z o f g q a blank text size grown =
+  pub element_before_kept : (w : Json) → b ≡ false → d ≡ b → IsKept b m hollow ss vs → n < length vs → IsLike ss (length vs) n like x → (o : HasGained ss n (whitespace_like (text_bytes x.whitespace)) old ss1) → vs1 ≡ vs → ss2 ≡ insert ss1 n s → vs2 ≡ insert vs1 n (Closed v) → ((u : List ℕ) → piece_with s u ≡ element_between (text_bytes o.seam.whitespace) u [])
+      → IsWhitespace hollow2 → IsTextOf (text_bytes v) w → i + length (text_bytes old) ≡ m + length (whitespace_like (text_bytes x.whitespace)) → Lengthens k i s (text_bytes v) 1 → IsKept d k hollow2 ss2 vs2
+  element_before_kept w y e (r, h) l z o f g q a whitespace text size grown =
       let ps = pieces_in ss vs in
       let u = text_bytes v in
       let p = before_put (r, h) l z o f g q a in
-      let some : AreOfSome false (item_put n u ps) = put_of_some u w ps n (r.cs, subst (λ c. AllSuit c r.cs ps) y r.suit) (omega (arith, l, pieces_are ss vs h)) text in
+      let some : AreOfSome false (element_put n u ps) = put_of_some u w ps n (r.cs, subst (λ c. AllSuit c r.cs ps) y r.suit) (omega (arith, l, pieces_are ss vs h)) text in
       let whole : m ≡ length (row_text false hollow ps) = r.size ∙ ap (λ c. length (row_text c hollow ps)) y in
-      let long : seam_length s ≡ length (text_bytes o.seam.blank) = omega (arith, ap (λ p. length p.blank) (a []), ap (λ p. length p.name) (a []), ap (λ p. length p.colons) (a []), ap (λ p. length p.trail) (a [])) in
-      let new : k ≡ length (row_text false hollow2 (item_put n u ps)) = omega (arith, grown, size, whole, long, ap (λ t. length (text_bytes t)) o.blank_is, p.1) in
+      let long : seam_length s ≡ length (text_bytes o.seam.whitespace) = omega (arith, ap (λ p. length p.whitespace) (a []), ap (λ p. length p.name) (a []), ap (λ p. length p.colons) (a []), ap (λ p. length p.trail) (a [])) in
+      let new : k ≡ length (row_text false hollow2 (element_put n u ps)) = omega (arith, grown, size, whole, long, ap (λ t. length (text_bytes t)) o.whitespace_is, p.1) in
       let sound : AreSoundIn ss2 vs2 = subst (λ c. AreSoundIn c vs2) (sym g) (subst (AreSoundIn (insert ss1 n s)) (sym (q ∙ ap (λ c. insert c n (Closed v)) f)) (insert_sound ss1 vs n s (Closed v) (subst (λ c. AreSoundIn c vs) (sym o.left) (seam_sound ss vs n _ h)) (closed_sound v))) in
-      subst (λ c. IsKept c k hollow2 ss2 vs2) (sym (e ∙ y)) (kept_pieces false k hollow2 ss2 vs2 (item_put n u ps) some p.0 sound blank new)
+      subst (λ c. IsKept c k hollow2 ss2 vs2) (sym (e ∙ y)) (kept_pieces false k hollow2 ss2 vs2 (element_put n u ps) some p.0 sound whitespace new)

@@ -5,7 +5,7 @@ use Rattle.std.specs.Prelude.{⊤}
 use Rattle.json.specs.Lex.{Lexeme, token, comma, colon, between, lex}
 use Rattle.json.specs.Token as t
 use Rattle.json.specs.Word.{is_space}
-use Rattle.json_text.specs.Cuts.{AllSuit, IsBlank, IsLabel, Piece, Suits, closes, opens, piece_text, pieces_text, row_text}
+use Rattle.json_text.specs.Cuts.{AllSuit, IsLabel, IsWhitespace, Piece, Suits, closes, opens, piece_text, pieces_text, row_text}
 use Rattle.json_lexemes.specs.Lexing.{after, Fits}
 use Rattle.json_text.specs.Listing.{IsTextOf}
 use Rattle.json_text.specs.Pointed.{IsTight}
@@ -37,13 +37,13 @@ pub tight_end : (s v : List ℕ) → IsTightEnd v → IsTightEnd (s ++ v)
 tight_end [] v e = e
 tight_end (x ∷ s) v e = further_end x (s ++ v) (tight_end s v e)
 
--- ---- a piece whose value may have blanks around it
+-- ---- a piece whose value may have whitespace around it
 
 pub record Holds (b : Bool) (c : Child) (p : Piece) : Type 0 where
-  pub blank : IsBlank p.blank
+  pub whitespace : IsWhitespace p.whitespace
   pub label : IsLabel b c.0 p.name p.colons
   pub value : Says p.value c.1
-  pub trail : IsBlank p.trail
+  pub trail : IsWhitespace p.trail
 
 abbrev pub AllHold : Bool → List Child → List Piece → Type 0
 AllHold b [] [] = ⊤
@@ -52,7 +52,7 @@ AllHold b (c ∷ cs) [] = ⊥
 AllHold b (c ∷ cs) (p ∷ ps) = Holds b c p × AllHold b cs ps
 
 pub holds : {b : Bool} {c : Child} {p : Piece} → Suits b c p → Holds b c p
-holds s = record { blank = s.blank; label = s.label; value = s.value.0; trail = s.trail }
+holds s = record { whitespace = s.whitespace; label = s.label; value = s.value.0; trail = s.trail }
 
 pub all_hold : (b : Bool) (cs : List Child) (ps : List Piece) → AllSuit b cs ps → AllHold b cs ps
 all_hold b [] [] h = tt
@@ -65,23 +65,23 @@ all_hold b (c ∷ cs) (p ∷ ps) h = (holds h.0, all_hold b cs ps h.1)
 pub closed_lead : (s : List ℕ) (L : List Lexeme) → lex between s ≡ L → after between s ≡ between → Lead s L
 closed_lead s L e m = record { lexed = λ r. lex-join s r (subst (λ n. Fits n r) (sym m) tt) ∙ ap (λ l. l ++ lex between r) e }
 
-pub blank_lead : (s : List ℕ) → IsBlank s → Lead s []
-blank_lead s h = closed_lead s [] h.0 h.1
+pub whitespace_lead : (s : List ℕ) → IsWhitespace s → Lead s []
+whitespace_lead s h = closed_lead s [] h.0 h.1
 
 pub label_lead : (b : Bool) (k name colons : List ℕ) → IsLabel b k name colons → Lead (name ++ colons) (naming b k)
 label_lead true k name colons h = leads name colons (token (t.string k) ∷ []) (colon ∷ []) (closed_lead name _ h.0.0 h.1) (closed_lead colons _ h.2 h.3)
 label_lead false k name colons h = let e : name ++ colons ≡ [] = ap₂ (λ x y. x ++ y) h.0 h.1 in subst (λ s. Lead s []) (sym e) no_lead
 
-pub front_lead : (b : Bool) (c : Child) (p : Piece) → Holds b c p → Lead (p.blank ++ (p.name ++ p.colons)) (naming b c.0)
-front_lead b c p h = leads p.blank (p.name ++ p.colons) [] (naming b c.0) (blank_lead p.blank h.blank) (label_lead b c.0 p.name p.colons h.label)
+pub front_lead : (b : Bool) (c : Child) (p : Piece) → Holds b c p → Lead (p.whitespace ++ (p.name ++ p.colons)) (naming b c.0)
+front_lead b c p h = leads p.whitespace (p.name ++ p.colons) [] (naming b c.0) (whitespace_lead p.whitespace h.whitespace) (label_lead b c.0 p.name p.colons h.label)
 
 -- the value apart
-pub value_apart : (p : Piece) (r : List ℕ) → piece_text p ++ r ≡ (p.blank ++ (p.name ++ p.colons)) ++ (p.value ++ (p.trail ++ r))
+pub value_apart : (p : Piece) (r : List ℕ) → piece_text p ++ r ≡ (p.whitespace ++ (p.name ++ p.colons)) ++ (p.value ++ (p.trail ++ r))
 value_apart p r = simp append_assoc
 
 pub piece_lexes : (b : Bool) (c : Child) (p : Piece) (r : List ℕ) → Holds b c p → follows (lex between r) ≡ true → lex between (piece_text p ++ r) ≡ naming b c.0 ++ (spelled c.1 ++ lex between r)
 piece_lexes b c p r h f =
-    let behind : lex between (p.trail ++ r) ≡ lex between r = (blank_lead p.trail h.trail).lexed r in
+    let behind : lex between (p.trail ++ r) ≡ lex between r = (whitespace_lead p.trail h.trail).lexed r in
     ap (lex between) (value_apart p r) ∙ (front_lead b c p h).lexed (p.value ++ (p.trail ++ r))
     ∙ ap (λ l. naming b c.0 ++ l) (value_before p.value c.1 (p.trail ++ r) h.value (ap follows behind ∙ f) ∙ ap (λ l. spelled c.1 ++ l) behind)
 
@@ -144,18 +144,18 @@ first_lexes b c cs p ps h hs =
     let rest = to_end b cs ps hs in
     piece_lexes b c p (pieces_text 44 ps ++ (closes b ∷ [])) h (ap follows rest ∙ others_end_follow b cs) ∙ ap (λ l. naming b c.0 ++ (spelled c.1 ++ l)) rest
 
-pub row_holds : (b : Bool) (hollow : List ℕ) (cs : List Child) (ps : List Piece) → AllHold b cs ps → IsBlank hollow → Says (row_text b hollow ps) (tree_in b cs)
+pub row_holds : (b : Bool) (hollow : List ℕ) (cs : List Child) (ps : List Piece) → AllHold b cs ps → IsWhitespace hollow → Says (row_text b hollow ps) (tree_in b cs)
 row_holds b hollow [] [] h e =
-    opens_lex b (hollow ++ (closes b ∷ [])) ∙ ap (λ l. opening b ∷ l) ((blank_lead hollow e).lexed (closes b ∷ []) ∙ closes_lex b) ∙ sym (spelled_in b [])
+    opens_lex b (hollow ++ (closes b ∷ [])) ∙ ap (λ l. opening b ∷ l) ((whitespace_lead hollow e).lexed (closes b ∷ []) ∙ closes_lex b) ∙ sym (spelled_in b [])
 row_holds b hollow [] (p ∷ ps) h e = absurd h
 row_holds b hollow (c ∷ cs) [] h e = absurd h
 row_holds b hollow (c ∷ cs) (p ∷ ps) h e =
     opens_lex b ((piece_text p ++ pieces_text 44 ps) ++ (closes b ∷ []))
     ∙ ap (λ l. opening b ∷ l) (ap (lex between) (append_assoc (piece_text p) (pieces_text 44 ps) (closes b ∷ [])) ∙ first_lexes b c cs p ps h.0 h.1) ∙ sym (spelled_in b (c ∷ cs))
 
--- ---- a row of texts with no blanks around them
+-- ---- a row of texts with no whitespace around them
 
-pub row_says : (b : Bool) (hollow : List ℕ) (cs : List Child) (ps : List Piece) → AllSuit b cs ps → IsBlank hollow → Says (row_text b hollow ps) (tree_in b cs)
+pub row_says : (b : Bool) (hollow : List ℕ) (cs : List Child) (ps : List Piece) → AllSuit b cs ps → IsWhitespace hollow → Says (row_text b hollow ps) (tree_in b cs)
 row_says b hollow cs ps h e = row_holds b hollow cs ps (all_hold b cs ps h) e
 
 pub opens_end : (b : Bool) → IsTightEnd (opens b ∷ [])
@@ -178,5 +178,5 @@ row_tight : (b : Bool) (hollow : List ℕ) (ps : List Piece) → IsTight (row_te
 row_tight b hollow [] = (opens_tight b (hollow ++ (closes b ∷ [])), tight_end (opens b ∷ hollow) (closes b ∷ []) (closes_end b))
 row_tight b hollow (p ∷ ps) = (opens_tight b ((piece_text p ++ pieces_text 44 ps) ++ (closes b ∷ [])), tight_end (pieces_text (opens b) (p ∷ ps)) (closes b ∷ []) (closes_end b))
 
-pub row_is : (b : Bool) (hollow : List ℕ) (cs : List Child) (ps : List Piece) → AllSuit b cs ps → IsBlank hollow → IsTextOf (row_text b hollow ps) (tree_in b cs)
+pub row_is : (b : Bool) (hollow : List ℕ) (cs : List Child) (ps : List Piece) → AllSuit b cs ps → IsWhitespace hollow → IsTextOf (row_text b hollow ps) (tree_in b cs)
 row_is b hollow cs ps h e = (row_says b hollow cs ps h e, row_tight b hollow ps)

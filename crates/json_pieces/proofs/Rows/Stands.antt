@@ -6,12 +6,12 @@ use Rattle.std.specs.Str.{bytes_eq}
 use Rattle.json.specs.Find.{get_member}
 use Rattle.json.specs.Json.{Json, array, object, item, member}
 use Rattle.json.specs.Lex.{lex}
-use Rattle.json_text.specs.Cuts.{AllSuit, IsBlank, Piece, Suits, opens, row_text}
+use Rattle.json_text.specs.Cuts.{AllSuit, IsWhitespace, Piece, Suits, opens, row_text}
 use Rattle.json_lexemes.specs.Found.{or_else}
 use Rattle.json_text.specs.Less.{IsNumberOf}
 use Rattle.json_text.specs.Listing.{IsTextOf}
-use Rattle.json_text.specs.Pointed.{if_some, put_child, put_item, put_member, IsStretch, StandsBetween}
-use Rattle.json_text.specs.Rows.{Child, items_in, last_named, members_in, tree_in}
+use Rattle.json_text.specs.Pointed.{if_some, put_child, put_element, put_member, IsStretch, StandsBetween}
+use Rattle.json_text.specs.Rows.{Child, elements_in, last_named, members_in, tree_in}
 use Rattle.json_lexemes.specs.Spelled.{Says}
 use Rattle.json_text.proofs.Around.{named_is}
 use Rattle.json_text.proofs.Rows.Less.{child_stands, chosen}
@@ -47,20 +47,20 @@ member_exchanged k w (d ∷ cs) n c more e = by_tail (last_named k cs) (bytes_eq
     by_tail None true h f ih e = subst (Exchanges k w (d ∷ cs) c more) (same_Some zero n e) (here h f)
     by_tail None false h f ih e = absurd (none-some n e)
 
-item_exchanged : (w : Json) (cs : List Child) (n : ℕ) (c : Child) (more : List Child) → drop n cs ≡ c ∷ more → put_item n w (items_in cs) ≡ items_in (take n cs ++ ((c.0, w) ∷ more))
-item_exchanged w [] zero c more e = absurd (no_cons c more e)
-item_exchanged w [] (suc n) c more e = absurd (no_cons c more e)
-item_exchanged w (d ∷ cs) zero c more e = ap (λ l. item w (items_in l)) (rest_same d c cs more e)
-item_exchanged w (d ∷ cs) (suc n) c more e = ap (item d.1) (item_exchanged w cs n c more e)
+element_exchanged : (w : Json) (cs : List Child) (n : ℕ) (c : Child) (more : List Child) → drop n cs ≡ c ∷ more → put_element n w (elements_in cs) ≡ elements_in (take n cs ++ ((c.0, w) ∷ more))
+element_exchanged w [] zero c more e = absurd (no_cons c more e)
+element_exchanged w [] (suc n) c more e = absurd (no_cons c more e)
+element_exchanged w (d ∷ cs) zero c more e = ap (λ l. item w (elements_in l)) (rest_same d c cs more e)
+element_exchanged w (d ∷ cs) (suc n) c more e = ap (item d.1) (element_exchanged w cs n c more e)
 
 pub tree_exchanged : (b : Bool) (cs : List Child) (t : List ℕ) (n : ℕ) (c : Child) (more : List Child) (w : Json) → IsNumberOf b cs t n → drop n cs ≡ c ∷ more → put_child t w (tree_in b cs) ≡ tree_in b (take n cs ++ ((c.0, w) ∷ more))
 tree_exchanged true cs t n c more w at e = ap object (member_exchanged t w cs n c more at e)
-tree_exchanged false cs t n c more w at e = ap (λ m. array (if_some m (λ k. put_item k w (items_in cs)) (items_in cs))) at ∙ ap array (item_exchanged w cs n c more e)
+tree_exchanged false cs t n c more w at e = ap (λ m. array (if_some m (λ k. put_element k w (elements_in cs)) (elements_in cs))) at ∙ ap array (element_exchanged w cs n c more e)
 
 -- ---- the text around the value
 
 abbrev pub before_value : Bool → List Piece → Piece → List ℕ
-before_value b pre p = up_to (opens b) pre ++ (p.blank ++ (p.name ++ p.colons))
+before_value b pre p = up_to (opens b) pre ++ (p.whitespace ++ (p.name ++ p.colons))
 
 abbrev pub behind_value : Bool → Piece → List Piece → List ℕ
 behind_value b p post = p.trail ++ rest_text b post
@@ -68,17 +68,17 @@ behind_value b p post = p.trail ++ rest_text b post
 pub value_split : (b : Bool) (hollow : List ℕ) (pre : List Piece) (p : Piece) (post : List Piece) → row_text b hollow (pre ++ (p ∷ post)) ≡ before_value b pre p ++ (p.value ++ behind_value b p post)
 value_split b hollow pre p post = row_split b hollow pre p post ∙ simp append_assoc
 
-pub blank_nil : IsBlank []
+pub whitespace_nil : IsWhitespace []
 unfolding lex
-blank_nil = (refl, refl)
+whitespace_nil = (refl, refl)
 
 -- any text of a value in the place of one
 pub value_says : (b : Bool) (cs : List Child) (c : Child) (ds : List Child) (pre : List Piece) (p : Piece) (post : List Piece) (s : List ℕ) (w : Json) → AllHold b cs pre → Holds b c p → AllHold b ds post → Says s w
     → Says (before_value b pre p ++ (s ++ behind_value b p post)) (tree_in b (cs ++ ((c.0, w) ∷ ds)))
 value_says b cs c ds pre p post s w h k l says =
-    let new : Holds b (c.0, w) (valued s p) = record { blank = k.blank; label = k.label; value = says; trail = k.trail } in
+    let new : Holds b (c.0, w) (valued s p) = record { whitespace = k.whitespace; label = k.label; value = says; trail = k.trail } in
     subst (λ x. Says x (tree_in b (cs ++ ((c.0, w) ∷ ds)))) (value_split b [] pre (valued s p) post)
-    (row_holds b [] (cs ++ ((c.0, w) ∷ ds)) (pre ++ (valued s p ∷ post)) (hold_append b cs ((c.0, w) ∷ ds) pre (valued s p ∷ post) h (new, l)) blank_nil)
+    (row_holds b [] (cs ++ ((c.0, w) ∷ ds)) (pre ++ (valued s p ∷ post)) (hold_append b cs ((c.0, w) ∷ ds) pre (valued s p ∷ post) h (new, l)) whitespace_nil)
 
 -- ---- the child that a token names
 
@@ -102,6 +102,6 @@ part_stands b cs ps n c more t r at e =
 pub exchanged_suits : (b : Bool) (cs : List Child) (ps : List Piece) (n : ℕ) (c : Child) (more : List Child) (s : List ℕ) (w : Json) → AllSuit b cs ps → drop n cs ≡ c ∷ more → IsTextOf s w → AllSuit b (take n cs ++ ((c.0, w) ∷ more)) (with_value n s ps)
 exchanged_suits b cs ps n c more s w h e is =
     let r = part_of b cs ps n c more h e in
-    let new : Suits b (c.0, w) (valued s r.piece) = record { blank = r.suits.blank; label = r.suits.label; value = is; trail = r.suits.trail } in
+    let new : Suits b (c.0, w) (valued s r.piece) = record { whitespace = r.suits.whitespace; label = r.suits.label; value = is; trail = r.suits.trail } in
     subst (AllSuit b (take n cs ++ ((c.0, w) ∷ more))) (sym (value_set n s ps r.piece r.rest r.is))
     (suit_append b (take n cs) ((c.0, w) ∷ more) (take n ps) (valued s r.piece ∷ r.rest) r.before (new, r.behind))

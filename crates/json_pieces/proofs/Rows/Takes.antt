@@ -11,7 +11,7 @@ use Rattle.json_lexemes.proofs.Nests.{one_tree}
 use Rattle.json_pieces.specs.Edits.{TakesOut}
 use Rattle.json_pieces.specs.Nodes.{IsRow}
 use Rattle.json_pieces.specs.PieceLists.{taken}
-use Rattle.json_pieces.proofs.Rows.Answers.{first_less_row, item_gone, members_gone, next_less_row, row_object}
+use Rattle.json_pieces.proofs.Rows.Answers.{element_gone, first_less_row, members_gone, next_less_row, row_object}
 use Rattle.json_pieces.proofs.Rows.Says.{row_says}
 use Rattle.json_pieces.proofs.Rows.Taken.{IsLessRow}
 
@@ -30,14 +30,14 @@ pub none_named : (b : Bool) (ps : List Piece) (t : List ℕ) (o : Option ℕ) �
 none_named b ps t o e f cs h = subst (λ x. MatchOption x (child t (tree_in b cs) ≡ None) (IsNumberOf b cs t)) e (f cs h)
 
 pub nothing_taken : (b : Bool) (m : ℕ) (hollow : List ℕ) (ps : List Piece) (t : List ℕ) → IsRow b m hollow ps → NamesNone b ps t → (j : Json) → Says (row_text b hollow ps) j → TakesOut (row_text b hollow ps) j t (row_text b hollow ps) false
-nothing_taken b m hollow ps t r none j says = (refl, subst (λ v. child t v ≡ None) (one_tree (row_text b hollow ps) (tree_in b r.cs) j (row_says b hollow r.cs ps r.suit r.blank) says) (none r.cs r.suit))
+nothing_taken b m hollow ps t r none j says = (refl, subst (λ v. child t v ≡ None) (one_tree (row_text b hollow ps) (tree_in b r.cs) j (row_says b hollow r.cs ps r.suit r.whitespace) says) (none r.cs r.suit))
 
-pub item_taken : (b d : Bool) (m k : ℕ) (hollow hollow2 : List ℕ) (ps qs : List Piece) (n : ℕ) (t : List ℕ) → d ≡ b → d ≡ false → IsRow b m hollow ps → IsRow d k hollow2 qs → qs ≡ taken n ps → (taken n ps ≡ [] → hollow2 ≡ []) → Names b ps t n → n < length ps
+pub element_taken : (b d : Bool) (m k : ℕ) (hollow hollow2 : List ℕ) (ps qs : List Piece) (n : ℕ) (t : List ℕ) → d ≡ b → d ≡ false → IsRow b m hollow ps → IsRow d k hollow2 qs → qs ≡ taken n ps → (taken n ps ≡ [] → hollow2 ≡ []) → Names b ps t n → n < length ps
     → (j : Json) → Says (row_text b hollow ps) j → TakesOut (row_text b hollow ps) j t (row_text d hollow2 qs) true
-item_taken true d m k hollow hollow2 ps qs n t e f r s is some names l = cc
-item_taken false true m k hollow hollow2 ps qs n t e f r s is some names l = cc
-item_taken false false m k hollow hollow2 ps qs n t e f r s is some names l = λ j says.
-    subst (λ x. IsWithout (row_text false hollow ps) j t (row_text false hollow2 x)) (sym is) (item_gone hollow hollow2 r.cs ps n t r.suit r.blank (names r.cs r.suit) l some s.blank j says)
+element_taken true d m k hollow hollow2 ps qs n t e f r s is some names l = cc
+element_taken false true m k hollow hollow2 ps qs n t e f r s is some names l = cc
+element_taken false false m k hollow hollow2 ps qs n t e f r s is some names l = λ j says.
+    subst (λ x. IsWithout (row_text false hollow ps) j t (row_text false hollow2 x)) (sym is) (element_gone hollow hollow2 r.cs ps n t r.suit r.whitespace (names r.cs r.suit) l some s.whitespace j says)
 
 -- ---- members
 
@@ -49,20 +49,20 @@ pub first_step : (b d : Bool) (m k : ℕ) (hollow hollow2 : List ℕ) (ps qs : L
     → IsLessOf b hollow ps t d hollow2 qs
 first_step b d m k hollow hollow2 ps qs n t e r s is some names l j says =
     subst (λ c. IsLessRow (row_text b hollow ps) j t c hollow2 qs) (sym e)
-    (subst (λ x. IsLessRow (row_text b hollow ps) j t b hollow2 x) (sym is) (first_less_row b hollow hollow2 r.cs ps n t r.suit r.blank (names r.cs r.suit) l some s.blank j says))
+    (subst (λ x. IsLessRow (row_text b hollow ps) j t b hollow2 x) (sym is) (first_less_row b hollow hollow2 r.cs ps n t r.suit r.whitespace (names r.cs r.suit) l some s.whitespace j says))
 
 pub next_step : (b d e : Bool) (m k i : ℕ) (hollow hollow2 hollow3 : List ℕ) (ps qs us : List Piece) (n : ℕ) (t : List ℕ) → b ≡ true → e ≡ d → IsRow b m hollow ps → IsLessOf b hollow ps t d hollow2 qs → IsRow d k hollow2 qs → IsRow e i hollow3 us → us ≡ taken n qs → (taken n qs ≡ [] → hollow3 ≡ [])
     → Names d qs t n → n < length qs → IsLessOf b hollow ps t e hollow3 us
 next_step false d e m k i hollow hollow2 hollow3 ps qs us n t y z r less s u is some names l = cc
 next_step true d e m k i hollow hollow2 hollow3 ps qs us n t y z r less s u is some names l = λ j says.
     let a = less j says in
-    let object : IsObject j = row_object hollow r.cs ps r.suit r.blank j says in
+    let object : IsObject j = row_object hollow r.cs ps r.suit r.whitespace j says in
     subst (λ c. IsLessRow (row_text true hollow ps) j t c hollow3 us) (sym z)
-    (subst (λ x. IsLessRow (row_text true hollow ps) j t d hollow3 x) (sym is) (next_less_row (row_text true hollow ps) j t d hollow2 hollow3 qs n object a (names a.children a.suits) l some u.blank))
+    (subst (λ x. IsLessRow (row_text true hollow ps) j t d hollow3 x) (sym is) (next_less_row (row_text true hollow ps) j t d hollow2 hollow3 qs n object a (names a.children a.suits) l some u.whitespace))
 
 pub all_steps : (b d : Bool) (m : ℕ) (hollow hollow2 : List ℕ) (ps qs : List Piece) (t : List ℕ) → b ≡ true → d ≡ true → IsRow b m hollow ps → IsLessOf b hollow ps t d hollow2 qs → NamesNone d qs t → (j : Json) → Says (row_text b hollow ps) j → TakesOut (row_text b hollow ps) j t (row_text d hollow2 qs) true
 all_steps false d m hollow hollow2 ps qs t y z r less none = cc
 all_steps true false m hollow hollow2 ps qs t y z r less none = cc
 all_steps true true m hollow hollow2 ps qs t y z r less none = λ j says.
     let a = less j says in
-    members_gone (row_text true hollow ps) j t hollow2 qs (row_object hollow r.cs ps r.suit r.blank j says) a (none a.children a.suits)
+    members_gone (row_text true hollow ps) j t hollow2 qs (row_object hollow r.cs ps r.suit r.whitespace j says) a (none a.children a.suits)

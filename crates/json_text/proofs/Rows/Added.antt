@@ -12,8 +12,8 @@ use Rattle.json_text.specs.Rows.{AreInOrder, Child, HasRow, IsComma, IsInside, I
 use Rattle.json_lexemes.specs.Spelled.{Says}
 use Rattle.json_text.specs.declared.parts.Numbered.{Numbered}
 use Rattle.json_lexemes.proofs.Nests.{one_tree}
-use Rattle.json_text.proofs.Rows.Befores.{count_within, item_before, last_count, no_slot, no_slot_past, nothing_added, slot_by}
-use Rattle.json_text.proofs.Rows.Grows.{first_item, first_member, item_behind, member_behind}
+use Rattle.json_text.proofs.Rows.Befores.{count_within, element_before, last_count, no_slot, no_slot_past, nothing_added, slot_by}
+use Rattle.json_text.proofs.Rows.Grows.{element_behind, first_element, first_member, member_behind}
 
 pub if_put : {A E : Type 0} (r : Result A E) (bytes : A → List ℕ) (is : List ℕ) (P : List ℕ → Type 0) → IfOk r (λ a. bytes a ≡ is) → P is → IfOk r (λ a. P (bytes a))
 if_put (Ok a) bytes is P e p = subst P (sym e) p
@@ -36,7 +36,7 @@ at_end t k put ahead i n r (cs, says, inside) last o a none v is =
 pub same_last : (copy t : List ℕ) (b : Bool) (n : ℕ) (r : Numbered) (i : ℕ) → copy ≡ t → ((cs : List Child) → IsInside copy b cs i → IsLast copy b cs n r) → (cs : List Child) → IsInside t b cs i → IsLast t b cs n r
 same_last copy t b n r i e f = subst (λ x. (cs : List Child) → IsInside x b cs i → IsLast x b cs n r) e f
 
--- ---- items
+-- ---- elements
 
 pub chosen_slot : (t k : List ℕ) (index : Index) (count m : ℕ) (cs : List Child) → IsIndexText k index → count ≡ length cs → m ≡ place_in index count → m ≤ count → slot_in k (length cs) ≡ Some m
 chosen_slot t k index count m cs x e p h = subst (λ n. slot_in k n ≡ Some m) e (slot_by k index count m x p h)
@@ -57,7 +57,7 @@ pub before_put : (t k put trail : List ℕ) (i m : ℕ) (r : Numbered) → HasRo
     → (v : Json) → Says t v → IsPutInto t v k put (take r.part.start t ++ ([] ++ (put ++ (trail ++ drop r.part.start t))))
 before_put t k put trail i m r (cs, says, h) slot num o x v is =
     subst (λ y. IsPutInto t y k put (take r.part.start t ++ ([] ++ (put ++ (trail ++ drop r.part.start t))))) (one_tree t (tree_in false cs) v says is)
-    (item_before t k put trail cs m i r says (slot cs h) (num cs h) o h x)
+    (element_before t k put trail cs m i r says (slot cs h) (num cs h) o h x)
 
 pub alone_put : (t k put : List ℕ) (i m : ℕ) → HasRow t false i → ((cs : List Child) → IsInside t false cs i → slot_in k (length cs) ≡ Some m) → ((cs : List Child) → IsInside t false cs i → m ≤ length cs) → ((cs : List Child) → IsInside t false cs i → cs ≡ []) → i ≤ length t
     → (v : Json) → Says t v → IsPutInto t v k put (take i t ++ ([] ++ (put ++ ([] ++ drop i t))))
@@ -65,11 +65,11 @@ alone_put t k put i m (cs, says, h) slot within none w v is =
     let empty : length cs ≡ 0 = ap length (none cs h) in
     let zero_is : m ≡ 0 = omega (arith, within cs h, empty) in
     subst (λ y. IsPutInto t y k put (take i t ++ ([] ++ (put ++ ([] ++ drop i t))))) (one_tree t (tree_in false cs) v says is)
-    (first_item t k put cs i says (ap (slot_in k) (sym empty) ∙ slot cs h ∙ ap Some zero_is) (none cs h) h w)
+    (first_element t k put cs i says (ap (slot_in k) (sym empty) ∙ slot cs h ∙ ap Some zero_is) (none cs h) h w)
 
 pub behind_put : (t k put ahead : List ℕ) (i m n : ℕ) (r : Numbered) → HasRow t false i → ((cs : List Child) → IsInside t false cs i → slot_in k (length cs) ≡ Some m) → ((cs : List Child) → IsInside t false cs i → m ≤ length cs) → ((cs : List Child) → IsInside t false cs i → drop m cs ≡ [])
     → ((cs : List Child) → IsInside t false cs i → IsLast t false cs n r) → AreInOrder t r.part → IsComma t r.part.start ahead → (v : Json) → Says t v → IsPutInto t v k put (take r.part.value.end t ++ (ahead ++ (put ++ ([] ++ drop r.part.value.end t))))
 behind_put t k put ahead i m n r (cs, says, h) slot within past last o c v is =
     let all : m ≡ length cs = omega (arith, within cs h, ap length (past cs h), length-drop m cs) in
     subst (λ y. IsPutInto t y k put (take r.part.value.end t ++ (ahead ++ (put ++ ([] ++ drop r.part.value.end t))))) (one_tree t (tree_in false cs) v says is)
-    (item_behind t k put ahead cs n r says (slot cs h ∙ ap Some all) (last cs h) o c)
+    (element_behind t k put ahead cs n r says (slot cs h ∙ ap Some all) (last cs h) o c)

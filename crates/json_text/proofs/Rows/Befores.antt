@@ -1,4 +1,4 @@
--- An item before another.
+-- An element before another.
 use Rattle.std.proofs.Common.{◌≡◌, ◌⊎◌, ℕ, zero, suc, ◌+◌, ◌<◌, ◌≤◌, ◌^◌, Bool, true, false, List, [], ◌∷◌, ◌++◌, length, take, drop, Option, Some, None, option_and_then, if◌then◌else◌, refl, sym, ap, ap₂, ◌∙◌, subst, inl, inr, arith, length-append, length-drop, take-append-drop}
 use Rattle.std.proofs.lemmas.Bool.{cases_Bool, cases_eq}
 use Rattle.std.proofs.lemmas.Option.{none-some}
@@ -13,35 +13,35 @@ use Rattle.jsonptr.specs.Places.{place_of, next_token}
 use Rattle.jsonptr.specs.declared.index.Index.{Index}
 use Rattle.jsonptr.specs.declared.index.Index.TheVariants.{Num, Next}
 use Rattle.json_text.specs.Removed.{IsTightFront}
-use Rattle.json_text.specs.Added.{HasOne, IsBeforeItem, IsPutInto, IsStyled}
-use Rattle.json_text.specs.Changed.{add_child, insert_item, items_len, slot_in}
+use Rattle.json_text.specs.Added.{HasOne, IsBeforeElement, IsPutInto, IsStyled}
+use Rattle.json_text.specs.Changed.{add_child, elements_len, insert_element, slot_in}
 use Rattle.json_lexemes.specs.Places.{left_at}
-use Rattle.json_text.specs.Rows.{AreInOrder, Child, inside, IsComma, IsInside, IsLast, IsNumbered, IsTrail, items_in, opening, others, slice, tree_in}
-use Rattle.json_lexemes.specs.Spelled.{spelled, first_items, more_items, Says}
+use Rattle.json_text.specs.Rows.{AreInOrder, Child, inside, IsComma, IsInside, IsLast, IsNumbered, IsTrail, elements_in, opening, others, slice, tree_in}
+use Rattle.json_lexemes.specs.Spelled.{spelled, first_elements, more_elements, Says}
 use Rattle.json_text.specs.declared.parts.Numbered.{Numbered}
 use Rattle.json_lexemes.proofs.Counted.{lexemes, some_lexeme}
 use Rattle.json_lexemes.proofs.Steps.{follows}
 use Rattle.json_text.proofs.Stretches.{two_parts}
 use Rattle.json_text.proofs.Rows.Cuts.{fronts, inside_there, no_comma}
-use Rattle.json_text.proofs.Rows.Grows.{items_count, new_item}
+use Rattle.json_text.proofs.Rows.Grows.{elements_count, new_element}
 use Rattle.json_text.proofs.Rows.Leads.{comma_lead, Lead, no_lead, slice_lead, value_before}
 use Rattle.json_text.proofs.Rows.Reached.{behind_child}
 use Rattle.json_text.proofs.Rows.Splices.{before_slice, front_lexes, kept_front, ordered, slice_lexes, tight_behind, tight_end, tight_slice_end}
-use Rattle.json_text.proofs.Rows.Styles.{by_blanks}
+use Rattle.json_text.proofs.Rows.Styles.{by_whitespace}
 use Rattle.json_text.proofs.Rows.Trees.{spelled_in}
 
 -- ---- the slot
 
-more_count : (js : Items) → suc (items_len js) ≤ length (more_items js)
+more_count : (js : Items) → suc (elements_len js) ≤ length (more_elements js)
 more_count no_items = omega arith
-more_count (item j js) = omega (arith, more_count js, length-append (spelled j) (more_items js), some_lexeme j)
+more_count (item j js) = omega (arith, more_count js, length-append (spelled j) (more_elements js), some_lexeme j)
 
-items_within : (js : Items) → items_len js ≤ length (first_items js)
-items_within no_items = omega arith
-items_within (item j js) = omega (arith, more_count js, length-append (spelled j) (more_items js), some_lexeme j)
+elements_within : (js : Items) → elements_len js ≤ length (first_elements js)
+elements_within no_items = omega arith
+elements_within (item j js) = omega (arith, more_count js, length-append (spelled j) (more_elements js), some_lexeme j)
 
 pub count_within : (t : List ℕ) (cs : List Child) → Says t (tree_in false cs) → length cs ≤ length t
-count_within t cs says = omega (arith, ap length says, lexemes between t, items_within (items_in cs), items_count cs)
+count_within t cs says = omega (arith, ap length says, lexemes between t, elements_within (elements_in cs), elements_count cs)
 
 not_next : (t : List ℕ) → (t ≡ next_token → ⊥) → bytes_eq t next_token ≡ false
 not_next t n = by_case (cases_Bool (bytes_eq t next_token))
@@ -81,24 +81,24 @@ no_slot t n h x = slot_by_place t n (place_of t) x.other refl ∙ by_place (plac
     by_place (Some i) past = past_is n i (omega (arith, h, past i refl))
 
 pub nothing_added : (k : List ℕ) (w : Json) (cs : List Child) → slot_in k (length cs) ≡ None → add_child k w (tree_in false cs) ≡ None
-nothing_added k w cs e = ap (option_map (λ m. array (insert_item m w (items_in cs)))) (ap (slot_in k) (items_count cs) ∙ e)
+nothing_added k w cs e = ap (option_map (λ m. array (insert_element m w (elements_in cs)))) (ap (slot_in k) (elements_count cs) ∙ e)
 
 pub last_count : (t : List ℕ) (cs : List Child) (n : ℕ) (r : Numbered) → IsLast t false cs n r → length cs ≡ n + 1
 last_count t cs n r l = omega (arith, ap length l.last, length-drop (n + 1) cs, ap length l.numbered.part.is, length-drop n cs)
 
--- ---- before an item
+-- ---- before an element
 
 nothing : (n : ℕ) (c : Child) (more : List Child) → drop n [] ≡ c ∷ more → ⊥
 nothing zero c more e = absurd (omega (arith, ap length e))
 nothing (suc n) c more e = absurd (omega (arith, ap length e))
 
-styled_before : (k : List ℕ) (cs : List Child) (n : ℕ) (c : Child) (more : List Child) (front trail back : List ℕ) → drop n cs ≡ c ∷ more → IsBeforeItem front trail back → IsStyled k (tree_in false cs) front [] trail back
+styled_before : (k : List ℕ) (cs : List Child) (n : ℕ) (c : Child) (more : List Child) (front trail back : List ℕ) → drop n cs ≡ c ∷ more → IsBeforeElement front trail back → IsStyled k (tree_in false cs) front [] trail back
 styled_before k [] n c more front trail back e s = absurd (nothing n c more e)
 styled_before k (d ∷ cs) n c more front trail back e s = inr (refl, s)
 
 comma_of : (t trail : List ℕ) (r : Numbered) → (m : ℕ) (b : Bool) (cs : List Child) → IsNumbered t b cs m r → AreInOrder t r.part → IsComma t r.part.start trail → Lead trail (comma ∷ [])
 comma_of t trail r m b cs num o (i, gap, is) =
-    subst (λ x. Lead x (comma ∷ [])) (sym is) (comma_lead _ [] (by_blanks (λ x. Lead x []) (slice t i r.part.start) (slice_lead t i r.part.start [] gap.begins num.places.begins gap.left gap.order (omega (arith, o.named, o.value, o.fits))) no_lead))
+    subst (λ x. Lead x (comma ∷ [])) (sym is) (comma_lead _ [] (by_whitespace (λ x. Lead x []) (slice t i r.part.start) (slice_lead t i r.part.start [] gap.begins num.places.begins gap.left gap.order (omega (arith, o.named, o.value, o.fits))) no_lead))
 
 trail_lead : (t trail : List ℕ) (cs : List Child) (n from : ℕ) (r : Numbered) → IsNumbered t false cs n r → AreInOrder t r.part → IsInside t false cs from → IsTrail t from n r trail → Lead trail (comma ∷ [])
 trail_lead t trail cs n from r num o h x = by_case (x cs h)
@@ -107,8 +107,8 @@ trail_lead t trail cs n from r num o h x = by_case (x cs h)
     by_case (inl (z, (r2, num2, o2, c))) = comma_of t trail r2 1 false cs num2 o2 c
     by_case (inr (z, c)) = comma_of t trail r n false cs num o c
 
-item_lexes : (t : List ℕ) (cs : List Child) (n : ℕ) (r : Numbered) → (num : IsNumbered t false cs n r) → AreInOrder t r.part → lex between (slice t r.part.start r.part.value.end) ≡ spelled num.part.child.1
-item_lexes t cs n r num o =
+element_lexes : (t : List ℕ) (cs : List Child) (n : ℕ) (r : Numbered) → (num : IsNumbered t false cs n r) → AreInOrder t r.part → lex between (slice t r.part.start r.part.value.end) ≡ spelled num.part.child.1
+element_lexes t cs n r num o =
     slice_lexes t r.part.start r.part.value.end (spelled num.part.child.1) (inl num.places.begins) num.places.cut.ends
     (num.part.left ∙ ap (inside false) num.part.is ∙ ap (λ y. spelled num.part.child.1 ++ y) (sym num.part.behind)) (omega (arith, o.named, o.value)) o.fits
 
@@ -116,7 +116,7 @@ tight_back : (t : List ℕ) (cs : List Child) (n : ℕ) (r : Numbered) → IsNum
 tight_back t cs n r num o = tight_behind t r.part.start o.solid (inside_there t false (drop n cs) r.part.start num.part.left)
 
 before_second : (t trail : List ℕ) (cs : List Child) (n : ℕ) (r r2 : Numbered) → Says t (tree_in false cs) → IsNumbered t false cs n r → AreInOrder t r.part → n ≡ 0 → IsNumbered t false cs 1 r2 → AreInOrder t r2.part → IsComma t r2.part.start trail
-    → IsBeforeItem (take r.part.start t) trail (drop r.part.start t)
+    → IsBeforeElement (take r.part.start t) trail (drop r.part.start t)
 before_second t trail cs n r r2 says num o z num2 o2 (i, gap, is) =
     let s = r.part.start in
     let ve = r.part.value.end in
@@ -139,9 +139,9 @@ before_second t trail cs n r r2 says num o z num2 o2 (i, gap, is) =
           gap = slice t ve i;
           rest = drop s2 t;
           is = sym (ap (λ x. slice t s ve ++ x) (ap (λ x. slice t ve i ++ x) (two_parts t i s2 gap.order) ∙ two_parts t ve i (omega (arith, later))) ∙ two_parts t s ve reach);
-          says = (num.part.child.1, item_lexes t cs n r num o);
+          says = (num.part.child.1, element_lexes t cs n r num o);
           comes = (tight_slice_end t (tree_in false cs) ve i says later (omega (arith, gap.order, wide2)) gap.back, slice_lexes t ve i (comma ∷ []) num.places.cut.ends (inl gap.begins) comes (omega (arith, later)) (omega (arith, gap.order, wide2)));
-          blanks = (slice_lexes t i s2 [] (inl gap.begins) (inl num2.places.begins) gap.left gap.order wide2, tight_behind t s2 o2.solid (inside_there t false (drop 1 cs) s2 num2.part.left));
+          tight = (slice_lexes t i s2 [] (inl gap.begins) (inl num2.places.begins) gap.left gap.order wide2, tight_behind t s2 o2.solid (inside_there t false (drop 1 cs) s2 num2.part.left));
         },
       ),
     )
@@ -156,7 +156,7 @@ has_one t cs n r says num o last front = by_number (cases_eq n 0)
           value = slice t r.part.start r.part.value.end;
           rest = drop r.part.value.end t;
           is = sym (two_parts t r.part.start r.part.value.end (omega (arith, o.named, o.value)));
-          says = (num.part.child.1, item_lexes t cs n r num o);
+          says = (num.part.child.1, element_lexes t cs n r num o);
           last = λ ls e. no_comma false ls (ap (others false) (sym none) ∙ sym num.part.behind ∙ e);
         }
     by_number (inr z) =
@@ -164,7 +164,7 @@ has_one t cs n r says num o last front = by_number (cases_eq n 0)
         let is : lex between (take r.part.start t) ≡ f.lexemes = front_lexes t f.lexemes (tree_in false cs) r.part.start says (inl num.places.begins) (f.is ∙ ap (λ x. f.lexemes ++ x) (sym num.part.left)) in
         absurd (omega (arith, f.more z, ap length (sym is ∙ front)))
 
-before_itself : (t trail : List ℕ) (cs : List Child) (n : ℕ) (r : Numbered) → Says t (tree_in false cs) → IsNumbered t false cs n r → AreInOrder t r.part → (n ≡ 0 → drop 1 cs ≡ []) → IsComma t r.part.start trail → IsBeforeItem (take r.part.start t) trail (drop r.part.start t)
+before_itself : (t trail : List ℕ) (cs : List Child) (n : ℕ) (r : Numbered) → Says t (tree_in false cs) → IsNumbered t false cs n r → AreInOrder t r.part → (n ≡ 0 → drop 1 cs ≡ []) → IsComma t r.part.start trail → IsBeforeElement (take r.part.start t) trail (drop r.part.start t)
 before_itself t trail cs n r says num o last (i, gap, is) =
     let s = r.part.start in
     let wide : s ≤ length t = omega (arith, o.named, o.value, o.fits) in (
@@ -180,16 +180,16 @@ before_itself t trail cs n r says num o last (i, gap, is) =
       ),
     )
 
-before_style : (t trail : List ℕ) (cs : List Child) (n from : ℕ) (r : Numbered) → Says t (tree_in false cs) → IsNumbered t false cs n r → AreInOrder t r.part → IsInside t false cs from → IsTrail t from n r trail → IsBeforeItem (take r.part.start t) trail (drop r.part.start t)
+before_style : (t trail : List ℕ) (cs : List Child) (n from : ℕ) (r : Numbered) → Says t (tree_in false cs) → IsNumbered t false cs n r → AreInOrder t r.part → IsInside t false cs from → IsTrail t from n r trail → IsBeforeElement (take r.part.start t) trail (drop r.part.start t)
 before_style t trail cs n from r says num o h x = by_case (x cs h)
   where
-    by_case : ((n ≡ 0) × ((r2 : Numbered) × IsNumbered t false cs 1 r2 × AreInOrder t r2.part × IsComma t r2.part.start trail)) ⊎ ((n ≡ 0 → drop 1 cs ≡ []) × IsComma t r.part.start trail) → IsBeforeItem (take r.part.start t) trail (drop r.part.start t)
+    by_case : ((n ≡ 0) × ((r2 : Numbered) × IsNumbered t false cs 1 r2 × AreInOrder t r2.part × IsComma t r2.part.start trail)) ⊎ ((n ≡ 0 → drop 1 cs ≡ []) × IsComma t r.part.start trail) → IsBeforeElement (take r.part.start t) trail (drop r.part.start t)
     by_case (inl (z, (r2, num2, o2, c))) = before_second t trail cs n r r2 says num o z num2 o2 c
     by_case (inr (last, c)) = before_itself t trail cs n r says num o last c
 
-pub item_before : (t k put trail : List ℕ) (cs : List Child) (n from : ℕ) (r : Numbered) → Says t (tree_in false cs) → slot_in k (length cs) ≡ Some n → IsNumbered t false cs n r → AreInOrder t r.part → IsInside t false cs from → IsTrail t from n r trail
+pub element_before : (t k put trail : List ℕ) (cs : List Child) (n from : ℕ) (r : Numbered) → Says t (tree_in false cs) → slot_in k (length cs) ≡ Some n → IsNumbered t false cs n r → AreInOrder t r.part → IsInside t false cs from → IsTrail t from n r trail
     → IsPutInto t (tree_in false cs) k put (take r.part.start t ++ ([] ++ (put ++ (trail ++ drop r.part.start t))))
-item_before t k put trail cs n from r says slot num o h x =
+element_before t k put trail cs n from r says slot num o h x =
     let s = r.part.start in
     let f = fronts false cs n num.part.child num.part.more num.part.is in
     let lead : Lead trail (comma ∷ []) = trail_lead t trail cs n from r num o h x in
@@ -204,7 +204,7 @@ item_before t k put trail cs n from r says slot num o h x =
       put_in = refl;
       alone = λ new w y. (
         tree_in false (take n cs ++ (([], w) ∷ drop n cs)),
-        new_item k w cs n slot,
+        new_element k w cs n slot,
         kept_front t (new ++ (trail ++ drop s t)) f.lexemes (tree_in false cs) s says (inl num.places.begins) (f.is ∙ ap (λ z. f.lexemes ++ z) (sym num.part.left)) (inl num.places.begins)
             ∙ ap (λ z. f.lexemes ++ z) (value_before new w (trail ++ drop s t) y (ap follows behind) ∙ ap (λ z. spelled w ++ z) (behind ∙ ap (others false) (sym num.part.is)))
             ∙ sym (f.there ([], w) (drop n cs)),

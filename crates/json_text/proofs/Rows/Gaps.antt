@@ -1,4 +1,4 @@
--- The blanks before one of a row.
+-- The whitespace before one of a row.
 use Rattle.std.proofs.Common.{◌≡◌, ℕ, ◌+◌, ◌<◌, ◌≤◌, List, ◌∷◌, length, drop, get_or, refl, sym, ap, ◌∙◌, inl, arith}
 use Rattle.json.specs.Word.{is_operator}
 use Rattle.json.specs.Lex.{comma}

@@ -8,12 +8,12 @@ use Rattle.json.specs.Find.{get_member}
 use Rattle.json.specs.Lex.{token, comma, colon, between, lex}
 use Rattle.json.specs.Print.{quoted}
 use Rattle.json.specs.Token as tokens
-use Rattle.json_text.specs.Added.{HasNoComma, IsBehindItem, IsBehindMember, IsPutInto, IsStyled}
-use Rattle.json_text.specs.Changed.{add_child, insert_item, items_len, push_member, slot_in}
+use Rattle.json_text.specs.Added.{HasNoComma, IsBehindElement, IsBehindMember, IsPutInto, IsStyled}
+use Rattle.json_text.specs.Changed.{add_child, elements_len, insert_element, push_member, slot_in}
 use Rattle.json_lexemes.specs.Found.{IsCut}
 use Rattle.json_lexemes.specs.Places.{left_at}
 use Rattle.json_text.specs.Pointed.{child, if_some, put_member, IsTight}
-use Rattle.json_text.specs.Rows.{AreInOrder, Child, inside, IsComma, IsInside, IsLast, IsMemberAhead, items_in, members_in, naming, opening, others, slice, tree_in}
+use Rattle.json_text.specs.Rows.{AreInOrder, Child, inside, IsComma, IsInside, IsLast, IsMemberAhead, elements_in, members_in, naming, opening, others, slice, tree_in}
 use Rattle.json_lexemes.specs.Spelled.{spelled, Says}
 use Rattle.json_text.specs.declared.parts.Numbered.{Numbered}
 use Rattle.json_lexemes.specs.declared.span.Span.{Span}
@@ -23,7 +23,7 @@ use Rattle.json_text.proofs.Rows.Cuts.{alls, inside_positive, no_comma, others_f
 use Rattle.json_text.proofs.Rows.Leads.{colon_lead, comma_lead, Lead, leads, no_lead, quoted_lead, slice_lead, value_before}
 use Rattle.json_text.proofs.Rows.Reached.{apart, behind_child, ends_solid}
 use Rattle.json_text.proofs.Rows.Splices.{before_slice, beside, kept_front, slice_lexes, tight_end}
-use Rattle.json_text.proofs.Rows.Styles.{by_blanks, by_colons}
+use Rattle.json_text.proofs.Rows.Styles.{by_colons, by_whitespace}
 use Rattle.json_text.proofs.Rows.Trees.{spelled_in}
 
 -- ---- the tree
@@ -36,18 +36,18 @@ pub new_member : (k : List ℕ) (w : Json) (cs : List Child) → get_member k (m
 new_member k w cs e =
     ap (λ o. Some (object (if_some o (λ v. put_member k w (members_in cs)) (push_member k w (members_in cs))))) e ∙ ap (λ ms. Some (object ms)) (pushed k w cs)
 
-inserted : (n : ℕ) (w : Json) (cs : List Child) → insert_item n w (items_in cs) ≡ items_in (take n cs ++ (([], w) ∷ drop n cs))
+inserted : (n : ℕ) (w : Json) (cs : List Child) → insert_element n w (elements_in cs) ≡ elements_in (take n cs ++ (([], w) ∷ drop n cs))
 inserted zero w [] = refl
 inserted (suc n) w [] = refl
 inserted zero w (c ∷ cs) = refl
 inserted (suc n) w (c ∷ cs) = ap (item c.1) (inserted n w cs)
 
-pub items_count : (cs : List Child) → items_len (items_in cs) ≡ length cs
-items_count [] = refl
-items_count (c ∷ cs) = ap suc (items_count cs)
+pub elements_count : (cs : List Child) → elements_len (elements_in cs) ≡ length cs
+elements_count [] = refl
+elements_count (c ∷ cs) = ap suc (elements_count cs)
 
-pub new_item : (k : List ℕ) (w : Json) (cs : List Child) (n : ℕ) → slot_in k (length cs) ≡ Some n → add_child k w (tree_in false cs) ≡ Some (tree_in false (take n cs ++ (([], w) ∷ drop n cs)))
-new_item k w cs n e = ap (option_map (λ m. array (insert_item m w (items_in cs)))) (ap (slot_in k) (items_count cs) ∙ e) ∙ ap (λ js. Some (array js)) (inserted n w cs)
+pub new_element : (k : List ℕ) (w : Json) (cs : List Child) (n : ℕ) → slot_in k (length cs) ≡ Some n → add_child k w (tree_in false cs) ≡ Some (tree_in false (take n cs ++ (([], w) ∷ drop n cs)))
+new_element k w cs n e = ap (option_map (λ m. array (insert_element m w (elements_in cs)))) (ap (slot_in k) (elements_count cs) ∙ e) ∙ ap (λ js. Some (array js)) (inserted n w cs)
 
 -- ---- behind the last
 
@@ -112,11 +112,11 @@ member_behind t k put ahead cs n r says none l o (i, e, gap, name, is) =
     let h = last_text t true cs n r l in
     let place = l.numbered.places in
     let wide : vs ≤ length t = omega (arith, o.value, o.fits) in
-    let blank_lead = by_blanks (λ x. Lead x []) (slice t i s) (slice_lead t i s [] gap.begins place.begins gap.left gap.order (omega (arith, o.named, wide))) no_lead in
+    let whitespace_lead = by_whitespace (λ x. Lead x []) (slice t i s) (slice_lead t i s [] gap.begins place.begins gap.left gap.order (omega (arith, o.named, wide))) no_lead in
     let colon_led = by_colons (λ x. Lead x (colon ∷ [])) (slice t e vs) (slice_lead t e vs (colon ∷ []) name.begins place.cut.begins name.left name.order wide) colon_lead in
     let lead : Lead ahead (comma ∷ token (tokens.string k) ∷ colon ∷ []) =
-    subst (λ x. Lead x (comma ∷ token (tokens.string k) ∷ colon ∷ [])) (sym is) (comma_lead _ _ (leads _ _ [] _ blank_lead (leads (quoted k) _ (token (tokens.string k) ∷ []) _ (quoted_lead k) colon_led))) in
-    let blanks : lex between (slice t i s) ≡ [] = slice_lexes t i s [] (inl gap.begins) (inl place.begins) gap.left gap.order (omega (arith, o.named, wide)) in
+    subst (λ x. Lead x (comma ∷ token (tokens.string k) ∷ colon ∷ [])) (sym is) (comma_lead _ _ (leads _ _ [] _ whitespace_lead (leads (quoted k) _ (token (tokens.string k) ∷ []) _ (quoted_lead k) colon_led))) in
+    let whitespace : lex between (slice t i s) ≡ [] = slice_lexes t i s [] (inl gap.begins) (inl place.begins) gap.left gap.order (omega (arith, o.named, wide)) in
     let named : lex between (slice t s e) ≡ token (tokens.string h.child.0) ∷ [] =
     slice_lexes t s e (token (tokens.string h.child.0) ∷ []) (inl place.begins) (inl name.begins) (h.left ∙ ap (λ x. token (tokens.string h.child.0) ∷ colon ∷ x) (sym h.value) ∙ ap (λ x. token (tokens.string h.child.0) ∷ x) (sym name.left)) (omega (arith, name.behind)) (omega (arith, name.order, wide)) in
     let colons : lex between (slice t e vs) ≡ colon ∷ [] = slice_lexes t e vs (colon ∷ []) (inl name.begins) (inl place.cut.begins) name.left name.order wide in
@@ -140,7 +140,7 @@ member_behind t k put ahead cs n r says none l o (i, e, gap, name, is) =
           name = slice t s e;
           value = slice t vs ve;
           is = whole;
-          blanks = (tight_end t (tree_in true cs) i says gap.some (omega (arith, gap.order, o.named, wide)) gap.back, blanks);
+          tight = (tight_end t (tree_in true cs) i says gap.some (omega (arith, gap.order, o.named, wide)) gap.back, whitespace);
           named = (name_tight, (h.child.0, named));
           colon = colons;
           says = value_text t true cs n r says l o;
@@ -175,21 +175,21 @@ first_member t k put cs i says none (left, begins, back) w =
       );
     }
 
--- ---- an item behind the last, or alone
+-- ---- an element behind the last, or alone
 
-styled_item : (k : List ℕ) (cs : List Child) (front ahead trail back : List ℕ) → (cs ≡ [] → ⊥) → IsBehindItem front ahead trail back → IsStyled k (tree_in false cs) front ahead trail back
-styled_item k [] front ahead trail back n s = absurd (n refl)
-styled_item k (c ∷ cs) front ahead trail back n s = inl s
+styled_element : (k : List ℕ) (cs : List Child) (front ahead trail back : List ℕ) → (cs ≡ [] → ⊥) → IsBehindElement front ahead trail back → IsStyled k (tree_in false cs) front ahead trail back
+styled_element k [] front ahead trail back n s = absurd (n refl)
+styled_element k (c ∷ cs) front ahead trail back n s = inl s
 
-pub item_behind : (t k put ahead : List ℕ) (cs : List Child) (n : ℕ) (r : Numbered) → Says t (tree_in false cs) → slot_in k (length cs) ≡ Some (length cs) → IsLast t false cs n r → AreInOrder t r.part → IsComma t r.part.start ahead
+pub element_behind : (t k put ahead : List ℕ) (cs : List Child) (n : ℕ) (r : Numbered) → Says t (tree_in false cs) → slot_in k (length cs) ≡ Some (length cs) → IsLast t false cs n r → AreInOrder t r.part → IsComma t r.part.start ahead
     → IsPutInto t (tree_in false cs) k put (take r.part.value.end t ++ (ahead ++ (put ++ ([] ++ drop r.part.value.end t))))
-item_behind t k put ahead cs n r says slot l o (i, gap, is) =
+element_behind t k put ahead cs n r says slot l o (i, gap, is) =
     let s = r.part.start in
     let ve = r.part.value.end in
     let h = last_text t false cs n r l in
     let place = l.numbered.places in
     let wide : s ≤ length t = omega (arith, o.named, o.value, o.fits) in
-    let lead : Lead ahead (comma ∷ []) = subst (λ x. Lead x (comma ∷ [])) (sym is) (comma_lead _ [] (by_blanks (λ x. Lead x []) (slice t i s) (slice_lead t i s [] gap.begins place.begins gap.left gap.order wide) no_lead)) in
+    let lead : Lead ahead (comma ∷ []) = subst (λ x. Lead x (comma ∷ [])) (sym is) (comma_lead _ [] (by_whitespace (λ x. Lead x []) (slice t i s) (slice_lead t i s [] gap.begins place.begins gap.left gap.order wide) no_lead)) in
     let reach : s ≤ ve = omega (arith, o.named, o.value) in
     let cut : IsCut t (record { start = s; end = ve }) = record { begins = place.begins; ends = place.cut.ends; front = o.solid; back = inr (ends_solid t h.child.1 (others false []) r.part.value h.value h.behind place.cut) } in
     let value : lex between (slice t s ve) ≡ spelled h.child.1 = slice_lexes t s ve (spelled h.child.1) (inl place.begins) place.cut.ends (h.left ∙ ap (λ x. spelled h.child.1 ++ x) (sym h.behind)) reach o.fits in
@@ -200,13 +200,13 @@ item_behind t k put ahead cs n r says slot l o (i, gap, is) =
       whole = sym (take-append-drop ve t);
       ahead = ahead;
       trail = [];
-      styled = styled_item k cs (take ve t) ahead [] (drop ve t) h.some (
+      styled = styled_element k cs (take ve t) ahead [] (drop ve t) h.some (
         slice t i s,
         record {
           lead = take i t;
           value = slice t s ve;
           is = sym (ap (λ x. take i t ++ x) (beside t i s ve gap.order reach) ∙ before_slice t i ve (omega (arith, gap.order, reach)));
-          blanks = (tight_end t (tree_in false cs) i says gap.some (omega (arith, gap.order, wide)) gap.back, slice_lexes t i s [] (inl gap.begins) (inl place.begins) gap.left gap.order wide);
+          tight = (tight_end t (tree_in false cs) i says gap.some (omega (arith, gap.order, wide)) gap.back, slice_lexes t i s [] (inl gap.begins) (inl place.begins) gap.left gap.order wide);
           says = (tight t (tree_in false cs) (record { start = s; end = ve }) says cut (strict s ve reach other) o.fits, (h.child.1, value));
         },
         is,
@@ -216,7 +216,7 @@ item_behind t k put ahead cs n r says slot l o (i, gap, is) =
       put_in = refl;
       alone = λ new w x. (
         tree_in false (cs ++ (([], w) ∷ [])),
-        new_item k w cs (length cs) slot ∙ ap₂ (λ a b. Some (tree_in false (a ++ (([], w) ∷ b)))) (take-length cs) (drop_all (length cs) cs (omega arith)),
+        new_element k w cs (length cs) slot ∙ ap₂ (λ a b. Some (tree_in false (a ++ (([], w) ∷ b)))) (take-length cs) (drop_all (length cs) cs (omega arith)),
         behind_says t false cs n r ahead [] new w says l lead x,
       );
     }
@@ -224,8 +224,8 @@ item_behind t k put ahead cs n r says slot l o (i, gap, is) =
     strict : (i k : ℕ) → i ≤ k → (k ≡ i → ⊥) → i < k
     strict i k h n = grind arith
 
-pub first_item : (t k put : List ℕ) (cs : List Child) (i : ℕ) → Says t (tree_in false cs) → slot_in k 0 ≡ Some 0 → cs ≡ [] → IsInside t false cs i → i ≤ length t → IsPutInto t (tree_in false cs) k put (take i t ++ ([] ++ (put ++ ([] ++ drop i t))))
-first_item t k put cs i says slot none (left, begins, back) w =
+pub first_element : (t k put : List ℕ) (cs : List Child) (i : ℕ) → Says t (tree_in false cs) → slot_in k 0 ≡ Some 0 → cs ≡ [] → IsInside t false cs i → i ≤ length t → IsPutInto t (tree_in false cs) k put (take i t ++ ([] ++ (put ++ ([] ++ drop i t))))
+first_element t k put cs i says slot none (left, begins, back) w =
     let comes : left_at t i ≡ others false [] = left ∙ ap (inside false) none in
     let whole : spelled (tree_in false cs) ≡ (opening false ∷ []) ++ left_at t i = spelled_in false cs ∙ ap (λ x. opening false ∷ x) (sym left) in
     record {
@@ -238,7 +238,7 @@ first_item t k put cs i says slot none (left, begins, back) w =
       put_in = refl;
       alone = λ new w x. (
         tree_in false (([], w) ∷ []),
-        ap (λ ds. add_child k w (tree_in false ds)) none ∙ new_item k w [] 0 slot,
+        ap (λ ds. add_child k w (tree_in false ds)) none ∙ new_element k w [] 0 slot,
         kept_front t (new ++ drop i t) (opening false ∷ []) (tree_in false cs) i says (inl begins) whole (inl begins)
             ∙ ap (λ y. opening false ∷ y) (value_before new w (drop i t) x (ap follows comes ∙ others_follow false []) ∙ ap (λ y. spelled w ++ y) comes) ∙ sym (spelled_in false (([], w) ∷ [])),
       );

@@ -32,5 +32,5 @@ pub ends_name : (t copy : List ℕ) (n : ℕ) (r : Numbered) (k : ℕ) → copy 
 ends_name t copy n r k e m o l c h w =
     ends_there t n r k m o (subst (λ x. left_at x k ≡ lex in_string (drop (r.part.start + 1) x)) e l) (subst (λ x. mode_at x (r.part.start + 1) ≡ in_string → Closes x k) e c) h (subst (λ x. k ≤ length x) e w)
 
-pub joined : (all ahead name colons blank q s : List ℕ) → all ≡ (ahead ++ name) ++ colons → ahead ≡ 44 ∷ blank → name ≡ q → colons ≡ s → all ≡ 44 ∷ (blank ++ (q ++ s))
-joined all ahead name colons blank q s e a b c = e ∙ ap₂ (λ x y. (x ++ y) ++ colons) a b ∙ append_assoc (44 ∷ blank) q colons ∙ ap (λ x. 44 ∷ (blank ++ (q ++ x))) c
+pub joined : (all ahead name colons whitespace q s : List ℕ) → all ≡ (ahead ++ name) ++ colons → ahead ≡ 44 ∷ whitespace → name ≡ q → colons ≡ s → all ≡ 44 ∷ (whitespace ++ (q ++ s))
+joined all ahead name colons whitespace q s e a b c = e ∙ ap₂ (λ x y. (x ++ y) ++ colons) a b ∙ append_assoc (44 ∷ whitespace) q colons ∙ ap (λ x. 44 ∷ (whitespace ++ (q ++ x))) c

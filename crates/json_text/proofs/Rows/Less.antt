@@ -1,23 +1,23 @@
--- The text of an object or a list with one child cut out.
+-- The text of an object or an array with one child cut out.
 use Rattle.std.proofs.Common.{◌≡◌, ℕ, ◌≤◌, Bool, true, false, List, [], ◌∷◌, ◌++◌, length, take, drop, get_or, Some, None, option_and_then, refl, sym, ap, ap₂, ◌∙◌, subst, arith, take-append-drop}
 use Rattle.std.specs.Prelude.{option_map}
 use Rattle.json.specs.Json.{Json, array}
 use Rattle.json.specs.Find.{get_item}
-use Rattle.json_text.specs.Changed.{remove_item, without}
+use Rattle.json_text.specs.Changed.{remove_element, without}
 use Rattle.json_lexemes.specs.Found.{named}
 use Rattle.json_text.specs.Less.{IsLess, IsLessText, IsNumberOf}
-use Rattle.json_text.specs.Pointed.{child, if_some, put_child, put_item, tree_at, IsStretch, StandsBetween}
-use Rattle.json_text.specs.Rows.{AreEdges, AreInOrder, Child, IsNumbered, items_in, members_in, others, tree_in, slice}
+use Rattle.json_text.specs.Pointed.{child, if_some, put_child, put_element, tree_at, IsStretch, StandsBetween}
+use Rattle.json_text.specs.Rows.{AreEdges, AreInOrder, Child, IsNumbered, elements_in, members_in, others, tree_in, slice}
 use Rattle.json_lexemes.specs.Spelled.{spelled, Says}
 use Rattle.json_text.specs.declared.parts.Numbered.{Numbered}
 use Rattle.json_lexemes.specs.declared.span.Span.{Span}
 use Rattle.json_text.proofs.Along.{put_step}
-use Rattle.json_text.proofs.Around.{Around, item_around, item_follows, member_around, member_follows, named_is, numbered_is}
+use Rattle.json_text.proofs.Around.{Around, element_around, element_follows, member_around, member_follows, named_is, numbered_is}
 use Rattle.json_lexemes.proofs.Steps.{follows}
 use Rattle.json_text.proofs.Stretches.{stretch, two_parts}
 use Rattle.json_text.proofs.Rows.Cuts.{cut}
 use Rattle.json_text.proofs.Rows.Splices.{before_slice}
-use Rattle.json_text.proofs.Rows.Trees.{item_at, named_at, no_item}
+use Rattle.json_text.proofs.Rows.Trees.{element_at, named_at, no_element}
 
 -- what t names, by its lexemes
 pub record Chosen (b : Bool) (cs more : List Child) (t : List ℕ) (n : ℕ) (v : Json) : Type 0 where
@@ -38,17 +38,17 @@ chosen true cs t n c more e d =
       less = ap (λ l. without t (members_in (take n cs ++ l))) (sym (ap (drop 1) same)) ∙ q.less;
     }
 chosen false cs t n c more e d =
-    let q = item_at cs n c more d in
+    let q = element_at cs n c more d in
     record {
-      is = ap (option_and_then (λ k. get_item k (items_in cs))) e ∙ sym (numbered_is n (items_in cs)) ∙ ap (option_map (λ p. p.0)) q.value;
-      around = subst (λ m. Around c.1 (others false more) (spelled (array (items_in cs))) (λ w. spelled (array (if_some m (λ k. put_item k w (items_in cs)) (items_in cs))))) (sym e) (item_around n (items_in cs) c.1 (others false more) q.value);
-      follow = item_follows n (items_in cs) c.1 (others false more) q.value;
-      less = ap array (sym q.less) ∙ ap (λ m. array (if_some m (λ k. remove_item k (items_in cs)) (items_in cs))) (sym e);
+      is = ap (option_and_then (λ k. get_item k (elements_in cs))) e ∙ sym (numbered_is n (elements_in cs)) ∙ ap (option_map (λ p. p.0)) q.value;
+      around = subst (λ m. Around c.1 (others false more) (spelled (array (elements_in cs))) (λ w. spelled (array (if_some m (λ k. put_element k w (elements_in cs)) (elements_in cs))))) (sym e) (element_around n (elements_in cs) c.1 (others false more) q.value);
+      follow = element_follows n (elements_in cs) c.1 (others false more) q.value;
+      less = ap array (sym q.less) ∙ ap (λ m. array (if_some m (λ k. remove_element k (elements_in cs)) (elements_in cs))) (sym e);
     }
 
 pub none_chosen : (b : Bool) (cs : List Child) (t : List ℕ) (n : ℕ) → IsNumberOf b cs t n → drop n cs ≡ [] → child t (tree_in b cs) ≡ None
 none_chosen true cs t n e d = let q = named_at t cs n e in absurd (omega (arith, ap length (sym q.is ∙ d)))
-none_chosen false cs t n e d = ap (option_and_then (λ k. get_item k (items_in cs))) e ∙ no_item cs n d
+none_chosen false cs t n e d = ap (option_and_then (λ k. get_item k (elements_in cs))) e ∙ no_element cs n d
 
 -- a child's stretch is where the pointer of its token leads
 pub child_stands : (before s behind t : List ℕ) (v w : Json) → child t v ≡ Some w → IsStretch before s behind w (λ x. put_child t x v) → StandsBetween before s behind v (t ∷ [])

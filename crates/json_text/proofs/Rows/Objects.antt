@@ -31,7 +31,7 @@ object_byte t (object ms) o x s e l says y n =
     let b = byte_by_kind t o 123 s (ap kind (l ∙ says)) (λ z. absurd (omega (arith, z))) in
     absurd (false≢true (sym n ∙ (Decides-eqb x 123).1 (e ∙ get_or_default t o 32 0 b.0 ∙ b.1)))
 
--- ---- neither an object nor a list
+-- ---- neither an object nor an array
 
 pub leaf_byte : (text : List ℕ) (v : Json) (o : ℕ) → IsSolid text o → (get_or text o 32 ≡ 123 → ⊥) → (get_or text o 32 ≡ 91 → ⊥) → left_at text o ≡ left_at text 0 → Says text v → IsLeaf v
 leaf_byte text null o s n m l says = tt

@@ -11,7 +11,7 @@ use Rattle.json_lexemes.specs.Skipped.{skip}
 use Rattle.json_text.specs.declared.parts.Part.{Part}
 use Rattle.json_lexemes.specs.declared.span.Span.{Span}
 use Rattle.json_lexemes.proofs.FirstBytes.{kind, byte_by_kind}
-use Rattle.json_lexemes.proofs.Listed as listed
+use Rattle.json_lexemes.proofs.Elements as elements
 use Rattle.json_lexemes.proofs.Members as members
 use Rattle.json_lexemes.proofs.Skipping.{skip-value}
 use Rattle.json_lexemes.proofs.Steps.{operator_left}
@@ -20,18 +20,18 @@ abbrev pub tail : List Lexeme → List Lexeme
 tail [] = []
 tail (l ∷ ls) = ls
 
--- ---- an item
+-- ---- an element
 
 pub none_at_bracket : (t : List ℕ) (b : Bool) (cs : List Child) (i : ℕ) → b ≡ false → i < length t → get_or t i 32 ≡ 93 → left_at t i ≡ inside b cs → cs ≡ []
 none_at_bracket t true cs i f h c e = absurd (true≢false f)
 none_at_bracket t false [] i f h c e = refl
 none_at_bracket t false (d ∷ cs) i f h c e =
-    absurd (listed.no_end d.1 (others false cs) (sym (ap kind (sym (operator_left t i 93 h (get_or_default t i 0 32 h ∙ c) refl) ∙ e))))
+    absurd (elements.no_end d.1 (others false cs) (sym (ap kind (sym (operator_left t i 93 h (get_or_default t i 0 32 h ∙ c) refl) ∙ e))))
 
-pub item_begins : (t : List ℕ) (b : Bool) (cs : List Child) (i : ℕ) → b ≡ false → IsSolid t i → (get_or t i 32 ≡ 93 → ⊥) → left_at t i ≡ inside b cs → Begins t b cs i i
-item_begins t true cs i f s n e = absurd (true≢false f)
-item_begins t false [] i f s n e = let c = byte_by_kind t i 93 s (ap kind e) (λ x. absurd (omega (arith, x))) in absurd (n (get_or_default t i 32 0 c.0 ∙ c.1))
-item_begins t false (d ∷ cs) i f s n e = record { child = d; more = cs; is = refl; value = e; name = λ x. absurd (false≢true x) }
+pub element_begins : (t : List ℕ) (b : Bool) (cs : List Child) (i : ℕ) → b ≡ false → IsSolid t i → (get_or t i 32 ≡ 93 → ⊥) → left_at t i ≡ inside b cs → Begins t b cs i i
+element_begins t true cs i f s n e = absurd (true≢false f)
+element_begins t false [] i f s n e = let c = byte_by_kind t i 93 s (ap kind e) (λ x. absurd (omega (arith, x))) in absurd (n (get_or_default t i 32 0 c.0 ∙ c.1))
+element_begins t false (d ∷ cs) i f s n e = record { child = d; more = cs; is = refl; value = e; name = λ x. absurd (false≢true x) }
 
 -- ---- a member
 

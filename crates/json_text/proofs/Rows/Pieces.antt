@@ -1,4 +1,4 @@
--- A member or an item, cut from its text.
+-- A member or an element, cut from its text.
 use Rattle.std.proofs.Common.{◌≡◌, ◌≢◌, inl, ℕ, ◌+◌, ◌-◌, ◌<◌, ◌≤◌, Bool, true, false, List, [], ◌∷◌, ◌++◌, length, take, drop, get_or, Option, Some, None, refl, sym, ap, ◌∙◌, subst, arith, append_assoc, take-append-drop}
 use Rattle.std.specs.Prelude.{IfSome, MatchOption}
 use Rattle.std.specs.Str.{IsUtf8, IsCharBoundary}
@@ -10,7 +10,7 @@ use Rattle.json.specs.Json.{Json, string}
 use Rattle.json.specs.Lex.{Lexeme, between, colon, comma}
 use Rattle.json.specs.Text.{content, plain}
 use Rattle.json.specs.Word.{is_operator, is_space}
-use Rattle.json_text.specs.Cuts.{ClosesAt, CutsFirst, IsBlank, IsLabel, Piece, Suits, closes, piece_of, piece_text}
+use Rattle.json_text.specs.Cuts.{ClosesAt, CutsFirst, IsLabel, IsWhitespace, Piece, Suits, closes, piece_of, piece_text}
 use Rattle.json_lexemes.specs.Found.{IsCut}
 use Rattle.json_text.specs.Listing.{IsTextOf, NamesAt}
 use Rattle.json_lexemes.specs.Places.{IsEnd, left_at, mode_at}
@@ -20,7 +20,7 @@ use Rattle.json_lexemes.specs.Spelled.{Says, spelled}
 use Rattle.json_text.specs.declared.cuts.Cut.{Cut}
 use Rattle.json_text.specs.declared.parts.Part.{Part}
 use Rattle.json_lexemes.specs.declared.span.Span.{Span}
-use Rattle.json_text.proofs.Blanks.{is_blank, closing_last, lexemes_behind, name_between}
+use Rattle.json_text.proofs.Whitespace.{is_whitespace, closing_last, lexemes_behind, name_between}
 use Rattle.json_lexemes.proofs.FirstBytes.{byte_by_kind, kind, operator_by_kind}
 use Rattle.json_lexemes.proofs.Members.{quote_left, same_string}
 use Rattle.json_lexemes.proofs.Steps.{drop_step, operator_end, operator_left}
@@ -36,10 +36,10 @@ in_three t a b d i k h e f g =
 -- ---- the places of a cut
 
 pub name_before : (t : List ℕ) (b : Bool) (cs : List Child) (start : ℕ) (p : Part) (name : Span) → IsPart t b cs p → ArePlaces t p → (b ≡ false → p.value.start ≡ start) → name.start ≡ start → NamesAt t b cs name → IsCut t name → name.end ≤ length t → name.end ≤ p.value.start
-name_before t b cs start p name h places item is names cut fits = by_kind b refl (subst (λ m. NamesAt t b m name) h.is names)
+name_before t b cs start p name h places element is names cut fits = by_kind b refl (subst (λ m. NamesAt t b m name) h.is names)
   where
     by_kind : (d : Bool) → b ≡ d → NamesAt t d (h.child ∷ h.more) name → name.end ≤ p.value.start
-    by_kind false e n = omega (arith, n, is, item e)
+    by_kind false e n = omega (arith, n, is, element e)
     by_kind true e n =
         let more : length (left_at t p.value.start) < length (left_at t name.end) =
         omega (arith, ap length h.value, ap length n.1, ap (λ d. length (spelled h.child.1 ++ others d h.more)) e) in
@@ -48,9 +48,9 @@ name_before t b cs start p name h places item is names cut fits = by_kind b refl
 
 label_is : (t : List ℕ) (b : Bool) (k : List ℕ) (v : Json) (more : List Child) (start ne vs : ℕ) (name : Span) (j : Json) → Says t j → mode_at t start ≡ between → name.start ≡ start → name.end ≡ ne → NamesAt t b ((k, v) ∷ more) name → IsCut t name
     → start ≤ ne → ne ≤ vs → vs ≤ length t → (b ≡ false → vs ≡ start) → mode_at t vs ≡ between → left_at t vs ≡ spelled v ++ others b more → IsLabel b k (slice t start ne) (slice t ne vs)
-label_is t false k v more start ne vs name j says mode is end names cut low mid high item begins left =
-    (empty_slice t start ne (sym end ∙ names ∙ is), empty_slice t ne vs (item refl ∙ sym (sym end ∙ names ∙ is)))
-label_is t true k v more start ne vs name j says mode is end names cut low mid high item begins left =
+label_is t false k v more start ne vs name j says mode is end names cut low mid high element begins left =
+    (empty_slice t start ne (sym end ∙ names ∙ is), empty_slice t ne vs (element refl ∙ sym (sym end ∙ names ∙ is)))
+label_is t true k v more start ne vs name j says mode is end names cut low mid high element begins left =
     let text : IsTextOf (slice t start ne) (string k) =
     subst (λ x. IsTextOf (slice t x ne) (string k)) is (subst (λ x. IsTextOf (slice t name.start x) (string k)) end (name_of t j true (k, v) more name says cut names (omega (arith, is, end, low)) (omega (arith, end, mid, high)))) in
     let here : mode_at t ne ≡ between = mode_between t start ne low mode ∙ name_between (slice t start ne) k text.0 in
@@ -72,17 +72,17 @@ in_parts t i s n v e k a b c d f =
 
 -- the pieces are these slices
 pub record HasParts (t : List ℕ) (i s n v e k : ℕ) (p : Piece) : Type 0 where
-  pub blank : p.blank ≡ slice t i s
+  pub whitespace : p.whitespace ≡ slice t i s
   pub name : p.name ≡ slice t s n
   pub colons : p.colons ≡ slice t n v
   pub value : p.value ≡ slice t v e
   pub trail : p.trail ≡ slice t e k
 
 abbrev sliced : List ℕ → ℕ → ℕ → ℕ → ℕ → ℕ → ℕ → Piece
-sliced t i s n v e k = record { blank = slice t i s; name = slice t s n; colons = slice t n v; value = slice t v e; trail = slice t e k }
+sliced t i s n v e k = record { whitespace = slice t i s; name = slice t s n; colons = slice t n v; value = slice t v e; trail = slice t e k }
 
 parts_are : (t : List ℕ) (i s n v e k : ℕ) (p : Piece) → HasParts t i s n v e k p → sliced t i s n v e k ≡ p
-parts_are t i s n v e k p h = λ x. record { blank = (sym h.blank) x; name = (sym h.name) x; colons = (sym h.colons) x; value = (sym h.value) x; trail = (sym h.trail) x }
+parts_are t i s n v e k p h = λ x. record { whitespace = (sym h.whitespace) x; name = (sym h.name) x; colons = (sym h.colons) x; value = (sym h.value) x; trail = (sym h.trail) x }
 
 -- behind the comma, where one comes
 abbrev pub NextIs : Option ℕ → Option ℕ → ℕ → Type 0
@@ -101,7 +101,7 @@ module _ (t : List ℕ) (b : Bool) (cs : List Child) (from start k : ℕ) (p : P
     pub part : IsPart t b cs p
     pub places : ArePlaces t p
     pub order : AreInOrder t p
-    pub item : b ≡ false → p.value.start ≡ start
+    pub element : b ≡ false → p.value.start ≡ start
     pub name_is : name.start ≡ start
     pub name_low : start ≤ name.end
     pub name_fits : name.end ≤ length t
@@ -122,14 +122,14 @@ unfolding lexemes_behind
 first_cut t b cs from start k p name j a c h next =
     let q = a.part in
     let v = p.value in
-    let mid : name.end ≤ v.start = name_before t b cs start p name q a.places a.item a.name_is a.names a.name_cut a.name_fits in
+    let mid : name.end ≤ v.start = name_before t b cs start p name q a.places a.element a.name_is a.names a.name_cut a.name_fits in
     let are : sliced t from start name.end v.start v.end k ≡ piece_of c = parts_are t from start name.end v.start v.end k (piece_of c) h in
     let names : NamesAt t b (q.child ∷ q.more) name = subst (λ m. NamesAt t b m name) q.is a.names in
     let suits : Suits b q.child (sliced t from start name.end v.start v.end k) = record {
-      blank = is_blank (slice t from start) (slice_lexes t from start [] (inl a.begins) (inl a.starts) (sym a.same) a.low (omega (arith, a.name_low, a.name_fits)));
-      label = label_is t b q.child.0 q.child.1 q.more start name.end v.start name j a.says a.starts a.name_is refl names a.name_cut a.name_low mid (omega (arith, a.order.value, a.order.fits)) a.item a.places.cut.begins q.value;
+      whitespace = is_whitespace (slice t from start) (slice_lexes t from start [] (inl a.begins) (inl a.starts) (sym a.same) a.low (omega (arith, a.name_low, a.name_fits)));
+      label = label_is t b q.child.0 q.child.1 q.more start name.end v.start name j a.says a.starts a.name_is refl names a.name_cut a.name_low mid (omega (arith, a.order.value, a.order.fits)) a.element a.places.cut.begins q.value;
       value = text_of t j q.child.1 (others b q.more) v a.says a.places.cut q.value q.behind a.order.value a.order.fits;
-      trail = is_blank (slice t v.end k) (slice_lexes t v.end k [] a.places.cut.ends (a.ends a.places.cut.ends) (sym a.left) a.high a.fits);
+      trail = is_whitespace (slice t v.end k) (slice_lexes t v.end k [] a.places.cut.ends (a.ends a.places.cut.ends) (sym a.left) a.high a.fits);
     } in
     let whole : drop from t ≡ piece_text (piece_of c) ++ drop k t =
     in_parts t from start name.end v.start v.end k a.low a.name_low mid a.order.value a.high ∙ ap (λ x. piece_text x ++ drop k t) are in
@@ -156,12 +156,12 @@ first_cut t b cs from start k p name j a c h next =
         subst (λ x. MatchOption x ((a.part.more ≡ []) × (drop from t ≡ piece_text (piece_of c) ++ (closes b ∷ []))) (λ g. (drop from t ≡ piece_text (piece_of c) ++ (44 ∷ drop g t)) × (left_at t g ≡ inside b a.part.more) × (mode_at t g ≡ between) × (a.part.more ≢ []))) (sym is)
         (whole ∙ ap (λ l. piece_text (piece_of c) ++ l) behind, more, mode, λ none. comma_is_not_closing b (sym e.1 ∙ ap (others b) none))
 
--- no child is left: blanks, and the bracket
+-- no child is left: whitespace, and the bracket
 pub closes_there : (t : List ℕ) (b : Bool) (from start : ℕ) → IsTight t → from ≤ start → start ≤ length t → mode_at t from ≡ between → mode_at t start ≡ between → left_at t start ≡ left_at t from → IsSolid t start → left_at t from ≡ closing b ∷ [] → ClosesAt t b from (slice t from start)
 closes_there t b from start tight low high begins starts same solid left =
     let last : drop start t ≡ closes b ∷ [] = closing_last b t start solid tight.1 (same ∙ left) in (
       sym (two_parts t from start low) ∙ ap (λ l. slice t from start ++ l) last,
-      is_blank (slice t from start) (slice_lexes t from start [] (inl begins) (inl starts) (sym same) low high),
+      is_whitespace (slice t from start) (slice_lexes t from start [] (inl begins) (inl starts) (sym same) low high),
     )
 
 -- the next one's place, where it has one
@@ -173,7 +173,7 @@ next_place t b cs from start k p name j a text o next = by_next p.next a.part.ne
     by_next (Some g) e is =
         let left : left_at t k ≡ comma ∷ inside b a.part.more = a.left ∙ a.part.behind ∙ e.1 in
         let at = operator_by_kind t k 44 (inside b a.part.more) a.solid refl left in
-        let mid : name.end ≤ p.value.start = name_before t b cs start p name a.part a.places a.item a.name_is a.names a.name_cut a.name_fits in
+        let mid : name.end ≤ p.value.start = name_before t b cs start p name a.part a.places a.element a.name_is a.names a.name_cut a.name_fits in
         let ascii : get_or t k 0 < 128 = omega (arith, at.1) in
         subst (λ x. IfSome x (λ g. (from < g) × (g ≤ length t) × IsCharBoundary t g)) (sym is)
         (omega (arith, a.low, a.name_low, mid, a.order.value, a.high), omega (arith, at.0), IsCharBoundary-after_ascii t k text at.0 ascii)
@@ -194,9 +194,9 @@ pub named_by : (s copy k name : List ℕ) (is : Bool) → IsTextOf s (string k) 
 named_by s copy k name is h e d =
     (λ t. same_Some k copy (sym (name_content s k h) ∙ d.0 t) ∙ e, λ t. d.1 (name_content s k h ∙ ap Some (t ∙ sym e)))
 
--- ---- the blanks around a text
+-- ---- the whitespace around a text
 
-pub blanks_around : (t copy a d : List ℕ) (i k : ℕ) → copy ≡ t → i ≤ length copy → left_at copy i ≡ left_at copy 0 → mode_at copy i ≡ between → left_at copy k ≡ [] → a ≡ slice t 0 i → d ≡ drop k t → IsBlank a × IsBlank d
-blanks_around t copy a d i k e high same begins ends f g =
-    let first : IsBlank (slice copy 0 i) = is_blank (slice copy 0 i) (slice_lexes copy 0 i [] (inl refl) (inl begins) (sym same) (omega arith) high) in
-    (subst IsBlank (sym (f ∙ ap (λ x. slice x 0 i) (sym e))) first, subst IsBlank (sym (g ∙ ap (drop k) (sym e))) (is_blank (drop k copy) ends))
+pub whitespace_around : (t copy a d : List ℕ) (i k : ℕ) → copy ≡ t → i ≤ length copy → left_at copy i ≡ left_at copy 0 → mode_at copy i ≡ between → left_at copy k ≡ [] → a ≡ slice t 0 i → d ≡ drop k t → IsWhitespace a × IsWhitespace d
+whitespace_around t copy a d i k e high same begins ends f g =
+    let first : IsWhitespace (slice copy 0 i) = is_whitespace (slice copy 0 i) (slice_lexes copy 0 i [] (inl refl) (inl begins) (sym same) (omega arith) high) in
+    (subst IsWhitespace (sym (f ∙ ap (λ x. slice x 0 i) (sym e))) first, subst IsWhitespace (sym (g ∙ ap (drop k) (sym e))) (is_whitespace (drop k copy) ends))

@@ -9,12 +9,12 @@ use Rattle.json_text.specs.Listing.{NamesAt, shape_of}
 use Rattle.json_lexemes.specs.Places.{mode_at, left_at, Closes}
 use Rattle.json_text.specs.Rows.{Child, IsSolid, inside}
 use Rattle.json_lexemes.specs.Spelled.{spelled, Says}
-use Rattle.json_text.specs.declared.listing.Shape.TheVariants.{Object, List as ListShape, String, Atom}
+use Rattle.json_text.specs.declared.listing.Shape.TheVariants.{Object, Array, String, Atom}
 use Rattle.json_lexemes.specs.declared.span.Span.{Span}
 use Rattle.json_lexemes.proofs.FirstBytes.{kind, byte_by_kind}
 use Rattle.json_lexemes.proofs.Members.{quote_left}
 use Rattle.json_lexemes.proofs.Steps.{quote_opens, string_has_end}
-use Rattle.json_text.proofs.Tokens.{object_opens, list_opens}
+use Rattle.json_text.proofs.Tokens.{object_opens, array_opens}
 
 abbrev tail : List Lexeme → List Lexeme
 tail [] = []
@@ -23,8 +23,8 @@ tail (l ∷ ls) = ls
 pub is_object : (text : List ℕ) (j : Json) (o : ℕ) → o < length text → get_or text o 32 ≡ 123 → left_at text o ≡ left_at text 0 → Says text j → Object ≡ shape_of j
 is_object text j o h b l says = sym (ap shape_of (object_opens text j o h b l says).is)
 
-pub is_list : (text : List ℕ) (j : Json) (o : ℕ) → o < length text → get_or text o 32 ≡ 91 → left_at text o ≡ left_at text 0 → Says text j → ListShape ≡ shape_of j
-is_list text j o h b l says = sym (ap shape_of (list_opens text j o h b l says).is)
+pub is_array : (text : List ℕ) (j : Json) (o : ℕ) → o < length text → get_or text o 32 ≡ 91 → left_at text o ≡ left_at text 0 → Says text j → Array ≡ shape_of j
+is_array text j o h b l says = sym (ap shape_of (array_opens text j o h b l says).is)
 
 by_content : (x : Option (List ℕ)) (ls : List Lexeme) (j : Json) → token (string_token x) ∷ ls ≡ spelled j → String ≡ shape_of j
 by_content None ls null e = cc

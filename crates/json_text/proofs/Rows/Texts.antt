@@ -11,7 +11,7 @@ use Rattle.jsonptr.specs.PlaceLaws.{place_is_token}
 use Rattle.jsonptr.specs.Places.{decimal_token}
 use Rattle.json_lexemes.specs.Found.{IsCut, IsWithin, or_else}
 use Rattle.json_text.specs.Less.{IsLeaf}
-use Rattle.json_text.specs.Listing.{AllStand, AreStretchesIn, AreStretchesOfItems, AreStretchesOfMembers, AreTextsIn, AreTextsOf, IsListed, IsNameOf, IsTextOf, NamesAt, StandsAs, Texts}
+use Rattle.json_text.specs.Listing.{AllStand, AreStretchesIn, AreStretchesOfElements, AreStretchesOfMembers, AreTextsIn, AreTextsOf, IsListed, IsNameOf, IsTextOf, NamesAt, StandsAs, Texts}
 use Rattle.json_lexemes.specs.Places.{left_at}
 use Rattle.json_text.specs.Pointed.{put_child}
 use Rattle.json_text.specs.Rows.{Child, IsPart, inside, last_named, members_in, others, tree_in}
@@ -96,15 +96,15 @@ members_of (c ∷ cs) [] h = absurd h
 members_of [] (e ∷ es) h = absurd h
 members_of (c ∷ cs) (e ∷ es) h = (h.0, h.1, members_of cs es h.2)
 
-items_of : (cs : List Child) (es : List Texts) → AreTextsOf false es cs → AreTextsIn (tree_in false cs) es
-items_of [] [] h = tt
-items_of (c ∷ cs) [] h = absurd h
-items_of [] (e ∷ es) h = absurd h
-items_of (c ∷ cs) (e ∷ es) h = (h.0, h.1, items_of cs es h.2)
+elements_of : (cs : List Child) (es : List Texts) → AreTextsOf false es cs → AreTextsIn (tree_in false cs) es
+elements_of [] [] h = tt
+elements_of (c ∷ cs) [] h = absurd h
+elements_of [] (e ∷ es) h = absurd h
+elements_of (c ∷ cs) (e ∷ es) h = (h.0, h.1, elements_of cs es h.2)
 
 pub as_tree : (b : Bool) (cs : List Child) (es : List Texts) (j : Json) → j ≡ tree_in b cs → AreTextsOf b es cs → AreTextsIn j es
 as_tree true cs es j is h = subst (λ v. AreTextsIn v es) (sym is) (members_of cs es h)
-as_tree false cs es j is h = subst (λ v. AreTextsIn v es) (sym is) (items_of cs es h)
+as_tree false cs es j is h = subst (λ v. AreTextsIn v es) (sym is) (elements_of cs es h)
 
 -- ---- where they stand in the tree
 
@@ -131,13 +131,13 @@ members_stand t all front (c ∷ cs) (e ∷ es) is h =
       members_stand t all (front ++ c ∷ []) cs es (is ∙ sym (append_assoc front (c ∷ []) cs)) (subst (λ n. AllStand t true all n es) size h.1),
     )
 
-items_stand : (t : List ℕ) (cs : List Child) (n : ℕ) (es : List Texts) → AllStand t false cs n es → AreStretchesOfItems t (tree_in false cs) n es
-items_stand t cs n [] h = tt
-items_stand t cs n (e ∷ es) h = (h.0 (decimal_token n) ((place_is_token (decimal_token n) n).1 refl), items_stand t cs (suc n) es h.1)
+elements_stand : (t : List ℕ) (cs : List Child) (n : ℕ) (es : List Texts) → AllStand t false cs n es → AreStretchesOfElements t (tree_in false cs) n es
+elements_stand t cs n [] h = tt
+elements_stand t cs n (e ∷ es) h = (h.0 (decimal_token n) ((place_is_token (decimal_token n) n).1 refl), elements_stand t cs (suc n) es h.1)
 
 pub as_stretches : (t : List ℕ) (b : Bool) (cs : List Child) (es : List Texts) (j : Json) → j ≡ tree_in b cs → AllStand t b cs zero es → AreStretchesIn t j es
 as_stretches t true cs es j is h = subst (λ v. AreStretchesIn t v es) (sym is) (members_stand t cs [] cs es refl h)
-as_stretches t false cs es j is h = subst (λ v. AreStretchesIn t v es) (sym is) (items_stand t cs zero es h)
+as_stretches t false cs es j is h = subst (λ v. AreStretchesIn t v es) (sym is) (elements_stand t cs zero es h)
 
 -- ---- where there are none
 

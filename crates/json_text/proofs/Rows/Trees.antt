@@ -1,4 +1,4 @@
--- A row as the members of an object, or as the items of a list.
+-- A row as the members of an object, or as the elements of an array.
 use Rattle.std.proofs.Common.{◌≡◌, ℕ, zero, suc, ◌+◌, ◌-◌, ◌<◌, ◌≤◌, ◌^◌, Bool, true, false, cond, List, [], ◌∷◌, ◌++◌, length, take, drop, get_or, Option, Some, None, refl, sym, ap, ap₂, ◌∙◌, subst, inl, arith}
 use Rattle.std.proofs.lemmas.Option.{none-some, same_Some}
 use Rattle.std.specs.Prelude.{option_map, option_and_then}
@@ -11,16 +11,16 @@ use Rattle.json.specs.Word.{is_space}
 use Rattle.jsonptr.specs.Indexes.{IsNoIndexText}
 use Rattle.jsonptr.specs.PlaceLaws.{next_is_no_place}
 use Rattle.jsonptr.specs.Places.{place_of, next_token}
-use Rattle.json_text.specs.Changed.{remove_item, without}
+use Rattle.json_text.specs.Changed.{remove_element, without}
 use Rattle.json_lexemes.specs.Found.{named, numbered, or_else}
 use Rattle.json_text.specs.Less.{HasInside}
 use Rattle.json_lexemes.specs.Places.{mode_at, HasEnd}
 use Rattle.json_text.specs.Pointed.{child}
-use Rattle.json_text.specs.Rows.{Child, inside, items_in, last_named, members_in, opening, others, tree_in}
-use Rattle.json_lexemes.specs.Spelled.{spelled, first_items, more_items, first_members, more_members, Says}
+use Rattle.json_text.specs.Rows.{Child, elements_in, inside, last_named, members_in, opening, others, tree_in}
+use Rattle.json_lexemes.specs.Spelled.{spelled, first_elements, more_elements, first_members, more_members, Says}
 use Rattle.json_text.proofs.Around.{named_is}
-use Rattle.json_lexemes.proofs.Counted.{item_within}
-use Rattle.json_text.proofs.Tokens.{IsList, IsObject}
+use Rattle.json_lexemes.proofs.Counted.{element_within}
+use Rattle.json_text.proofs.Tokens.{IsArray, IsObject}
 
 -- ---- spelled
 
@@ -32,19 +32,19 @@ first_members_in : (cs : List Child) → first_members (members_in cs) ≡ insid
 first_members_in [] = refl
 first_members_in (c ∷ cs) = ap (λ l. token (t.string c.0) ∷ colon ∷ (spelled c.1 ++ l)) (more_members_in cs)
 
-pub more_items_in : (cs : List Child) → more_items (items_in cs) ≡ others false cs
-more_items_in [] = refl
-more_items_in (c ∷ cs) = ap (λ l. comma ∷ (spelled c.1 ++ l)) (more_items_in cs)
+pub more_elements_in : (cs : List Child) → more_elements (elements_in cs) ≡ others false cs
+more_elements_in [] = refl
+more_elements_in (c ∷ cs) = ap (λ l. comma ∷ (spelled c.1 ++ l)) (more_elements_in cs)
 
-first_items_in : (cs : List Child) → first_items (items_in cs) ≡ inside false cs
-first_items_in [] = refl
-first_items_in (c ∷ cs) = ap (λ l. spelled c.1 ++ l) (more_items_in cs)
+first_elements_in : (cs : List Child) → first_elements (elements_in cs) ≡ inside false cs
+first_elements_in [] = refl
+first_elements_in (c ∷ cs) = ap (λ l. spelled c.1 ++ l) (more_elements_in cs)
 
 pub spelled_in : (b : Bool) (cs : List Child) → spelled (tree_in b cs) ≡ opening b ∷ inside b cs
 spelled_in true cs = ap (λ l. token t.begin_object ∷ l) (first_members_in cs)
-spelled_in false cs = ap (λ l. token t.begin_array ∷ l) (first_items_in cs)
+spelled_in false cs = ap (λ l. token t.begin_array ∷ l) (first_elements_in cs)
 
--- ---- the row of an object, and of a list
+-- ---- the row of an object, and of an array
 
 members_row : Members → List Child
 members_row no_members = []
@@ -55,14 +55,14 @@ unfolding members_row
 members_back no_members = refl
 members_back (member k j ms) = ap (member k j) (members_back ms)
 
-items_row : Items → List Child
-items_row no_items = []
-items_row (item j js) = ([], j) ∷ items_row js
+elements_row : Items → List Child
+elements_row no_items = []
+elements_row (item j js) = ([], j) ∷ elements_row js
 
-items_back : (js : Items) → items_in (items_row js) ≡ js
-unfolding items_row
-items_back no_items = refl
-items_back (item j js) = ap (item j) (items_back js)
+elements_back : (js : Items) → elements_in (elements_row js) ≡ js
+unfolding elements_row
+elements_back no_items = refl
+elements_back (item j js) = ap (item j) (elements_back js)
 
 pub solid_before : (t : List ℕ) (o c : ℕ) → get_or t o 0 ≡ c → is_space c ≡ false → HasEnd t (o + 1)
 solid_before t o c e s =
@@ -74,10 +74,10 @@ object_row text v o b m p =
     let back = members_back p.members in
     (members_row p.members, p.is ∙ ap object (sym back), (p.inside ∙ ap first_members (sym back) ∙ first_members_in (members_row p.members), m, solid_before text o 123 b refl))
 
-pub list_row : (text : List ℕ) (v : Json) (o : ℕ) → get_or text o 0 ≡ 91 → mode_at text (o + 1) ≡ between → IsList text v o → HasInside text v (record { named = false; start = o + 1 })
-list_row text v o b m p =
-    let back = items_back p.items in
-    (items_row p.items, p.is ∙ ap array (sym back), (p.inside ∙ ap first_items (sym back) ∙ first_items_in (items_row p.items), m, solid_before text o 91 b refl))
+pub array_row : (text : List ℕ) (v : Json) (o : ℕ) → get_or text o 0 ≡ 91 → mode_at text (o + 1) ≡ between → IsArray text v o → HasInside text v (record { named = false; start = o + 1 })
+array_row text v o b m p =
+    let back = elements_back p.elements in
+    (elements_row p.elements, p.is ∙ ap array (sym back), (p.inside ∙ ap first_elements (sym back) ∙ first_elements_in (elements_row p.elements), m, solid_before text o 91 b refl))
 
 -- ---- the last of a name
 
@@ -125,36 +125,36 @@ named_at k (c ∷ cs) n e = by_tail (last_named k cs) (bytes_eq c.0 k) refl refl
 pub no_member : (k : List ℕ) (cs : List Child) → last_named k cs ≡ None → child k (object (members_in cs)) ≡ None
 no_member k cs e = sym (named_is k (members_in cs)) ∙ ap (option_map (λ p. p.0)) (none_named k cs e)
 
--- ---- an item
+-- ---- an element
 
-pub record ItemAt (cs : List Child) (n : ℕ) (c : Child) (more : List Child) : Type 0 where
-  pub value : numbered n (items_in cs) ≡ Some (c.1, others false more)
-  pub less : remove_item n (items_in cs) ≡ items_in (take n cs ++ more)
+pub record ElementAt (cs : List Child) (n : ℕ) (c : Child) (more : List Child) : Type 0 where
+  pub value : numbered n (elements_in cs) ≡ Some (c.1, others false more)
+  pub less : remove_element n (elements_in cs) ≡ elements_in (take n cs ++ more)
 
-pub item_at : (cs : List Child) (n : ℕ) (c : Child) (more : List Child) → drop n cs ≡ c ∷ more → ItemAt cs n c more
-item_at [] zero c more e = absurd (omega (arith, ap length e))
-item_at [] (suc n) c more e = absurd (omega (arith, ap length e))
-item_at (d ∷ cs) zero c more e =
+pub element_at : (cs : List Child) (n : ℕ) (c : Child) (more : List Child) → drop n cs ≡ c ∷ more → ElementAt cs n c more
+element_at [] zero c more e = absurd (omega (arith, ap length e))
+element_at [] (suc n) c more e = absurd (omega (arith, ap length e))
+element_at (d ∷ cs) zero c more e =
     let same : d ≡ c = ap (λ l. get_or l 0 d) e in
     let rest : cs ≡ more = ap (drop 1) e in
-    record { value = ap₂ (λ x l. Some (x.1, l)) same (more_items_in cs ∙ ap (others false) rest); less = ap items_in rest }
-item_at (d ∷ cs) (suc n) c more e = let r = item_at cs n c more e in record { value = r.value; less = ap (item d.1) r.less }
+    record { value = ap₂ (λ x l. Some (x.1, l)) same (more_elements_in cs ∙ ap (others false) rest); less = ap elements_in rest }
+element_at (d ∷ cs) (suc n) c more e = let r = element_at cs n c more e in record { value = r.value; less = ap (item d.1) r.less }
 
-pub no_item : (cs : List Child) (n : ℕ) → drop n cs ≡ [] → get_item n (items_in cs) ≡ None
-no_item [] n e = refl
-no_item (d ∷ cs) zero e = absurd (omega (arith, ap length e))
-no_item (d ∷ cs) (suc n) e = no_item cs n e
+pub no_element : (cs : List Child) (n : ℕ) → drop n cs ≡ [] → get_item n (elements_in cs) ≡ None
+no_element [] n e = refl
+no_element (d ∷ cs) zero e = absurd (omega (arith, ap length e))
+no_element (d ∷ cs) (suc n) e = no_element cs n e
 
-pub next_is_no_item : (cs : List Child) (t : List ℕ) → t ≡ next_token → child t (array (items_in cs)) ≡ None
-next_is_no_item cs t e = ap (option_and_then (λ k. get_item k (items_in cs))) (ap place_of e ∙ next_is_no_place)
+pub next_is_no_element : (cs : List Child) (t : List ℕ) → t ≡ next_token → child t (array (elements_in cs)) ≡ None
+next_is_no_element cs t e = ap (option_and_then (λ k. get_item k (elements_in cs))) (ap place_of e ∙ next_is_no_place)
 
-pub no_index_no_item : (text : List ℕ) (cs : List Child) (t : List ℕ) → Says text (array (items_in cs)) → length text < 2 ^ 64 → IsNoIndexText t → child t (array (items_in cs)) ≡ None
-no_index_no_item text cs t says h n = by_place (place_of t) n.past
+pub no_index_no_element : (text : List ℕ) (cs : List Child) (t : List ℕ) → Says text (array (elements_in cs)) → length text < 2 ^ 64 → IsNoIndexText t → child t (array (elements_in cs)) ≡ None
+no_index_no_element text cs t says h n = by_place (place_of t) n.past
   where
-    by_item : (i : ℕ) (v : Option Json) → get_item i (items_in cs) ≡ v → 2 ^ 64 ≤ i → get_item i (items_in cs) ≡ None
-    by_item i None e b = e
-    by_item i (Some v) e b = absurd (omega (arith, item_within text i (items_in cs) v says e, h, b))
+    by_element : (i : ℕ) (v : Option Json) → get_item i (elements_in cs) ≡ v → 2 ^ 64 ≤ i → get_item i (elements_in cs) ≡ None
+    by_element i None e b = e
+    by_element i (Some v) e b = absurd (omega (arith, element_within text i (elements_in cs) v says e, h, b))
 
-    by_place : (m : Option ℕ) → ((i : ℕ) → m ≡ Some i → 2 ^ 64 ≤ i) → option_and_then (λ k. get_item k (items_in cs)) m ≡ None
+    by_place : (m : Option ℕ) → ((i : ℕ) → m ≡ Some i → 2 ^ 64 ≤ i) → option_and_then (λ k. get_item k (elements_in cs)) m ≡ None
     by_place None past = refl
-    by_place (Some i) past = by_item i (get_item i (items_in cs)) refl (past i refl)
+    by_place (Some i) past = by_element i (get_item i (elements_in cs)) refl (past i refl)

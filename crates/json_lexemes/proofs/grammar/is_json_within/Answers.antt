@@ -29,7 +29,7 @@ returns-then-nested-eq0 c = λ e.
     let d = c.loop-next.depth in
     let most = c.if-levels-lt-MOST.most in
     let place = c.in-Some-past_closing.place in
-    let end : c.blank_end.result ≡ length t = (Decides-eqb c.blank_end.result (length t)).0 e in
-    let nothing : left_at t place ≡ [] = sym c.blank_end.ensures.left ∙ end_left t c.blank_end.result (omega (arith, end)) in
+    let end : c.whitespace_end.result ≡ length t = (Decides-eqb c.whitespace_end.result (length t)).0 e in
+    let nothing : left_at t place ≡ [] = sym c.whitespace_end.ensures.left ∙ end_left t c.whitespace_end.result (omega (arith, end)) in
     c.loop-next.invariant.follows
     (whole_begins t (most - d) _ (innermost c.loop-next.objects d) c.loop-next.i c.in-Some.next (room_for d most) (c.in-Some.ensures.whole c.if-opens.false) (c.in-Some-past_closing.ensures.last c.if-nested-eq0.true nothing (most - d)))

@@ -22,7 +22,7 @@ loop-end-preserved c =
     let n = c.loop-end.end in
     let i = c.loop-end.end - 1 in
     let e : n ≡ i + 1 = omega arith in
-    let s : is_space (get_or t i 0) ≡ true = sym c.is_blank.ensures ∙ c.if-is_blank.true in
+    let s : is_space (get_or t i 0) ≡ true = sym c.is_whitespace.ensures ∙ c.if-is_whitespace.true in
     let h = c.loop-end.invariant.high in
     record {
       low = omega arith;

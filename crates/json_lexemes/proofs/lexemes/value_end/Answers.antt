@@ -11,22 +11,22 @@ use Rattle.json_lexemes.proofs.lexemes.value_end.Goals as goal
 
 pub returns-then-start-text-clause-left : goal.returns-then-start-text-clause-left
 returns-then-start-text-clause-left c =
-    let same = c.blank_end-start.ensures.left in
-    sym same ∙ skip_nothing 0 0 c.args.text.now c.blank_end-start.result (omega arith) ∙ ap (skip 0) same
+    let same = c.whitespace_end-start.ensures.left in
+    sym same ∙ skip_nothing 0 0 c.args.text.now c.whitespace_end-start.result (omega arith) ∙ ap (skip 0) same
 
 pub loop-depth-init : goal.loop-depth-init
 loop-depth-init c =
     let t = c.args.text.now in
     let k = c.lexeme_end-end.result in
     record {
-      low = omega (arith, c.blank_end-start.ensures.bounds, c.lexeme_end-end.ensures.bounds);
+      low = omega (arith, c.whitespace_end-start.ensures.bounds, c.lexeme_end-end.ensures.bounds);
       high = c.lexeme_end-end.ensures.bounds.1;
       depth = omega (arith, c.open_after-depth.ensures.bound, c.lexeme_end-end.ensures.bounds);
       boundary = c.lexeme_end-end.ensures.boundary;
       left =
-          ap (λ n. if_open n (left_at t k) (skip n (left_at t k))) c.open_after-depth.ensures.value ∙ sym (skip_step t c.blank_end-start.result k 0 c.lexeme_end-end.ensures.steps)
-          ∙ ap (skip 0) c.blank_end-start.ensures.left;
-      ends = λ e. c.lexeme_end-end.ensures.end (c.blank_end-start.ensures.end e);
+          ap (λ n. if_open n (left_at t k) (skip n (left_at t k))) c.open_after-depth.ensures.value ∙ sym (skip_step t c.whitespace_end-start.result k 0 c.lexeme_end-end.ensures.steps)
+          ∙ ap (skip 0) c.whitespace_end-start.ensures.left;
+      ends = λ e. c.lexeme_end-end.ensures.end (c.whitespace_end-start.ensures.end e);
     }
 
 pub returns-then-i-text-clause-left : goal.returns-then-i-text-clause-left

@@ -10,7 +10,7 @@ loop-i-preserved c =
     let t = c.args.text.now in
     let i = c.loop-i.i in
     let o : is_operator (get_or t i 0) ≡ false = sym c.is_operator.ensures ∙ c.if-not-is_operator.true in
-    let s : is_space (get_or t i 0) ≡ false = sym c.is_blank.ensures ∙ c.if-not-is_blank.true in
+    let s : is_space (get_or t i 0) ≡ false = sym c.is_whitespace.ensures ∙ c.if-not-is_whitespace.true in
     record {
       low = omega arith;
       high = omega arith;
@@ -19,9 +19,9 @@ loop-i-preserved c =
       back = inr (no_space_before t i (i + 1) (inl refl) s);
     }
 
-pub returns-else-not-is_blank-clause-left : goal.returns-else-not-is_blank-clause-left
-returns-else-not-is_blank-clause-left c =
-    sym (word_left c.args.text.now c.loop-i.i (ends_by_space _ _ c.loop-i-test.true (sym c.is_blank.ensures ∙ c.if-not-is_blank.false))) ∙ c.loop-i.invariant.left
+pub returns-else-not-is_whitespace-clause-left : goal.returns-else-not-is_whitespace-clause-left
+returns-else-not-is_whitespace-clause-left c =
+    sym (word_left c.args.text.now c.loop-i.i (ends_by_space _ _ c.loop-i-test.true (sym c.is_whitespace.ensures ∙ c.if-not-is_whitespace.false))) ∙ c.loop-i.invariant.left
 
 pub returns-else-not-is_operator-clause-left : goal.returns-else-not-is_operator-clause-left
 returns-else-not-is_operator-clause-left c =
@@ -30,8 +30,8 @@ returns-else-not-is_operator-clause-left c =
 pub returns-after-loop-i-clause-left : goal.returns-after-loop-i-clause-left
 returns-after-loop-i-clause-left c = sym (word_left c.args.text.now c.loop-i.i (ends_by_end c.args.text.now c.loop-i.i (omega arith))) ∙ c.loop-i.invariant.left
 
-pub returns-else-not-is_blank-clause-boundary : goal.returns-else-not-is_blank-clause-boundary
-returns-else-not-is_blank-clause-boundary c = λ u. IsCharBoundary-before_ascii c.args.text.now c.loop-i.i c.loop-i-test.true (space_ascii _ (sym c.is_blank.ensures ∙ c.if-not-is_blank.false))
+pub returns-else-not-is_whitespace-clause-boundary : goal.returns-else-not-is_whitespace-clause-boundary
+returns-else-not-is_whitespace-clause-boundary c = λ u. IsCharBoundary-before_ascii c.args.text.now c.loop-i.i c.loop-i-test.true (space_ascii _ (sym c.is_whitespace.ensures ∙ c.if-not-is_whitespace.false))
 
 pub returns-else-not-is_operator-clause-boundary : goal.returns-else-not-is_operator-clause-boundary
 returns-else-not-is_operator-clause-boundary c = λ u. IsCharBoundary-before_ascii c.args.text.now c.loop-i.i c.loop-i-test.true (operator_ascii _ (sym c.is_operator.ensures ∙ c.if-not-is_operator.false))

@@ -1,7 +1,7 @@
 use Rattle.std.proofs.Common.{[], sym, subst}
 use Rattle.json_text.specs.Cuts.{IsBehindMark}
 use Rattle.json_pieces.proofs.Levels.{view_closed}
-use Rattle.json_pieces.proofs.Openings.{InParts, SoFar, behind_mark, empty_blank, ends, goes_on, none_there, none_yet, opens_with, pushed, row_made, starts}
+use Rattle.json_pieces.proofs.Openings.{InParts, SoFar, behind_mark, empty_whitespace, ends, goes_on, none_there, none_yet, opens_with, pushed, row_made, starts}
 use Rattle.json_pieces.proofs.opening.row_of.Goals as goal
 
 pub loop-cut-init : goal.loop-cut-init
@@ -42,7 +42,7 @@ returns-in_default-next c =
     let (cs, h) = c.requires in
     let s = inv.so_far cs h in
     let f = c.in-Some.ensures.cut s.more (behind_mark t c.args.named cs _ c.loop-cut.from h s) in
-    let p = ends t c.args.named cs [] _ c.loop-cut.from cut s f c.in_default-next.is empty_blank in
+    let p = ends t c.args.named cs [] _ c.loop-cut.from cut s f c.in_default-next.is empty_whitespace in
     row_made t c.args.named cs [] c.push.new.self.items c.push-in-Some.new.self.items c.row_with.result (subst (InParts t c.args.named cs []) (sym more.1) p) more.0 c.row_with.ensures.named c.row_with.ensures.length c.row_with.ensures.hollow c.row_with.ensures.seams c.row_with.ensures.values
 
 pub returns : goal.returns
@@ -52,5 +52,5 @@ returns c =
     let (cs, h) = c.requires in
     let s = inv.so_far cs h in
     let none = c.in_default.ensures.cut s.more (behind_mark t c.args.named cs _ c.loop-cut.from h s) in
-    let p = none_there t c.args.named cs _ _ c.loop-cut.from s none (c.blanks_at-hollow.ensures c.args.named (subst (λ m. IsBehindMark t c.args.named m c.loop-cut.from) none (behind_mark t c.args.named cs _ c.loop-cut.from h s))) in
+    let p = none_there t c.args.named cs _ _ c.loop-cut.from s none (c.whitespace_at-hollow.ensures c.args.named (subst (λ m. IsBehindMark t c.args.named m c.loop-cut.from) none (behind_mark t c.args.named cs _ c.loop-cut.from h s))) in
     row_made t c.args.named cs _ c.loop-cut.seams.items c.loop-cut.values.items c.row_with-2.result p inv.sound c.row_with-2.ensures.named c.row_with-2.ensures.length c.row_with-2.ensures.hollow c.row_with-2.ensures.seams c.row_with-2.ensures.values

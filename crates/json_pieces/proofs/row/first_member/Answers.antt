@@ -1,9 +1,9 @@
 use Rattle.std.proofs.Common.{ap, ap₂, sym, ◌∙◌, subst, arith}
-use Rattle.json_text.specs.Cuts.{IsBlank}
+use Rattle.json_text.specs.Cuts.{IsWhitespace}
 use Rattle.json_pieces.specs.Nodes.{text_bytes}
 use Rattle.json_pieces.specs.PieceLists.{member_alone}
 use Rattle.json_pieces.proofs.Rows.Puts.{first_member_kept, first_member_put}
-use Rattle.json_pieces.proofs.Rows.Stands.{blank_nil}
+use Rattle.json_pieces.proofs.Rows.Stands.{whitespace_nil}
 use Rattle.json_pieces.proofs.row.first_member.Goals as goal
 
 pub returns-clause-pieces : goal.returns-clause-pieces
@@ -26,4 +26,4 @@ returns-clause-sound c =
     first_member_kept r.named p.named r.length h.length p.length (text_bytes r.hollow) (text_bytes p.hollow) r.seams.list.items h.seams.list.items p.seams.list.items r.values.items h.values.items p.values.items _ c.args.value
     c.args.name.now c.requires.value.0 c.requires.object (g.named ∙ e.named)
     c.requires.sound (omega (arith, r.values.ok.0, c.requires.empty)) (ap (λ v. v.list.items) e.seams) (ap (λ v. v.items) e.values) g.seams g.values (λ u. ap₂ (λ t n. member_alone t n u) (ap text_bytes e.hollow) c.in_ok-quoted.ensures)
-    (subst IsBlank (sym (ap text_bytes g.hollow ∙ e.left)) blank_nil) c.requires.value.1 e.length g.length
+    (subst IsWhitespace (sym (ap text_bytes g.hollow ∙ e.left)) whitespace_nil) c.requires.value.1 e.length g.length

@@ -1,5 +1,5 @@
 use Rattle.std.proofs.Common.{◌+◌, ◌<◌, length, refl, ap, sym, ◌∙◌, subst, arith}
-use Rattle.json_text.specs.Cuts.{IsBlank}
+use Rattle.json_text.specs.Cuts.{IsWhitespace}
 use Rattle.json_pieces.specs.Nodes.{text_bytes}
 use Rattle.json_pieces.proofs.Lists.{seams_are}
 use Rattle.json_pieces.proofs.Rows.Puts.{like_member, lost_count, next_member_kept, next_member_put, same_seam}
@@ -35,7 +35,7 @@ returns-clause-pieces c =
     let same = same_seam r.seams.list.items n o.seam c.index.result.now there o.is c.index.ensures in
     let same2 = same_seam r.seams.list.items n o.seam c.index-2.result.now there o.is c.index-2.ensures in
     next_member_put r.named p.named r.length h.length p.length (text_bytes r.hollow) (text_bytes p.hollow) r.seams.list.items h.seams.list.items p.seams.list.items r.values.items h.values.items p.values.items c.labelled.result c.args.value n (n + 1) c.trail_of-trail.result _ refl
-    c.requires.sound (omega (arith, r.values.ok.0, c.requires.last)) o (ap (λ v. v.items) e.values) g.seams g.values (like_member c.labelled.result o.seam c.index.result.now c.index-2.result.now _ same same2 (ap text_bytes l.blank ∙ c.in_ok-blank.ensures) (ap text_bytes l.name ∙ c.in_ok-quoted.ensures) (ap text_bytes l.colons ∙ c.in_ok-colons.ensures) (l.trail ∙ o.trail_is))
+    c.requires.sound (omega (arith, r.values.ok.0, c.requires.last)) o (ap (λ v. v.items) e.values) g.seams g.values (like_member c.labelled.result o.seam c.index.result.now c.index-2.result.now _ same same2 (ap text_bytes l.whitespace ∙ c.in_ok-whitespace.ensures) (ap text_bytes l.name ∙ c.in_ok-quoted.ensures) (ap text_bytes l.colons ∙ c.in_ok-colons.ensures) (l.trail ∙ o.trail_is))
 
 pub returns-clause-sound : goal.returns-clause-sound
 returns-clause-sound c =
@@ -52,5 +52,5 @@ returns-clause-sound c =
     let same2 = same_seam r.seams.list.items n o.seam c.index-2.result.now there o.is c.index-2.ensures in
     next_member_kept r.named p.named r.length h.length p.length (text_bytes r.hollow) (text_bytes p.hollow) r.seams.list.items h.seams.list.items p.seams.list.items r.values.items h.values.items p.values.items c.labelled.result c.args.value n (n + 1) c.trail_of-trail.result c.args.name.now
     c.requires.value.0 c.requires.object (g.named ∙ e.named) refl
-    c.requires.sound (omega (arith, r.values.ok.0, c.requires.last)) o (ap (λ v. v.items) e.values) g.seams g.values (like_member c.labelled.result o.seam c.index.result.now c.index-2.result.now _ same same2 (ap text_bytes l.blank ∙ c.in_ok-blank.ensures) (ap text_bytes l.name ∙ c.in_ok-quoted.ensures) (ap text_bytes l.colons ∙ c.in_ok-colons.ensures) (l.trail ∙ o.trail_is))
-    (subst IsBlank (sym (ap text_bytes (g.hollow ∙ e.hollow))) c.requires.sound.0.blank) c.requires.value.1 e.length g.length
+    c.requires.sound (omega (arith, r.values.ok.0, c.requires.last)) o (ap (λ v. v.items) e.values) g.seams g.values (like_member c.labelled.result o.seam c.index.result.now c.index-2.result.now _ same same2 (ap text_bytes l.whitespace ∙ c.in_ok-whitespace.ensures) (ap text_bytes l.name ∙ c.in_ok-quoted.ensures) (ap text_bytes l.colons ∙ c.in_ok-colons.ensures) (l.trail ∙ o.trail_is))
+    (subst IsWhitespace (sym (ap text_bytes (g.hollow ∙ e.hollow))) c.requires.sound.0.whitespace) c.requires.value.1 e.length g.length

@@ -1,7 +1,7 @@
 use Rattle.std.proofs.Common.{sym, subst, ◌∙◌}
 use Rattle.json_text.specs.Cuts.{AllSuit}
 use Rattle.json_pieces.proofs.Lists.{pieces_in}
-use Rattle.json_pieces.proofs.Naming.{by_item, by_name, named_within, names_are, none_counted, suits_count}
+use Rattle.json_pieces.proofs.Naming.{by_element, by_name, named_within, names_are, none_counted, suits_count}
 use Rattle.json_pieces.proofs.row.number_of.Goals as goal
 
 pub returns-then-row-clause-number : goal.returns-then-row-clause-number
@@ -22,5 +22,5 @@ returns-then-row-clause-within c =
 pub returns-else-row-clause-number : goal.returns-else-row-clause-number
 returns-else-row-clause-number c = λ cs h.
     let r = c.args.row.now in
-    by_item r.named c.args.name.now cs c.item_number.result c.if-row.false c.item_number.ensures.place
-    (none_counted c.args.name.now cs c.item_number.result _ _ (c.len.ensures ∙ r.values.ok.0) c.item_number.ensures.none (suits_count r.named r.seams.list.items r.values.items cs c.requires.sound.1 h))
+    by_element r.named c.args.name.now cs c.element_number.result c.if-row.false c.element_number.ensures.place
+    (none_counted c.args.name.now cs c.element_number.result _ _ (c.len.ensures ∙ r.values.ok.0) c.element_number.ensures.none (suits_count r.named r.seams.list.items r.values.items cs c.requires.sound.1 h))

@@ -1,7 +1,7 @@
 use Rattle.std.proofs.Common.{◌≡◌, ◌<◌, length, true, sym, ◌∙◌, arith}
 use Rattle.json_pieces.specs.Nodes.{row_pieces, text_bytes}
 use Rattle.json_pieces.proofs.Lists.{pieces_are}
-use Rattle.json_pieces.proofs.Rows.Takes.{all_steps, first_step, item_taken, next_step, none_named, nothing_taken, some_named}
+use Rattle.json_pieces.proofs.Rows.Takes.{all_steps, element_taken, first_step, next_step, none_named, nothing_taken, some_named}
 use Rattle.json_pieces.proofs.row.take.Goals as goal
 
 pub returns-in_default-clause-taken : goal.returns-in_default-clause-taken
@@ -16,7 +16,7 @@ returns-then-not-row-clause-taken c =
     let n = c.in-Some.number in
     let e = c.take_part.ensures in
     let within : n < length (row_pieces r) = omega (arith, c.in-Some.ensures.within, pieces_are r.seams.list.items r.values.items c.requires.1, r.values.ok.0) in
-    item_taken r.named s.named r.length s.length (text_bytes r.hollow) (text_bytes s.hollow) (row_pieces r) (row_pieces s) n c.args.name.now e.named c.if-not-row.true c.requires.0 e.sound.0 e.pieces e.some
+    element_taken r.named s.named r.length s.length (text_bytes r.hollow) (text_bytes s.hollow) (row_pieces r) (row_pieces s) n c.args.name.now e.named c.if-not-row.true c.requires.0 e.sound.0 e.pieces e.some
     (some_named r.named (row_pieces r) c.args.name.now c.number_of.result n c.in-Some.is c.number_of.ensures.number) within
 
 pub loop-number-init : goal.loop-number-init

@@ -1,6 +1,6 @@
 use Rattle.std.proofs.Common.{◌+◌, ◌-◌, arith, refl}
 use Rattle.json_pieces.proofs.Lists.{seams_are, value_sound}
-use Rattle.json_pieces.proofs.Rows.Steps.{IsOut, with_blank, next_kept, next_pieces, next_size, next_some}
+use Rattle.json_pieces.proofs.Rows.Steps.{IsOut, with_whitespace, next_kept, next_pieces, next_size, next_some}
 use Rattle.json_pieces.proofs.Places.{still_agrees}
 use Rattle.json_pieces.proofs.row.take_before.Goals as goal
 
@@ -119,4 +119,4 @@ pub invariant_of-seams : goal.invariant_of-seams
 invariant_of-seams c =
     let q = c.remove-seam.new.self in
     let t = c.index_mut.result.now in
-    record { agrees = still_agrees q.list.items q.index c.args.number t (with_blank c.swap.new.x t) c.index_mut.ensures.value refl q.agrees }
+    record { agrees = still_agrees q.list.items q.index c.args.number t (with_whitespace c.swap.new.x t) c.index_mut.ensures.value refl q.agrees }

@@ -3,12 +3,12 @@ use Rattle.std.proofs.lemmas.Bool.{false≢true}
 use Rattle.json.specs.Tree.{items_depth}
 use Rattle.json.specs.Value.{value_view, items_view, members_view}
 use Rattle.json.specs.declared.value.Value.{the_lemmas}
-use Rattle.json_reading.proofs.Matching.{skips_name, lacks_name, differs_there, same_there, no_deeper, item_depth, decided, decides_objects}
+use Rattle.json_reading.proofs.Matching.{skips_name, lacks_name, differs_there, same_there, no_deeper, element_depth, decided, decides_objects}
 use Rattle.json_reading.proofs.equality.+same.Goals as goal
 
-pub same_items-same_values-requires : goal.same_items-same_values-requires
-same_items-same_values-requires t c =
-    omega (arith, item_depth c.deref-x-items.result.now c.loop-x.x-index c.x-item.result (omega (arith, c.loop-x-test.true)) c.x-item.is, ap (λ vs. items_depth (items_view vs)) c.deref-x-items.ensures.value)
+pub same_elements-same_values-requires : goal.same_elements-same_values-requires
+same_elements-same_values-requires t c =
+    omega (arith, element_depth c.deref-x-items.result.now c.loop-x.x-index c.x-item.result (omega (arith, c.loop-x-test.true)) c.x-item.is, ap (λ vs. items_depth (items_view vs)) c.deref-x-items.ensures.value)
 
 pub same_members-loop-name-preserved-in_default : goal.same_members-loop-name-preserved-in_default
 same_members-loop-name-preserved-in_default t c =

@@ -20,12 +20,12 @@ loop-part-smaller c =
 
 pub loop-part-init : goal.loop-part-init
 loop-part-init c = record {
-  low = c.blank_end-start.ensures.bounds.1;
-  solid = c.blank_end-start.ensures.stops;
-  order = c.blank_end-start.ensures.bounds.0;
+  low = c.whitespace_end-start.ensures.bounds.1;
+  solid = c.whitespace_end-start.ensures.stops;
+  order = c.whitespace_end-start.ensures.bounds.0;
   passed = omega arith;
-  boundary = λ u. (u, λ v. c.blank_end-start.ensures.boundary v (u v));
-  reached = λ cs h. first_next c.args.text.now c.args.named cs c.args.from c.blank_end-start.result c.blank_end-start.ensures.left c.blank_end-start.ensures.between h;
+  boundary = λ u. (u, λ v. c.whitespace_end-start.ensures.boundary v (u v));
+  reached = λ cs h. first_next c.args.text.now c.args.named cs c.args.from c.whitespace_end-start.result c.whitespace_end-start.ensures.left c.whitespace_end-start.ensures.between h;
 }
 
 pub loop-part-preserved : goal.loop-part-preserved

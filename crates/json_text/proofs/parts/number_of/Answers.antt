@@ -8,7 +8,7 @@ use Rattle.json_lexemes.specs.Places.{left_at}
 use Rattle.json_text.specs.Pointed.{child}
 use Rattle.json_text.specs.Rows.{Child, inside, last_named, tree_in}
 use Rattle.json_lexemes.specs.Spelled.{Says}
-use Rattle.json_text.proofs.Rows.Trees.{next_is_no_item, no_index_no_item, no_member}
+use Rattle.json_text.proofs.Rows.Trees.{next_is_no_element, no_index_no_element, no_member}
 use Rattle.json_text.proofs.parts.number_of.Goals as goal
 
 named_none : (b : Bool) (k name : List ℕ) (cs : List Child) (r : Option ℕ) → b ≡ true → k ≡ name → r ≡ last_named k cs → IfNone r (child name (tree_in b cs) ≡ None)
@@ -35,9 +35,9 @@ returns-then-within-clause-none c = λ cs says e.
 pub returns-in-Ok-Next-clause-none : goal.returns-in-Ok-Next-clause-none
 returns-in-Ok-Next-clause-none c = λ cs says e.
     let next : c.args.name.now ≡ next_token = subst (IsIndexText c.args.name.now) c.in-Ok-Next.field-0-is c.in-Ok-Next.ensures.index in
-    subst (λ b. child c.args.name.now (tree_in b cs) ≡ None) (sym c.if-within.false) (next_is_no_item cs c.args.name.now next)
+    subst (λ b. child c.args.name.now (tree_in b cs) ≡ None) (sym c.if-within.false) (next_is_no_element cs c.args.name.now next)
 
 pub returns-in-Err-clause-none : goal.returns-in-Err-clause-none
 returns-in-Err-clause-none c = λ cs says e.
     subst (λ b. child c.args.name.now (tree_in b cs) ≡ None) (sym c.if-within.false)
-    (no_index_no_item c.args.text.now cs c.args.name.now (subst (λ b. Says c.args.text.now (tree_in b cs)) c.if-within.false says) (omega arith) c.in-Err.ensures.no_index)
+    (no_index_no_element c.args.text.now cs c.args.name.now (subst (λ b. Says c.args.text.now (tree_in b cs)) c.if-within.false says) (omega arith) c.in-Err.ensures.no_index)

@@ -2,7 +2,7 @@ use Rattle.std.proofs.Common.{◌≡◌, ◌<◌, length, get_or, sym, ◌∙◌
 use Rattle.json.specs.Lex.{between}
 use Rattle.json_lexemes.specs.Places.{mode_at}
 use Rattle.json_lexemes.proofs.Members.{string_ends}
-use Rattle.json_text.proofs.Rows.Parts.{item_begins, member_begins, none_at_bracket, none_with_no_quote, some_if}
+use Rattle.json_text.proofs.Rows.Parts.{element_begins, member_begins, none_at_bracket, none_with_no_quote, some_if}
 use Rattle.json_text.proofs.parts.value_start.Goals as goal
 
 pub returns-then-first-eq93-clause-value : goal.returns-then-first-eq93-clause-value
@@ -11,7 +11,7 @@ returns-then-first-eq93-clause-value c = λ cs e.
 
 pub returns-else-first-eq93-clause-value : goal.returns-else-first-eq93-clause-value
 returns-else-first-eq93-clause-value c = λ cs e.
-    item_begins c.args.text.now c.args.named cs c.args.start c.if-not-named.true c.requires.solid (λ z. c.if-first-eq93.false (c.byte_at-first.ensures.value ∙ z)) e
+    element_begins c.args.text.now c.args.named cs c.args.start c.if-not-named.true c.requires.solid (λ z. c.if-first-eq93.false (c.byte_at-first.ensures.value ∙ z)) e
 
 pub returns-then-first-ne34-clause-value : goal.returns-then-first-ne34-clause-value
 returns-then-first-ne34-clause-value c = λ cs e.
