@@ -25,7 +25,7 @@ use Rattle.json_patch_operation.specs.Operation.{Operation, add, remove, replace
 use Rattle.json_patch_operation.specs.PatchValue.{written_value, written_patch}
 use Rattle.json_reading.specs.Reading.{Reading}
 use Rattle.json_reading.specs.Same.{SameTree}
-use Rattle.json_reading.specs.Trees.{data_of, items_of as read_items_of, members_of as read_members_of}
+use Rattle.json_reading.specs.Trees.{data_of, elements_of as read_elements_of, members_of as read_members_of}
 use Rattle.json_reading.proofs.Told.{some_reading}
 use Rattle.json_reading.proofs.Documents.{IsDocument-data_of}
 use Rattle.json_reading.proofs.Trees.{one_document, same_exactly}
@@ -133,7 +133,7 @@ mutual
   read_depth r (json.array js) = let h = read_items_depth r js in omega arith
   read_depth r (json.object ms) = let h = read_members_depth r ms no_members in omega arith
 
-  read_items_depth : (r : Reading) (js : json.Items) → items_depth (read_items_of r js) ≤ tree.items_depth js
+  read_items_depth : (r : Reading) (js : json.Items) → items_depth (read_elements_of r js) ≤ tree.items_depth js
   read_items_depth r json.no_items = omega arith
   read_items_depth r (json.item j js) = let h = read_depth r j in let g = read_items_depth r js in omega arith
 

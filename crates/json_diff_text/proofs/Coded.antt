@@ -24,7 +24,7 @@ use Rattle.json_diff_text.specs.Tables.{numerals_in}
 use Rattle.json_patch_document.specs.Document.{IsDocument, AreDocuments, AreMembers}
 use Rattle.json_patch_document.proofs.Members.{put_members}
 use Rattle.json_reading.specs.Reading.{Reading}
-use Rattle.json_reading.specs.Trees.{data_of, items_of, members_of}
+use Rattle.json_reading.specs.Trees.{data_of, elements_of, members_of}
 use Rattle.json_diff_text.specs.Numerals.{read_as, StandsFor, StandFor, StandForMembers, Grows, AreNumbers}
 use Rattle.json_diff_text.specs.Renumbered.{renumbered, renumbered_items, renumbered_members}
 use Rattle.json_diff_text.proofs.Renumbering.{put_is}
@@ -72,10 +72,10 @@ joined_none (item d ds) = ap (item d) (joined_none ds)
 
 -- the items so far, with those that are left, are all
 abbrev pub AreSoFar : List (List ℕ) → Items → json.Items → json.Items → Type 0
-AreSoFar ts ds rest all = (r : Reading) (us : List (List ℕ)) → joined (renumbered_items (read_as r (ts ++ us)) ds) (items_of r rest) ≡ items_of r all
+AreSoFar ts ds rest all = (r : Reading) (us : List (List ℕ)) → joined (renumbered_items (read_as r (ts ++ us)) ds) (elements_of r rest) ≡ elements_of r all
 
 so_far_grown : (a b : List (List ℕ)) (ds : Items) (rest all : json.Items) → Grows a b → AreSoFar a ds rest all → AreSoFar b ds rest all
-so_far_grown a b ds rest all g h r vs = subst (λ ts. joined (renumbered_items (read_as r ts) ds) (items_of r rest) ≡ items_of r all) (sym (grown a b vs g)) (h r (g.0 ++ vs))
+so_far_grown a b ds rest all g h r vs = subst (λ ts. joined (renumbered_items (read_as r ts) ds) (elements_of r rest) ≡ elements_of r all) (sym (grown a b vs g)) (h r (g.0 ++ vs))
 
 pushed : (f : Num → Num) (vs : List Value) (v : Value) (es : Items) → joined (renumbered_items f (items_view (vs ++ v ∷ []))) es ≡ joined (renumbered_items f (items_view vs)) (item (renumbered f (view v)) es)
 unfolding joined
@@ -89,16 +89,16 @@ items_first ts all r us = refl
 pub items_next : {A : Type 0} (a b : List (List ℕ)) (vs : List Value) (v : Value) (new : List Value) (x : declared.Value A) (xs rest : List (declared.Value A)) (all : json.Items) → Grows a b → new ≡ vs ++ v ∷ [] → xs ≡ x ∷ rest
     → AreSoFar a (items_view vs) (value.items_view xs) all → StandsFor b (view v) (value_view x) → AreSoFar b (items_view new) (value.items_view rest) all
 items_next a b vs v new x xs rest all g p e h stands r us =
-    ap (λ ys. joined (renumbered_items (read_as r (b ++ us)) (items_view ys)) (items_of r (value.items_view rest))) p
-    ∙ pushed (read_as r (b ++ us)) vs v (items_of r (value.items_view rest))
-    ∙ ap (λ d. joined (renumbered_items (read_as r (b ++ us)) (items_view vs)) (item d (items_of r (value.items_view rest)))) (stands r us)
-    ∙ ap (λ ys. joined (renumbered_items (read_as r (b ++ us)) (items_view vs)) (items_of r (value.items_view ys))) (sym e)
+    ap (λ ys. joined (renumbered_items (read_as r (b ++ us)) (items_view ys)) (elements_of r (value.items_view rest))) p
+    ∙ pushed (read_as r (b ++ us)) vs v (elements_of r (value.items_view rest))
+    ∙ ap (λ d. joined (renumbered_items (read_as r (b ++ us)) (items_view vs)) (item d (elements_of r (value.items_view rest)))) (stands r us)
+    ∙ ap (λ ys. joined (renumbered_items (read_as r (b ++ us)) (items_view vs)) (elements_of r (value.items_view ys))) (sym e)
     ∙ so_far_grown a b (items_view vs) (value.items_view xs) all g h r us
 
 pub items_all : {A : Type 0} (ts : List (List ℕ)) (ds : Items) (xs : List (declared.Value A)) (all : json.Items) → xs ≡ [] → AreSoFar ts ds (value.items_view xs) all → StandFor ts ds all
 items_all ts ds xs all e h r us =
     sym (joined_none (renumbered_items (read_as r (ts ++ us)) ds))
-    ∙ ap (λ ys. joined (renumbered_items (read_as r (ts ++ us)) ds) (items_of r (value.items_view ys))) (sym e)
+    ∙ ap (λ ys. joined (renumbered_items (read_as r (ts ++ us)) ds) (elements_of r (value.items_view ys))) (sym e)
     ∙ h r us
 
 documents_pushed : (vs : List Value) (v : Value) → AreDocuments (items_view vs) → IsDocument (view v) → AreDocuments (items_view (vs ++ v ∷ []))
@@ -202,9 +202,9 @@ stands_as ts d j n s is said (t, at, same) = subst (λ x. StandsFor ts x j) (sym
 
 pub items_begin : {A : Type 0} (ts : List (List ℕ)) (vs : List Value) (xs ys : List (declared.Value A)) → vs ≡ [] → xs ≡ ys → AreSoFar ts (items_view vs) (value.items_view xs) (value.items_view ys)
 items_begin ts vs xs ys none same r us =
-    ap (λ ws. joined (renumbered_items (read_as r (ts ++ us)) (items_view ws)) (items_of r (value.items_view xs))) none
+    ap (λ ws. joined (renumbered_items (read_as r (ts ++ us)) (items_view ws)) (elements_of r (value.items_view xs))) none
     ∙ items_first ts (value.items_view xs) r us
-    ∙ ap (λ ws. items_of r (value.items_view ws)) same
+    ∙ ap (λ ws. elements_of r (value.items_view ws)) same
 
 pub no_documents : (vs : List Value) → vs ≡ [] → AreDocuments (items_view vs)
 no_documents vs none = subst (λ ws. AreDocuments (items_view ws)) (sym none) tt

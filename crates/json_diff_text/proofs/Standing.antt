@@ -15,7 +15,7 @@ use Rattle.json_patch_operation.specs.Operation.{Operation, add, remove, replace
 use Rattle.json_patch_text.specs.Operations.{under, all_under}
 use Rattle.json_patch_text.specs.Run.{AcceptsTree}
 use Rattle.json_reading.specs.Reading.{Reading}
-use Rattle.json_reading.specs.Trees.{data_of, items_of, members_of}
+use Rattle.json_reading.specs.Trees.{data_of, elements_of, members_of}
 use Rattle.json_reading.proofs.Documents.{found, one_object}
 use Rattle.json_reading.proofs.Documents as documents
 use Rattle.json_diff_text.specs.Numerals.{numeral, tree_of, tree_items, tree_members, tree_op, tree_ops, read_as, StandsFor}
@@ -75,7 +75,7 @@ mutual
       one_object (members_of r (tree_members ts ms) no_members) (renumbered_members (read_as r ts) ms) (documents.members_are r (tree_members ts ms)) (members_are (read_as r ts) (reads_whole r ts) ms h)
       (λ q. found r q (tree_members ts ms) ∙ finds r ts ms q h)
 
-  read_items : (r : Reading) (ts : List (List ℕ)) (ds : Items) → AreDocuments ds → items_of r (tree_items ts ds) ≡ renumbered_items (read_as r ts) ds
+  read_items : (r : Reading) (ts : List (List ℕ)) (ds : Items) → AreDocuments ds → elements_of r (tree_items ts ds) ≡ renumbered_items (read_as r ts) ds
   read_items r ts no_items h = refl
   read_items r ts (item d ds) h = ap₂ item (read_tree r ts d h.0) (read_items r ts ds h.1)
 

@@ -8,7 +8,7 @@ use Rattle.json_patch_operation.specs.Operation as document
 use Rattle.json_patch_operation.specs.Operation.{Operation}
 use Rattle.json_patch_text.specs.Operations.{TreeOperation, add, remove, replace, move, copy, test}
 use Rattle.json_reading.specs.Reading.{Reading}
-use Rattle.json_reading.specs.Trees.{data_of, items_of, members_of}
+use Rattle.json_reading.specs.Trees.{data_of, elements_of, members_of}
 use Rattle.json_diff_text.specs.Renumbered.{renumbered, renumbered_items, renumbered_members}
 
 -- the numeral at n, or 0 past the end
@@ -70,7 +70,7 @@ AreNumbers (t ∷ ts) = IsNumber t × AreNumbers ts
 
 -- the same of the elements of an array, and of the members of an object
 abbrev pub StandFor : List (List ℕ) → doc.Items → Items → Type 0
-StandFor ts ds js = (r : Reading) (us : List (List ℕ)) → renumbered_items (read_as r (ts ++ us)) ds ≡ items_of r js
+StandFor ts ds js = (r : Reading) (us : List (List ℕ)) → renumbered_items (read_as r (ts ++ us)) ds ≡ elements_of r js
 
 abbrev pub StandForMembers : List (List ℕ) → doc.Members → Members → Type 0
 StandForMembers ts ds ms = (r : Reading) (us : List (List ℕ)) → renumbered_members (read_as r (ts ++ us)) ds ≡ members_of r ms doc.no_members
