@@ -48,11 +48,7 @@ impl Patch {
 }
 
 /// Whether `path` is `from` and at least one more token: whether `from` is a proper prefix of it
-/// (RFC 6902, section 4.4).
-///
-/// ```rust
-/// is_inside(Pointer::parse("/a/b")?, Pointer::parse("/a")?) // true; of "/a" and "/a" it isn't
-/// ```
+/// (RFC 6902, section 4.4). So `/a/b` is inside `/a`; `/a` and `/ab` aren't.
 pub fn is_inside(path: Pointer<'_>, from: Pointer<'_>) -> bool
     ensures { IsTrue result ↔ IsProperPrefix (tokens_of from.entry) (tokens_of path.entry) }
 {

@@ -103,12 +103,7 @@ pub fn merged(
 ///
 /// `NoDocument` where the first's bytes are no UTF-8 or no JSON, for the kind 1, or nest deeper than the
 /// limit, for 7; then `NoPatch` where the second's are such. Of the limits `depth` alone counts.
-pub fn differing(
-    alloc: Global,
-    from: &[u8],
-    to: &[u8],
-    limits: Limits,
-) -> Result<String, Failure>
+pub fn differing(alloc: Global, from: &[u8], to: &[u8], limits: Limits) -> Result<String, Failure>
     requires { limits.depth ≤ 124 }
     ensures text { IfOk result (λ s. IsDifference limits from.now to.now (string_bytes s)) }
     ensures failure { IfErr result (IsFailure (of_two limits.depth from.now to.now)) }
