@@ -129,7 +129,7 @@ typedef struct {
  * 900,000,000 bytes.
  *
  * The calls that take no limits have JSON_PATCH_MOST_LEVELS and JSON_PATCH_MOST_COPIED, but for those on
- * a document that is kept, which have its own, and json_patch_check, which has none. Those of
+ * a document that is kept, which have its own, and json_patch_check and json_patch_check_text, which have none. Those of
  * json_patch_..._within have the caller's, where a depth past JSON_PATCH_MOST_LEVELS counts as that. In a
  * merge and a difference of documents `depth` alone counts; of a text as it is written `copied` counts
  * bytes, in a merge too. So each text that a call writes, of a document, a patch or the array of both,
@@ -188,7 +188,7 @@ json_patch_status json_patch_diff_within(const char *from, size_t from_length, c
                                          size_t out_length, json_patch_report *report);
 
 /* Reads the patch as json_patch_apply does, and does nothing else. So it refuses a value 1.5, which
-   json_patch_apply_text takes. JSON_PATCH_OK, JSON_PATCH_NO_PATCH or JSON_PATCH_NO_MEMORY. */
+   json_patch_check_text takes. JSON_PATCH_OK, JSON_PATCH_NO_PATCH or JSON_PATCH_NO_MEMORY. */
 json_patch_status json_patch_check(const char *patch, size_t patch_length,
                                    json_patch_report *report);
 
@@ -218,6 +218,11 @@ json_patch_status json_patch_apply_text_within(const char *document, size_t docu
                                                const char *patch, size_t patch_length,
                                                const json_patch_limits *limits, char *out,
                                                size_t out_length, json_patch_report *report);
+
+/* Reads the patch as json_patch_apply_text does, and does nothing else. JSON_PATCH_OK, JSON_PATCH_NO_PATCH or
+   JSON_PATCH_NO_MEMORY. */
+json_patch_status json_patch_check_text(const char *patch, size_t patch_length,
+                                        json_patch_report *report);
 
 /* Writes the document's text with the merge patch merged into it: every byte is kept that the merge
    doesn't change, and all of them where it changes nothing. What goes with a new member is as for

@@ -4,7 +4,7 @@
  *
  *     one_call CALL DOCUMENT TEXT
  *
- * CALL is apply, record, merge, diff, check, apply_text, merge_text, diff_text or value_text, or of a document that
+ * CALL is apply, record, merge, diff, check, check_text, apply_text, merge_text, diff_text or value_text, or of a document that
  * is kept open, open, update, update_recorded, update_merged, undo, text, text_at, diff_to or inverse; and
  * apply, record, merge, diff, apply_text, merge_text, diff_text and open with _within behind, whose limits are those
  * of the calls that are given none. It prints what the call answers with ample memory: the status and the report, what was
@@ -123,6 +123,8 @@ static json_patch_status called(const input *it, json_patch_document *kept, char
         return json_patch_undo(kept, report);
     if (strcmp(name, "check") == 0)
         return json_patch_check(text, length, report);
+    if (strcmp(name, "check_text") == 0)
+        return json_patch_check_text(text, length, report);
     if (strcmp(name, "open") == 0)
         return json_patch_open(kept, text, length, report);
     if (strcmp(name, "update") == 0)

@@ -316,6 +316,12 @@ static void expect_difference(size_t turns, const json_patch_limits *limits) {
                                   &report),
            &report, fits ? JSON_PATCH_OK : JSON_PATCH_NO_DOCUMENT, 0,
            fits ? JSON_PATCH_KIND_NONE : JSON_PATCH_TOO_DEEP, "a deep difference");
+    expect(json_patch_diff_text_within(from.bytes, from.length, to.bytes, to.length, limits, patch, ROOM,
+                                       &report),
+           &report, fits ? JSON_PATCH_OK : JSON_PATCH_NO_DOCUMENT, 0,
+           fits ? JSON_PATCH_KIND_NONE : JSON_PATCH_TOO_DEEP, "a deep difference of texts");
+    if (fits && memcmp(out, patch, report.size) != 0)
+        fail("the difference of texts is %.*s", (int)report.size, patch);
     json_patch_open_within(&kept, "{}", 2, limits, &report);
     expect(json_patch_diff_to(&kept, to.bytes, to.length, patch, ROOM, &report), &report,
            fits ? JSON_PATCH_OK : JSON_PATCH_NO_PATCH, 0,
@@ -336,6 +342,12 @@ static void expect_difference(size_t turns, const json_patch_limits *limits) {
         expect(json_patch_diff_within("7", 1, to.bytes, to.length, limits, patch, ROOM, &report),
                &report, JSON_PATCH_OK, 0, 0, "a deep whole");
         length = report.size;
+        expect(json_patch_diff_text_within("7.5", 3, to.bytes, to.length, limits, out, ROOM, &report),
+               &report, JSON_PATCH_OK, 0, 0, "a deep whole text");
+        if (report.size != length || memcmp(out, patch, length) != 0)
+            fail("a deep whole text is put by %.*s", (int)report.size, out);
+        expect(json_patch_apply_text_within("7.5", 3, patch, length, limits, out, ROOM, &report), &report,
+               JSON_PATCH_OK, 0, 0, "a deep whole as a patch of a text");
         expect(json_patch_apply_within("7", 1, patch, length, limits, out, ROOM, &report), &report,
                JSON_PATCH_OK, 0, 0, "a deep whole as a patch");
         if (report.size != to.length || memcmp(out, to.bytes, to.length) != 0)

@@ -11,6 +11,18 @@
 
 enum { ROOM = 1 << 16 };
 
+/* A row's patch alone: it is read, or refused as where it is applied. */
+static void expect_read(const row *row) {
+    json_patch_report report = {77, 77, 77};
+    int is_read = row->status != JSON_PATCH_NO_PATCH;
+    calls++;
+    if (json_patch_check_text(row->patch.bytes, row->patch.length, &report) !=
+            (is_read ? JSON_PATCH_OK : JSON_PATCH_NO_PATCH) ||
+        report.size != 0 || report.operation != (is_read ? 0 : row->operation) ||
+        report.kind != (is_read ? JSON_PATCH_KIND_NONE : row->kind))
+        fail("operation %zu, kind %d for %s", report.operation, report.kind, row->patch.bytes);
+}
+
 /* ---- what is kept, and what is changed */
 
 #define LAYOUT "{\r\n\t\"a\" : 1e400,\r\n\t\"b\":\t[ ]\r\n}\r\n"
@@ -57,6 +69,7 @@ static void expect_changes(void) {
                          0, 0, 0,
                          {(char *)changes[i].written, strlen(changes[i].written)}};
         expect_at_each_length(&row);
+        expect_read(&row);
     }
 }
 
@@ -156,8 +169,11 @@ static void expect_refusals(void) {
         {json_patch_diff_text, TEXT("1.5"), TEXT("[1.5,]"), 3, 0, JSON_PATCH_NOT_JSON, TEXT("")},
         {json_patch_diff_text, TEXT("1.5"), TEXT(DEPTH_126), 3, 0, JSON_PATCH_TOO_DEEP, TEXT("")},
     };
-    for (size_t i = 0; i < sizeof rows / sizeof *rows; i++)
+    for (size_t i = 0; i < sizeof rows / sizeof *rows; i++) {
         expect_at_each_length(&rows[i]);
+        if (rows[i].make == json_patch_apply_text && rows[i].status != JSON_PATCH_NO_DOCUMENT)
+            expect_read(&rows[i]);
+    }
 }
 
 /* Each value as a document and in a patch: what is a number stays, and the others are no JSON. */

@@ -87,6 +87,11 @@ json_patch_status json_patch_check(const char *patch, size_t patch_length,
     return told(report, JSON_PATCH_CLOSED, patch_length);
 }
 
+json_patch_status json_patch_check_text(const char *patch, size_t patch_length,
+                                        json_patch_report *report) {
+    return json_patch_check(patch, patch_length, report);
+}
+
 json_patch_status json_patch_update_recorded(json_patch_document *document, const char *patch,
                                              size_t patch_length, char *out, size_t out_length,
                                              json_patch_report *report) {
