@@ -1,0 +1,5 @@
+pub mod Around
+pub mod Blocks
+pub mod Handing
+pub mod Room
+pub mod Splits
