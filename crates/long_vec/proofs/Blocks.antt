@@ -1,10 +1,10 @@
 -- What blocks have, around one of them.
-use Rattle.std.proofs.Common.{◌≡◌, ◌<◌, ◌≤◌, ◌+◌, ◌∷◌, ◌++◌, [], zero, suc, List, ℕ, Vec, length, slice_index_or, slice_set, take, drop, refl, sym, ap, ◌∙◌, arith, add-one, vec_len, vec_capacity}
-use Rattle.std.specs.List.{remove, insert}
-use Rattle.std.proofs.lemmas.List.{get_or_default, set_split, set-get_or}
+use Rattle.std.proofs.Common.{◌≡◌, ◌<◌, ◌+◌, ◌∷◌, ◌++◌, suc, List, ℕ, Vec, length, slice_index_or, slice_set, take, drop, sym, ap, ◌∙◌, arith}
+use Rattle.std.specs.List.{remove}
+use Rattle.std.proofs.lemmas.List.{set_split, set-get_or}
 use Rattle.std.proofs.lemmas.List.Concat.{flat_map-append}
-use Rattle.long_vec.specs.Blocks.{items_in, capacity_in, IsAt, IsPlace}
-use Rattle.long_vec.proofs.Around.{found_around, set_around, removed_around, inserted_around}
+use Rattle.long_vec.specs.Blocks.{items_in, IsAt}
+use Rattle.long_vec.proofs.Around.{found_around, set_around, removed_around}
 
 module _ {T A : Type 0} (bs : List (Vec T A)) (i : ℕ) where
   -- with another block in the place of block i

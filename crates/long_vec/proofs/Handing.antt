@@ -1,5 +1,5 @@
 -- An item that comes to a full block, and what it hands on.
-use Rattle.std.proofs.Common.{◌≡◌, ◌≢◌, ◌<◌, ◌≤◌, ◌+◌, ◌-◌, ◌∷◌, ◌++◌, [], zero, suc, List, ℕ, Vec, length, slice_index_or, slice_set, take, drop, refl, sym, ap, subst, ◌∙◌, arith, length-append, vec_len, vec_capacity}
+use Rattle.std.proofs.Common.{◌≡◌, ◌≢◌, ◌<◌, ◌≤◌, ◌+◌, ◌-◌, ◌∷◌, ◌++◌, [], suc, List, ℕ, Vec, length, slice_index_or, slice_set, take, drop, refl, sym, ap, subst, ◌∙◌, arith, vec_len, vec_capacity}
 use Rattle.std.specs.List.{insert}
 use Rattle.std.proofs.lemmas.List.{append_assoc, append-nil, drop-set, drop-set-lt, drop_more, get_or_default, get_or-set_other, length-set, take-append-drop, take-set-le, take_more, take_more_set}
 use Rattle.std.proofs.lemmas.List.Concat.{flat_map-append}
@@ -47,7 +47,7 @@ module _ {T A : Type 0} (bs : List (Vec T A)) where
     pub handed_on : (y : T) → insert b.items k x ≡ new.items ++ y ∷ [] → with_put (slice_set bs i new) (i + 1) 0 y ≡ with_put bs i k x
     handed_on y e =
         let before : items_in (take (i + 1) (slice_set bs i new)) ≡ items_in (take i bs) ++ new.items =
-          ap (λ l. items_in l) (take_more_set bs i new block) ∙ flat_map-append (λ v. v.items) (take i bs) (new ∷ []) ∙ ap (λ l. items_in (take i bs) ++ l) (append-nil new.items) in
+        ap (λ l. items_in l) (take_more_set bs i new block) ∙ flat_map-append (λ v. v.items) (take i bs) (new ∷ []) ∙ ap (λ l. items_in (take i bs) ++ l) (append-nil new.items) in
         let after : items_in (drop (i + 1) (slice_set bs i new)) ≡ behind = ap (λ l. items_in l) (drop-set-lt (i + 1) bs i new (omega arith)) in
         ap (λ l. l ++ y ∷ items_in (drop (i + 1) (slice_set bs i new))) before ∙ ap (λ l. (items_in (take i bs) ++ new.items) ++ y ∷ l) after
         ∙ append_assoc (items_in (take i bs)) new.items (y ∷ behind)

@@ -1,5 +1,5 @@
 -- The room that blocks have.
-use Rattle.std.proofs.Common.{◌≡◌, ◌<◌, ◌≤◌, ◌+◌, ◌-◌, ◌∷◌, ◌++◌, [], refl, zero, suc, List, ℕ, Vec, length, slice_index_or, slice_set, ◌∙◌, Result, Ok, Err, OnOk, ap, subst, arith, inl, inr, length-append, vec_len, vec_capacity}
+use Rattle.std.proofs.Common.{◌≡◌, ◌<◌, ◌≤◌, ◌+◌, ◌-◌, ◌∷◌, ◌++◌, [], zero, suc, List, ℕ, Vec, length, slice_index_or, slice_set, ◌∙◌, Result, Ok, Err, OnOk, ap, subst, arith, inl, inr, length-append, vec_len, vec_capacity}
 use Rattle.std.proofs.lemmas.Bool.{cases_lt, cases_order}
 use Rattle.std.proofs.lemmas.List.Concat.{flat_map-append}
 use Rattle.long_vec.specs.Blocks.{items_in, capacity_in, HasRoom}

@@ -1,5 +1,5 @@
 -- A block in two, a block more, and an item behind the last.
-use Rattle.std.proofs.Common.{◌≡◌, ◌<◌, ◌≤◌, ◌+◌, ◌∷◌, ◌++◌, [], Bool, true, false, suc, if◌then◌else◌, List, ℕ, Vec, length, slice_index_or, slice_set, take, drop, refl, sym, ap, subst, ◌∙◌, arith, vec_len, vec_capacity}
+use Rattle.std.proofs.Common.{◌≡◌, ◌<◌, ◌≤◌, ◌+◌, ◌∷◌, ◌++◌, [], Bool, true, false, suc, if◌then◌else◌, List, ℕ, Vec, length, slice_index_or, slice_set, take, drop, sym, ap, subst, ◌∙◌, arith, vec_len, vec_capacity}
 use Rattle.std.specs.List.{insert}
 use Rattle.std.proofs.lemmas.List.{append_assoc, append-nil, drop-set-lt, drop_all, get_or-set_same, length-set, take-append-drop, take_more_set}
 use Rattle.std.proofs.lemmas.List.Concat.{flat_map-append}
@@ -35,7 +35,7 @@ module _ {T A : Type 0} (bs : List (Vec T A)) (i : ℕ) (b : Vec T A) (block : i
         let p = items_in (take i bs) in
         let q = items_in (drop (suc i) bs) in
         let before : items_in (take (i + 1) (slice_set bs i front)) ≡ p ++ front.items =
-          ap (λ l. items_in l) (take_more_set bs i front block) ∙ flat_map-append (λ v. v.items) (take i bs) (front ∷ []) ∙ ap (λ l. p ++ l) (append-nil front.items) in
+        ap (λ l. items_in l) (take_more_set bs i front block) ∙ flat_map-append (λ v. v.items) (take i bs) (front ∷ []) ∙ ap (λ l. p ++ l) (append-nil front.items) in
         let after : items_in (drop (i + 1) (slice_set bs i front)) ≡ q = ap (λ l. items_in l) (drop-set-lt (i + 1) bs i front (omega arith)) ∙ ap (λ n. items_in (drop n bs)) (sym one) in
         flat_map-append (λ v. v.items) (take (i + 1) (slice_set bs i front)) (behind ∷ drop (i + 1) (slice_set bs i front))
         ∙ ap (λ l. l ++ (behind.items ++ items_in (drop (i + 1) (slice_set bs i front)))) before ∙ ap (λ l. (p ++ front.items) ++ (behind.items ++ l)) after

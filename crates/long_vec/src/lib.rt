@@ -4,6 +4,7 @@
 mod carry;
 mod growth;
 mod places;
+mod search;
 
 ghost use Rattle.std.specs.Prelude.{◌≡◌, ◌<◌, ◌≤◌, [], ℕ, insert, length, slice_index_or, slice_set};
 ghost use Rattle.std.specs.List.{remove};

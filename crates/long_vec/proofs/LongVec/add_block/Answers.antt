@@ -1,4 +1,4 @@
-use Rattle.std.proofs.Common.{◌≡◌, ◌∙◌, ◌<◌, ◌∷◌, ◌++◌, [], ap, arith, vec_capacity, vec_len}
+use Rattle.std.proofs.Common.{◌∙◌, ◌<◌, ◌∷◌, ◌++◌, [], ap, arith, vec_capacity, vec_len}
 use Rattle.long_vec.proofs.Room.{capacity_more, room_more}
 use Rattle.long_vec.proofs.LongVec.add_block.Goals as goal
 

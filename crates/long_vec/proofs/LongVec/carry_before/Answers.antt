@@ -23,8 +23,8 @@ loop-i-preserved g c =
       room = room_stays bs i c.args.to new (λ e. omega arith) known.room;
       within = subst (IsNumberIn after (i - 1)) (sym c.len-k.ensures) (all_within after (i - 1) front (omega (arith, length-set bs i new)) c.index.ensures);
       items =
-        ap (λ n. with_put after (i - 1) n c.first_out-item.result) (c.len-k.ensures ∙ front.ok.0)
-        ∙ handed_back bs i c.loop-i.k c.loop-i.item b new block c.index_mut.ensures.value (number_within bs i c.loop-i.k b known.within c.index_mut.ensures.value) (i - 1) front c.first_out-item.result (omega arith) here c.first_out-item.ensures.items ∙ known.items;
+          ap (λ n. with_put after (i - 1) n c.first_out-item.result) (c.len-k.ensures ∙ front.ok.0)
+          ∙ handed_back bs i c.loop-i.k c.loop-i.item b new block c.index_mut.ensures.value (number_within bs i c.loop-i.k b known.within c.index_mut.ensures.value) (i - 1) front c.first_out-item.result (omega arith) here c.first_out-item.ensures.items ∙ known.items;
       capacity = capacity_same bs i b new block c.index_mut.ensures.value c.first_out-item.ensures.capacity ∙ known.capacity;
     }
 

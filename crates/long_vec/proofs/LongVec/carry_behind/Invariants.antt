@@ -8,7 +8,7 @@ invariant-loop-i g l = record {
   room : HasRoom l.self.blocks.items l.to;
   within : IsNumberIn l.self.blocks.items l.i l.k;
   items : with_put l.self.blocks.items l.i l.k l.item ≡ with_put l.fn.self.blocks.items l.fn.i l.fn.k l.fn.item;
-  capacity : capacity_in l.self.blocks.items ≡ capacity_in l.fn.self.blocks.items
+  capacity : capacity_in l.self.blocks.items ≡ capacity_in l.fn.self.blocks.items;
 }
 
 abbrev pub decreases-loop-i : goal.decreases-loop-i

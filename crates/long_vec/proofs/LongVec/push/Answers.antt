@@ -1,5 +1,4 @@
-use Rattle.std.proofs.Common.{◌≡◌, ◌∙◌, ◌<◌, ◌≤◌, ◌+◌, ◌-◌, ◌∷◌, ◌++◌, [], ap, arith, if◌then◌else◌, is_ok, length}
-use Rattle.long_vec.specs.Blocks.{capacity_in}
+use Rattle.std.proofs.Common.{◌≡◌, ◌∙◌, ◌<◌, ◌+◌, ◌-◌, ◌∷◌, ◌++◌, [], ap, arith, if◌then◌else◌, is_ok, length}
 use Rattle.long_vec.proofs.Room.{capacity_grows}
 use Rattle.long_vec.proofs.Splits.{pushed}
 use Rattle.long_vec.proofs.LongVec.push.Goals as goal

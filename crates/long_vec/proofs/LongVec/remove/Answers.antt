@@ -1,4 +1,3 @@
-use Rattle.std.proofs.Common.{◌∙◌, ap, slice_index_or}
 use Rattle.long_vec.proofs.Blocks.{found, removed}
 use Rattle.long_vec.proofs.Room.{capacity_same}
 use Rattle.long_vec.proofs.LongVec.remove.Goals as goal

@@ -1,5 +1,4 @@
-use Rattle.std.proofs.Common.{◌≡◌, ◌∙◌, ◌≤◌, ◌<◌, ◌++◌, ◌/◌, ap, arith, length, slice_index_or, subst, sym, take, vec_capacity, vec_len}
-use Rattle.std.specs.List.{insert}
+use Rattle.std.proofs.Common.{◌∙◌, ◌≤◌, ◌<◌, ◌++◌, ◌/◌, ap, arith, length, slice_index_or, subst, sym, take, vec_capacity, vec_len}
 use Rattle.std.proofs.lemmas.List.{get_or_default, take-append-drop}
 use Rattle.long_vec.specs.Blocks.{capacity_in, items_in}
 use Rattle.long_vec.proofs.Room.{room_in}
