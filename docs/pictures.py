@@ -14,6 +14,7 @@ KINDS = {"library": "#dbe9f6", "program": "#e3f1dc", "test": "#f6ead4", "fault":
 # what stands under a crate's name, and what it is
 CAPTIONS = {
     "jsonptr": ("pointers: strings, tokens, indexes", "library"),
+    "long_vec": ("a list in blocks", "library"),
     "json_number": ("numbers compared exactly", "library"),
     "json_lexemes": ("a text's lexemes by their places", "library"),
     "json_text": ("one place of a text, read or replaced", "library"),
