@@ -1,5 +1,5 @@
 -- The patch between two trees, and its text.
-use Rattle.std.proofs.Common.{◌≡◌, ◌<◌, ◌≤◌, ◌+◌, ℕ, zero, suc, List, [], ◌∷◌, length, ◌↔◌, ◌⊎◌, inl, inr, Some, None, Ordering, Less, Equal, Greater, Bool, false, max, map, refl, sym, ap, ap₂, ◌∙◌, subst, arith}
+use Rattle.std.proofs.Common.{◌≡◌, ◌<◌, ◌≤◌, ◌+◌, ℕ, zero, suc, List, [], ◌∷◌, length, ◌↔◌, ◌⊎◌, ⊎_elim, inl, inr, Some, None, Ordering, Less, Equal, Greater, Bool, false, max, map, refl, sym, ap, ◌∙◌, subst, arith}
 use Rattle.std.specs.Bool.{Decides}
 use Rattle.std.specs.Prelude.{codes, IsSome}
 use Rattle.std.specs.Ordering.{nat_cmp, match_ordering}
@@ -21,6 +21,7 @@ use Rattle.json_patch_document.specs.Document.{IsDocument}
 use Rattle.json_patch_document.proofs.SameDocuments.{AreSame-document}
 use Rattle.json_patch_laws.specs.Inverse.{ArePlain}
 use Rattle.json_patch_laws.specs.Run.{IsAccepted}
+use Rattle.json_patch_limits.specs.declared.limits.Limits.{Limits}
 use Rattle.json_patch_operation.specs.Operation.{Operation, add, remove, replace, move, copy, test, AreWhole}
 use Rattle.json_patch_operation.specs.PatchValue.{written_value, written_patch}
 use Rattle.json_reading.specs.Reading.{Reading}
@@ -33,11 +34,13 @@ use Rattle.json_patch_text.specs.Patched.{AcceptsPatch}
 use Rattle.json_diff_text.specs.Differences.{IsFewBetween, IsPlainPatch, IsTextOf, IsTreePatch, SaySame}
 use Rattle.json_diff_text.specs.Numerals.{numeral, numeral_at, tree_of, tree_items, tree_members, tree_op, tree_ops, read_as, StandsFor, AreNumbers}
 use Rattle.json_patch_text.specs.Operations.{TreeOperation, tree_fields, HasFields, ReadsTrees, ReadsTreePatch, SaysOperations}
-use Rattle.json_diff_text.specs.Renumbered.{renumbered, renumbered_items, renumbered_members}
+use Rattle.json_diff_text.specs.Renumbered.{renumbered}
 use Rattle.json_patch_diff.specs.Size.{values}
-use Rattle.json_patch_limits.specs.OverLimits.{AreShallow}
+use Rattle.json_patch_limits.specs.OverLimits.{AreShallow, NeverOver}
 use Rattle.json_patch_text.specs.Run.{AcceptsTree}
-use Rattle.json_diff_text.proofs.Levels.{depth_is, values_are}
+use Rattle.json_patch_text.specs.Shallow.{IsNeverTooDeep}
+use Rattle.json_patch_text.proofs.Shallow.{never_too_deep, puts_within_more}
+use Rattle.json_diff_text.proofs.Levels.{all_fit_there, depth_is, depth_same, patch_fits, values_are}
 use Rattle.json_diff_text.proofs.Standing.{leads, plain_there, stands_now}
 
 -- ---- a document with its numerals can be written
@@ -96,23 +99,6 @@ written_says ts ops text j is read low =
     ((tree_of ts (written_patch ops), subst (Says text) is says, reads_all ts ops), omega (arith, n, low_tree))
 
 -- ---- a document is no deeper than the tree for which it stands
-
-mutual
-  depth_same : (f : Num → Num) (d : Data) → depth (renumbered f d) ≡ depth d
-  depth_same f null = refl
-  depth_same f (boolean b) = refl
-  depth_same f (number n) = refl
-  depth_same f (string s) = refl
-  depth_same f (array ds) = ap suc (items_depth_same f ds)
-  depth_same f (object ms) = ap suc (members_depth_same f ms)
-
-  items_depth_same : (f : Num → Num) (ds : Items) → items_depth (renumbered_items f ds) ≡ items_depth ds
-  items_depth_same f no_items = refl
-  items_depth_same f (item d ds) = ap₂ max (depth_same f d) (items_depth_same f ds)
-
-  members_depth_same : (f : Num → Num) (ms : Members) → members_depth (renumbered_members f ms) ≡ members_depth ms
-  members_depth_same f no_members = refl
-  members_depth_same f (member k d ms) = ap₂ max (depth_same f d) (members_depth_same f ms)
 
 put_depth : (k : List ℕ) (d : Data) (ms : Members) → members_depth (put k d ms) ≤ max (depth d) (members_depth ms)
 put_depth k d no_members = omega arith
@@ -177,12 +163,13 @@ nothing_between i j text e same = record {
   plain = λ r. tt;
   nothing = ((λ n. same), (λ s. refl));
   few = λ r. omega arith;
+  shallow = tt;
   readable = none_nests text e;
 }
 
 -- what `diff` promises of the operations between the two documents
 abbrev pub IsBetween : Data → Data → List Operation → Type 0
-IsBetween d e ops = AreWhole ops × ArePlain d ops × IsAccepted d ops e × (length ops ≤ values d + values e)
+IsBetween d e ops = AreWhole ops × ArePlain d ops × IsAccepted d ops e × (length ops ≤ values d + values e) × ((recorded : Bool) (l : Limits) → depth e ≤ l.depth → NeverOver recorded l d ops)
 
 op_count : (ts : List (List ℕ)) (ops : List Operation) → length (tree_ops ts ops) ≡ length ops
 op_count ts [] = refl
@@ -193,7 +180,7 @@ values_there ts d j r h = ap values (sym (stands_now ts d j r h)) ∙ values_are
 
 pub edits_between : (ts : List (List ℕ)) (i j : Json) (d e : Data) (ops : List Operation) (text : List ℕ) → (SameTree i j → ⊥) → StandsFor ts d i → StandsFor ts e j → IsDocument d → IsBetween d e ops
     → IsTextOf text (tree_ops ts ops) → IsTreePatch i j text
-edits_between ts i j d e ops text apart at_i at_j hd (hv, plain, accepted, few) (says, low) =
+edits_between ts i j d e ops text apart at_i at_j hd (hv, plain, accepted, few, never) (says, low) =
     let leads_there : AcceptsTree i (tree_ops ts ops) j = leads ts i j d e ops at_i at_j hd hv accepted.accepts in
     record {
       ops = tree_ops ts ops;
@@ -202,6 +189,7 @@ edits_between ts i j d e ops text apart at_i at_j hd (hv, plain, accepted, few) 
       plain = plain_there ts i d ops at_i hd hv plain;
       nothing = (same_of i j (tree_ops ts ops) leads_there, (λ s. absurd (apart s)));
       few = λ r. let n = op_count ts ops in let a = values_there ts d i r at_i in let b = values_there ts e j r at_j in omega (arith, n, a, b, few);
+      shallow = all_fit_there ts (depth e) (tree.depth j) ops (stands_depth ts e j at_j) (patch_fits d e ops plain never);
       readable = low;
     }
 
@@ -231,6 +219,15 @@ nothing_exactly from to text i j a b h = (none h.says, some h.says)
     some : SaysOperations text h.ops → SaySame from to → SaysOperations text []
     some (p, says, reads) (k, l, c, d, same) =
         (p, says, subst (ReadsTreePatch p) (h.nothing.1 (subst (λ x. SameTree x j) (one_tree from k i c a) (subst (λ x. SameTree k x) (one_tree to l j d b) same))) reads)
+
+pub patch_never : (from to text : List ℕ) (i j : Json) → Says to j → (max_depth < nesting from → ⊥) → tree.depth j ≤ max_depth → IsTreePatch i j text → IsNeverTooDeep (max (nesting from) (nesting to)) from text
+patch_never from to text i j b shallow low h =
+    let n = nests to j b in
+    let m : nesting from ≤ max_depth = ⊎_elim (λ deep. absurd (shallow deep)) (λ le. le) (cases_lt max_depth (nesting from)) in
+    let under : tree.depth j ≤ max (nesting from) (nesting to) = omega (arith, n) in
+    let first : nesting from ≤ max (nesting from) (nesting to) = omega arith in
+    let le : max (nesting from) (nesting to) ≤ max_depth = omega (arith, n, m, low) in
+    never_too_deep (max (nesting from) (nesting to)) from text h.ops h.says (puts_within_more (tree.depth j) (max (nesting from) (nesting to)) h.ops under h.shallow) first le
 
 -- ---- its faults
 

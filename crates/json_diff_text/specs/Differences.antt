@@ -1,6 +1,7 @@
 -- The patch between two texts (RFC 6902), as text.
 use Rattle.std.specs.Prelude.{◌≡◌, ◌↔◌, ◌<◌, ◌≤◌, ◌+◌, ℕ, List, [], length, ⊤}
 use Rattle.json.specs.Json.{Json, max_depth}
+use Rattle.json.specs.Tree.{depth}
 use Rattle.json_lexemes.specs.Skipped.{nesting}
 use Rattle.json_lexemes.specs.Spelled.{Says}
 use Rattle.json_patch_diff.specs.Size.{values}
@@ -11,6 +12,7 @@ use Rattle.json_reading.specs.Trees.{data_of}
 use Rattle.json_patch_text.specs.Made.{IsNoText}
 use Rattle.json_patch_text.specs.Operations.{TreeOperation, SaysOperations, all_under}
 use Rattle.json_patch_text.specs.Run.{AcceptsTree}
+use Rattle.json_patch_text.specs.Shallow.{AllPutWithin}
 use Rattle.json_diff_text.specs.declared.fault.DiffTextFault.{DiffTextFault}
 use Rattle.json_diff_text.specs.declared.fault.DiffTextFault.TheVariants.{From, To, Memory}
 use Rattle.json_text.specs.declared.fault.TextFault.{TextFault}
@@ -66,4 +68,5 @@ pub record IsTreePatch (i j : Json) (s : List ℕ) : Type 0 where
   pub plain : ArePlainOn i ops
   pub nothing : (ops ≡ []) ↔ SameTree i j
   pub few : AreFew i j ops
+  pub shallow : AllPutWithin (depth j) ops
   pub readable : nesting s ≤ max_depth

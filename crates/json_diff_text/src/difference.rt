@@ -1,6 +1,6 @@
 //! The patch between two texts.
 
-ghost use Rattle.std.specs.Prelude.{◌≡◌, ◌↔◌, ◌≤◌, [], IfErr, IfOk};
+ghost use Rattle.std.specs.Prelude.{◌≡◌, ◌↔◌, ◌≤◌, [], IfErr, IfOk, max};
 ghost use Rattle.std.specs.String.{string_bytes};
 ghost use Rattle.json.specs.Json.{max_depth};
 ghost use Rattle.json.specs.Tree.{HasNumbers, depth};
@@ -9,6 +9,7 @@ ghost use Rattle.json_lexemes.specs.Skipped.{nesting};
 ghost use Rattle.json_diff_text.specs.Differences.{IsDiffTextFault, IsFewBetween, IsPlainPatch, IsTreePatch, SaySame, most_levels};
 ghost use Rattle.json_patch_text.specs.Patched.{AcceptsPatch};
 ghost use Rattle.json_patch_text.specs.Operations.{SaysOperations};
+ghost use Rattle.json_patch_text.specs.Shallow.{IsNeverTooDeep};
 
 use crate::coding::coded;
 use crate::fault::DiffTextFault;
@@ -60,6 +61,8 @@ pub fn diff_text(alloc: Global, from: &str, to: &str) -> Result<String, DiffText
         (λ patch. SaysOperations (string_bytes patch) [] ↔ SaySame from.now to.now) }
     ensures few { IfOk result (λ patch. IsFewBetween from.now to.now (string_bytes patch)) }
     ensures readable { IfOk result (λ patch. nesting (string_bytes patch) ≤ max_depth) }
+    ensures never { IfOk result (λ patch. IsNeverTooDeep (max (nesting from.now) (nesting to.now))
+        from.now (string_bytes patch)) }
     ensures fault { IfErr result (IsDiffTextFault from.now to.now) }
 {
     if is_deeper(from, MAX_DEPTH) {

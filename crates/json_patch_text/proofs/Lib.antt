@@ -12,6 +12,7 @@ pub mod Patches
 pub mod Reached
 pub mod Readings
 pub mod Runs
+pub mod Shallow
 pub mod Stepped
 pub mod Steps
 pub mod Whole

@@ -77,7 +77,7 @@ all_made (o ∷ os) t u n m alike (next, x, xs) (other, y, ys) = all_made os nex
 
 -- ---- too deep
 
-made_at : (text left new : List ℕ) (os : List TextOperation) (k : ℕ) (o : TextOperation) → slice_get os k ≡ Some o → AreMadeIn text (take k os) left → IsMadeIn left o new → AreMadeIn text (take (suc k) os) new
+pub made_at : (text left new : List ℕ) (os : List TextOperation) (k : ℕ) (o : TextOperation) → slice_get os k ≡ Some o → AreMadeIn text (take k os) left → IsMadeIn left o new → AreMadeIn text (take (suc k) os) new
 made_at text left new [] k o at h s = absurd (none-some o at)
 made_at text left new (x ∷ os) zero o at h s = (new, subst (λ y. IsMadeIn text y new) (sym (same_Some x o at)) (subst (λ t. IsMadeIn t o new) h s), refl)
 made_at text left new (x ∷ os) (suc k) o at (next, m, rest) s = (next, m, made_at next left new os k o at rest s)

@@ -7,6 +7,7 @@ pub mod Outline
 pub mod Patched
 pub mod Reached
 pub mod Run
+pub mod Shallow
 pub mod Step
 pub mod Stopped
 pub mod TextOperations

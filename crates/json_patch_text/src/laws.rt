@@ -19,9 +19,11 @@ ghost use Rattle.json_patch_text.specs.Changed.{added, removed, replaced};
 ghost use Rattle.json_patch_text.specs.Made.{AreMadeIn};
 ghost use Rattle.json_patch_text.specs.Operations.{TreeOperation, ReadsTreePatch, SaysOperations, all_under, test};
 ghost use Rattle.json_patch_text.specs.Run.{AcceptsTree, RefusesTextAt, RefusesTreeAt};
+ghost use Rattle.json_patch_text.specs.Shallow.{AllPutWithin, IsNeverTooDeep};
 ghost use Rattle.json_patch_text.specs.Within.{AreMadeWithin, IsFaultWithin, IsTextOver, IsTextOverAt, IsTextWithin};
 ghost use Rattle.json_patch_text.specs.declared.fault.PatchTextFault.TheVariants as PatchTextFault;
 ghost use Rattle.json_patch_text.specs.declared.operation.TextOperation.{TextOperation};
+ghost use Rattle.json_lexemes.specs.Skipped.{nesting};
 ghost use Rattle.json_reading.specs.Reading.{Reading};
 ghost use Rattle.json_reading.specs.Same.{SameTree};
 ghost use Rattle.json_reading.specs.Trees.{data_of};
@@ -99,6 +101,12 @@ pub fn limits()
     // With limits of at most 128 levels no text on the way is too deep to be read.
     ensures readable { (l : Limits) (text patch : List ℕ) (k : ℕ) → l.depth ≤ max_depth
         → IsFaultWithin l text patch (PatchTextFault.TooDeep k) → ⊥ }
+
+    // Where nothing is moved or copied, and no value is put deeper than the text may nest, no text on
+    // the way is too deep.
+    ensures never { (levels : ℕ) (text patch : List ℕ) (ops : List TreeOperation)
+        → SaysOperations patch ops → AllPutWithin levels ops → nesting text ≤ levels
+        → levels ≤ max_depth → IsNeverTooDeep levels text patch }
 {}
 
 /// Patches as trees.

@@ -22,5 +22,5 @@ returns c =
     (λ s says. edits_written (numerals_in c.texts.result.now.items) (table c.coded-2.new.numerals) (value_view c.args.from.now) (value_view c.args.to.now) (view c.in_ok-old.old) (view c.in_ok-new.new) (operations_of c.in_ok-patch.patch) (string_bytes s) c.texts.ensures
     (apart_of c.in_ok-same_tree.field-0 (SameTree (value_view c.args.from.now) (value_view c.args.to.now)) c.in_ok-same_tree.ensures c.if-branch.false) c.in_ok-old.ensures.stands
     (stands_grown (table c.coded.new.numerals) (table c.coded-2.new.numerals) (view c.in_ok-new.new) (value_view c.args.to.now) c.in_ok-old.ensures.grows c.in_ok-new.ensures.stands) c.in_ok-old.ensures.document
-    (c.in_ok-patch.ensures.whole, c.in_ok-patch.ensures.plain, c.in_ok-patch.ensures.leads, c.in_ok-patch.ensures.few) says)
+    (c.in_ok-patch.ensures.whole, c.in_ok-patch.ensures.plain, c.in_ok-patch.ensures.leads, c.in_ok-patch.ensures.few, c.in_ok-patch.ensures.never) says)
     c.written.ensures
