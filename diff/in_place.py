@@ -138,7 +138,7 @@ def of_numbers(case, counts):
     document, operations = case
     wanted, error = outcome(lambda: json.loads(json_patch.apply_text(text(document), text(operations))))
     counts["numbers refused" if error else "numbers made"] += 1
-    with mock.patch.object(_in_place, "expect_patch", str):
+    with mock.patch.object(_in_place, "expect_patch", len):
         yield from faults(document, operations, wanted, error, in_place)
 
 

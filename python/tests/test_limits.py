@@ -215,6 +215,15 @@ class Undone(unittest.TestCase):
 
 
 class InPlace(unittest.TestCase):
+    def test_sizes(self):
+        """One for each value, and one for each byte of a string or a name, whatever the characters."""
+        for value, size in ((7, 1), ("cde", 4), ("é", 3), ("\U0001f600", 5), ({"é": [None, "a"]}, 6), ({"a": {}, "b": []}, 5), ([], 1), (True, 1), (1.5, 1)):
+            for document in ({"a": value}, {"a": value, "gone": 1}):
+                patch = [{"op": "copy", "from": "/a", "path": "/b"}]
+                with self.assertRaises(OverLimit):
+                    apply_patch(document, patch, in_place=True, limits=Limits(copied=size - 1))
+                self.assertEqual(apply_patch(document, patch, in_place=True, limits=Limits(copied=size))["b"], value)
+
     def test_lists_at_two_places_count_for_each(self):
         """Each copy doubles the one list."""
         rows = []
