@@ -10,10 +10,10 @@
  *
  * The first four also take two limits, depth and copied, as json_patch.h has them. A NULL among the
  * arguments gives NULL. What isn't a text, or says no document or, but for json_patch_check, no patch,
- * and a patch that is refused or over the limits are errors of the statement. json_patch_apply and json_patch_merge keep the text
- * where they don't change it, and take any numbers; elsewhere these are 64-bit integers. A result depends
- * on the arguments alone, and no call reads or writes anything else; so the functions may stand in
- * indexes, generated columns, CHECKs and triggers.
+ * and a patch that is refused or over the limits are errors of the statement. json_patch_apply and json_patch_merge
+ * keep the text where they don't change it. All but json_patch_inverse, whose numbers are 64-bit integers,
+ * take any numbers. A result depends on the arguments alone, and no call reads or writes anything else; so the
+ * functions may stand in indexes, generated columns, CHECKs and triggers.
  *
  * In the folder of the archive, with sqlite3ext.h (Debian: libsqlite3-dev):
  *
@@ -75,8 +75,8 @@ static json_patch_status write_merged(const arguments *given, char *out, size_t 
 static json_patch_status write_difference(const arguments *given, char *out, size_t room,
                                           json_patch_report *report)
 {
-    return json_patch_diff_within(given->first.bytes, given->first.length, given->second.bytes,
-                                  given->second.length, &given->limits, out, room, report);
+    return json_patch_diff_text_within(given->first.bytes, given->first.length, given->second.bytes,
+                                       given->second.length, &given->limits, out, room, report);
 }
 
 static json_patch_status write_inverse(const arguments *given, char *out, size_t room,
@@ -99,7 +99,7 @@ static json_patch_status write_nothing(const arguments *given, char *out, size_t
 {
     (void)out;
     (void)room;
-    return json_patch_check(given->first.bytes, given->first.length, report);
+    return json_patch_check_text(given->first.bytes, given->first.length, report);
 }
 
 /* ---- what is wrong, in words */

@@ -106,7 +106,8 @@ class Calls(Sql):
         self.assertFails("patch is not a list", APPLY, "{}", "{}")
         self.assertFails("patch: operation 1: member \"op\" is missing", APPLY, "1", '[{"op":"test","path":"","value":1},{}]')
         self.assertFails("merge patch is not JSON", MERGE, "{}", "")
-        self.assertFails("goal holds a number that is not whole", DIFF, "1", "1e2")
+        self.assertFails("goal is not JSON", DIFF, "1", "1e")
+        self.assertFails("goal nests too deep", DIFF, "1", "[" * 125 + "]" * 125)
 
     def test_what_is_no_text(self):
         for name, which in [(APPLY, "patch"), (MERGE, "merge patch"), (INVERSE, "patch"), (DIFF, "goal")]:
@@ -127,6 +128,7 @@ class Calls(Sql):
         self.assertEqual(self.of(CHECK, '[{"op":"remove","path":"/a"},{"op":"remove","path":"a"}]'), 'patch: operation 1: member "path" is not a pointer')
         self.assertEqual(self.of(CHECK, "{}"), "patch is not a list")
         self.assertEqual(self.of(CHECK, "]"), "patch is not JSON")
+        self.assertIsNone(self.of(CHECK, '[{"op":"add","path":"/a","value":[1.50,1e400]}]'))
 
     def test_merge_is_by_the_rfc(self):
         """RFC 7396 wants the nulls of what is put in taken out; SQLite's own json_patch too."""
@@ -139,6 +141,12 @@ class Calls(Sql):
         self.assertSays(json.loads(e), self.of(APPLY, d, patch))
         self.assertSays(json.loads(d), self.of(APPLY, e, self.of(INVERSE, d, patch)))
         self.assertEqual(self.of(DIFF, d, d), "[]")
+
+    def test_any_numbers_lead_there_and_back(self):
+        d, e = '{"price": 1.50, "large": 1e400, "was": [0.1, 7]}', '{"large": 10e399, "price": 1.5, "was": [0.1, 2.50, 7]}'
+        self.assertEqual(self.of(DIFF, d, e), '[{"op":"add","path":"/was/1","value":2.50}]')
+        self.assertEqual(self.of(APPLY, d, self.of(DIFF, d, e)), '{"price": 1.50, "large": 1e400, "was": [0.1, 2.50, 7]}')
+        self.assertEqual(self.of(APPLY, e, self.of(DIFF, e, d)), '{"large": 10e399, "price": 1.5, "was": [0.1, 7]}')
 
     def test_a_result_is_json_to_sqlite(self):
         found = self.database.execute("SELECT json_array(json_patch_apply('[]', '[]'), '[]')").fetchone()[0]

@@ -18,7 +18,6 @@ COMMAND = shutil.which("json-patch") or MODULE
 DOCUMENT = '{ "b": [1, 2], "a": "\\u00e9" }'
 PATCH = '[{"op": "move", "from": "/b/0", "path": "/c"}]'
 PATCHED = '{ "b": [2], "a": "\\u00e9", "c": 1 }'
-COMPACT = '{"a":"\u00e9","b":[2],"c":1}\n'
 INVERSE = [{"op": "remove", "path": "/c"}, {"op": "add", "path": "/b/0", "value": 1}]
 
 
@@ -57,7 +56,7 @@ class Command(unittest.TestCase):
         self.assertDoes("cat d.json | json-patch apply - p.json", PATCHED)
         self.assertDoes("json-patch apply -u d.json p.json", PATCHED)
         self.assertDoes(f"{MODULE} apply d.json p.json", PATCHED)
-        self.assertDoes("json-patch apply --indent 2 d.json p.json", json.dumps(json.loads(COMPACT), indent=2, ensure_ascii=False) + "\n")
+        self.assertDoes("json-patch apply --indent 2 d.json p.json", '{\n  "b": [\n    2\n  ],\n  "a": "\\u00e9",\n  "c": 1\n}\n')
 
     def test_any_numbers(self):
         """Where the text is kept."""
@@ -65,10 +64,10 @@ class Command(unittest.TestCase):
         self.write("p.json", '[{"op": "test", "path": "/a", "value": 1.5}, {"op": "copy", "from": "/a", "path": "/c"}, {"op": "remove", "path": "/b"}]')
         self.assertDoes("json-patch apply half.json p.json", '{\n  "a": 1.50,\n  "c": 1.50\n}\n')
         self.assertDoes("json-patch get half.json /b", "1e400\n")
-        self.assertEnds(2, "half.json: NotJson", "json-patch apply --indent 1 half.json p.json")
+        self.assertDoes("json-patch apply --indent 1 half.json p.json", '{\n "a": 1.50,\n "c": 1.50\n}\n')
         self.write("half.json", '{"a": 1.50}')
-        for arguments in ("apply --indent 1 half.json p.json", "record half.json p.json i", "get --indent 1 half.json /a", "merge --indent 1 half.json d.json"):
-            self.assertEnds(2, "half.json: NotWhole", f"json-patch {arguments}")
+        self.assertDoes("json-patch get --indent 1 half.json ''", '{\n "a": 1.50\n}\n')
+        self.assertEnds(2, "half.json: NotWhole", "json-patch record half.json p.json i")
         self.write("m.json", '{"b": 1e400, "a": 15e-1}')
         self.assertDoes("json-patch merge half.json m.json", '{"a": 1.50,"b": 1e400}')
 
@@ -82,7 +81,7 @@ class Command(unittest.TestCase):
         self.assertEqual(json.loads(self.text("inverse.json")), INVERSE)
         self.assertDoes("json-patch record -i d.json p.json inverse.json && json-patch apply d.json inverse.json", '{ "b": [1,2], "a": "\\u00e9" }')
         self.write("d.json", DOCUMENT)
-        self.assertDoes("json-patch record --indent 0 d.json p.json i | tr -d ' \\n'; echo", COMPACT)
+        self.assertDoes("json-patch record --indent 0 d.json p.json i | tr -d ' \\n'; echo", PATCHED.replace(" ", "") + "\n")
 
     def test_diff(self):
         self.write("to.json", '{"a": "\u00e9", "b": [1, 2, 3]}')
@@ -98,13 +97,21 @@ class Command(unittest.TestCase):
         self.assertDoes("json-patch diff d.json d.json", "[]\n")
         self.assertEqual(self.text("d.json"), DOCUMENT)
 
+    def test_diff_of_any_numbers(self):
+        self.write("one.json", '{"price": 1.50, "large": 1e400, "tags": ["new", "red"]}')
+        self.write("other.json", '{"large": 10e399, "price": 2.50, "tags": ["new", "red"]}')
+        made = '[{"op":"replace","path":"/price","value":2.50}]\n'
+        self.assertDoes("json-patch diff one.json other.json", made)
+        self.assertDoes("json-patch diff one.json other.json | json-patch check", "")
+        self.assertDoes("json-patch diff one.json other.json | json-patch apply one.json", '{"price": 2.50, "large": 1e400, "tags": ["new", "red"]}')
+        self.assertDoes("json-patch diff --indent 2 one.json other.json | tr -d ' \\n'; echo", made)
+
     def test_diff_refused(self):
         self.write("bad", "[1")
-        self.write("half", "[1.5]")
         for told, arguments in (
             ("none: No such file or directory", "none d.json"), ("none: No such file or directory", "d.json none"),
-            ("bad: NotJson", "bad d.json"), ("bad: NotJson", "d.json bad"), ("half: NotWhole", "d.json half"),
-            ("standard input: NotWhole", "d.json < half"), ("d.json: TooDeep", "--limit-depth 1 d.json d.json"),
+            ("bad: NotJson", "bad d.json"), ("bad: NotJson", "d.json bad"), ("bad: NotJson", "bad bad"),
+            ("standard input: NotJson", "d.json < bad"), ("d.json: TooDeep", "--limit-depth 1 d.json d.json"),
             ("d.json: TooDeep", "--limit-depth 1 - d.json <<< 1"),
         ):
             self.assertEnds(2, told, f"json-patch diff {arguments}")
@@ -167,7 +174,7 @@ class Command(unittest.TestCase):
             ("none: No such file or directory", "apply none p.json"), (".: Is a directory", "apply d.json ."),
             ("bad: NotJson", "apply bad p.json"), ("half: NotWhole", "record half p.json i"),
             ("bad: NotJson", "apply d.json bad"), ("half: operation 0: NotAnObject", "apply d.json half"),
-            ("'line\\nfeed': NotAList", "apply d.json line*"), ("half: NotWhole", "merge --indent 1 d.json half"),
+            ("'line\\nfeed': NotAList", "apply d.json line*"), ("bad: NotJson", "merge --indent 1 d.json bad"),
             ("d.json: NotAList", "record d.json d.json i"), ("bad: NotJson", "get bad /a"), ("half: operation 0: NotAnObject", "check half"),
         ):
             self.assertEnds(2, told, f"json-patch {arguments}")

@@ -10,8 +10,9 @@ from itertools import combinations
 from typing import Any, Callable, Dict, Iterator, List, NoReturn, Optional, Union
 
 from . import _files
-from ._calls import expect_patch, merged
-from ._texts import indented, value_of
+from ._calls import called, merged, succeed
+from ._library import LIBRARY
+from ._texts import indented
 from ._version import __version__
 from .document import Document
 from .errors import (
@@ -30,9 +31,8 @@ device or a pipe, such as /dev/stdout with --in-place. Where two results would g
 over what is read, nothing is written.
 
 apply, merge, record and get keep the text: whitespace, the order of members, and the way in which numbers
-and strings are written; what is added follows its neighbours. With --indent, and by diff, the result is
-written anew. Numbers are 64-bit integers alone, but for apply, merge and get without --indent, which take
-any.
+and strings are written; what is added follows its neighbours. With --indent the whitespace is another, and
+nothing else. Numbers may be any; for record they are 64-bit integers.
 
 exit status:
   0   done
@@ -106,8 +106,8 @@ def _parser() -> argparse.ArgumentParser:
 
 
 def _add_output(parser: argparse.ArgumentParser) -> None:
-    parser.add_argument("--indent", type=_spaces, metavar="N", help="write anew, each item on a line, indented by N spaces (at most 100)")
-    escapes = "changes nothing: what is written anew has no escape that need not be, and a kept text has its own"
+    parser.add_argument("--indent", type=_spaces, metavar="N", help="write each member and element on a line, indented by N spaces (at most 100)")
+    escapes = "changes nothing: a text keeps the escapes that it has, and diff writes none that need not be"
     parser.add_argument("-u", "--preserve-unicode", action="store_true", help=escapes)
 
 
@@ -193,12 +193,9 @@ def _one_line(error: Union[JsonPatchException, JsonPointerException], name: str)
     return ": ".join([*told, str(error.kind)])
 
 
-def _as_asked(text: bytes, asked: argparse.Namespace) -> bytes:
-    """A text that is written anew as it is to be: a line, or indented."""
-    if asked.indent is None:
-        return text + b"\n"
-    with _at_fault(asked.document):
-        return indented(value_of(text), asked.indent) + b"\n"
+def _line(text: bytes, asked: argparse.Namespace) -> bytes:
+    """A text as it is to be laid out, with the end of its line."""
+    return (text if asked.indent is None else indented(text, asked.indent)) + b"\n"
 
 
 def _opened(text: bytes, asked: argparse.Namespace) -> Document:
@@ -212,7 +209,8 @@ def _limits(asked: argparse.Namespace) -> Limits:
     return Limits(given.get("limit_depth", MOST_LEVELS), given.get("limit_copies", MOST_COPIED))
 
 
-def _put(content: bytes, asked: argparse.Namespace) -> None:
+def _put(text: bytes, asked: argparse.Namespace) -> None:
+    content = text if asked.indent is None else _line(text, asked)
     if asked.in_place:
         _writing(_shown(asked.document), lambda: _files.replace(asked.document, content, asked.backup))
     else:
@@ -224,11 +222,11 @@ def _show(content: bytes) -> None:
 
 
 def _apply(asked: argparse.Namespace) -> None:
-    _put(_kept(_applied, asked) if asked.indent is None else _written_anew(Document.apply, asked), asked)
+    _put(_kept(_applied, asked), asked)
 
 
 def _merge(asked: argparse.Namespace) -> None:
-    _put(_kept(merged, asked) if asked.indent is None else _written_anew(Document._merge_text, asked), asked)
+    _put(_kept(merged, asked), asked)
 
 
 def _applied(text: bytes, patch: bytes, limits: Limits) -> bytes:
@@ -242,14 +240,6 @@ def _kept(change: Callable[[bytes, bytes, Limits], bytes], asked: argparse.Names
         return change(text, patch, _limits(asked))
 
 
-def _written_anew(change: Callable[[Document, bytes], None], asked: argparse.Namespace) -> bytes:
-    with _opened(_read(asked.document), asked) as kept:
-        patch = _read(asked.patch)
-        with _at_fault(asked.patch):
-            change(kept, patch)
-        return _as_asked(kept.to_string().encode(), asked)
-
-
 def _record(asked: argparse.Namespace) -> None:
     """The inverse is written first: where that fails, the document stays."""
     text = _read(asked.document)
@@ -257,35 +247,29 @@ def _record(asked: argparse.Namespace) -> None:
         patch = _read(asked.patch)
         with _at_fault(asked.patch):
             inverse = kept._record_text(patch)
-            anew = asked.indent is not None
-            content = _as_asked(kept.to_string().encode(), asked) if anew else _applied(text, patch, _limits(asked))
+            content = _applied(text, patch, _limits(asked))
     _writing(_shown(asked.inverse), lambda: _files.replace(asked.inverse, inverse + b"\n"))
     _put(content, asked)
 
 
 def _diff(asked: argparse.Namespace) -> None:
-    with _opened(_read(asked.document), asked) as kept:
-        text = _read(asked.goal)
-        with _at_fault(asked.goal):
-            made = kept._diff_text(text)
-        _show(_as_asked(made, asked))
+    text, goal = _read(asked.document), _read(asked.goal)
+    with _at_fault(asked.goal, asked.document):
+        made = called(LIBRARY.json_patch_diff_text_within, text, goal, _limits(asked))
+    _show(_line(made, asked))
 
 
 def _get(asked: argparse.Namespace) -> None:
     text = _read(asked.document)
-    if asked.indent is None:
-        with _at_fault(asked.document):
-            found = resolve_text(text, asked.pointer) + b"\n"
-    else:
-        with _opened(text, asked) as kept, _at_fault(asked.document):
-            found = _as_asked(kept._text_at(asked.pointer), asked)
-    _show(found)
+    with _at_fault(asked.document):
+        found = resolve_text(text, asked.pointer)
+    _show(_line(found, asked))
 
 
 def _check(asked: argparse.Namespace) -> None:
     patch = _read(asked.patch)
     with _at_fault(asked.patch):
-        expect_patch(patch)
+        succeed(LIBRARY.json_patch_check_text, patch, len(patch))
 
 
 _COMMANDS: Dict[str, Callable[[argparse.Namespace], None]] = {

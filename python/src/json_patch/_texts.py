@@ -11,6 +11,8 @@ if TYPE_CHECKING:
 
     _Read = TypeVar("_Read")
 
+_OPEN, _CLOSE = ("[", "{"), ("]", "}")
+
 
 def pointer_path(value: object) -> str:
     """A JsonPointer stands for its text."""
@@ -74,8 +76,17 @@ def value_of(text: bytes) -> Any:
     return json.loads(text)
 
 
-def indented(value: object, spaces: int) -> bytes:
-    """The text of an object, each item on a line."""
-    import json
+def indented(text: bytes, spaces: int) -> bytes:
+    """A JSON text with each member and element on a line, its numbers and strings as they are written."""
+    import re
 
-    return json.dumps(value, indent=spaces, ensure_ascii=False).encode()
+    made: list[str] = []
+    levels, before = 0, ""
+    for token in re.findall(r'"(?:[^"\\]|\\.)*"|[\[\]{}:,]|[^\s\[\]{}:,"]+', text.decode()):
+        levels -= token in _CLOSE
+        if before == "," or (before in _OPEN) != (token in _CLOSE):
+            made.append("\n" + " " * (spaces * levels))
+        made.append(": " if token == ":" else token)
+        levels += token in _OPEN
+        before = token
+    return "".join(made).encode()
