@@ -25,11 +25,11 @@ CREATE TRIGGER forget AFTER UPDATE ON documents WHEN new.version < old.version B
     DELETE FROM undos WHERE id = new.id AND version > new.version;
 END;
 
-INSERT INTO documents (id, document) VALUES (1, '{"stock":5,"tags":["new"]}');
+INSERT INTO documents (id, document) VALUES (1, '{"price":12.50,"stock":5,"tags":["new"]}');
 
 -- two changes; the second is made only while there are 5 in stock
 UPDATE documents SET version = version + 1,
-    document = json_patch_apply(document, '[{"op":"add","path":"/tags/-","value":"red"}]')
+    document = json_patch_apply(document, '[{"op":"add","path":"/tags/-","value":"red"},{"op":"replace","path":"/price","value":9.90}]')
 WHERE id = 1;
 UPDATE documents SET version = version + 1,
     document = json_patch_apply(document, '[{"op":"test","path":"/stock","value":5},{"op":"replace","path":"/stock","value":4}]')
