@@ -217,7 +217,7 @@ class Undone(unittest.TestCase):
 class InPlace(unittest.TestCase):
     def test_sizes(self):
         """One for each value, and one for each byte of a string or a name, whatever the characters."""
-        for value, size in ((7, 1), ("cde", 4), ("é", 3), ("\U0001f600", 5), ({"é": [None, "a"]}, 6), ({"a": {}, "b": []}, 5), ([], 1), (True, 1), (1.5, 1)):
+        for value, size in ((7, 1), ("cde", 4), ("é", 3), ("\U0001f600", 5), ({"é": [None, "a"]}, 7), ({"a": {}, "b": []}, 5), ([], 1), (True, 1), (1.5, 1)):
             for document in ({"a": value}, {"a": value, "gone": 1}):
                 patch = [{"op": "copy", "from": "/a", "path": "/b"}]
                 with self.assertRaises(OverLimit):
