@@ -59,6 +59,7 @@ class Within(unittest.TestCase):
         patch = [{"op": "test", "path": "", "value": []}, {"op": "add", "path": "/0", "value": [[]]}]
         self.assertMakes([], patch, Limits(depth=3), [[[]]])
         self.assertOver([], patch, Limits(depth=2), 1, "TooDeep")
+        self.assertOver([], [{"op": "add", "path": "/0/a", "value": 1}], Limits(depth=1), 0, "TooDeep")
         self.assertMakes({}, [{"op": "add", "path": "/a", "value": nested(123)}], Limits(), {"a": nested(123)})
         self.assertOver({}, [{"op": "add", "path": "/a", "value": nested(124)}], Limits(), 0, "TooDeep")
 
@@ -118,6 +119,7 @@ class Within(unittest.TestCase):
         most = [int(number) for number in re.findall(r"#define JSON_PATCH_MOST_\w+ (\d+)", header)]
         self.assertEqual(most, [MOST_LEVELS, MOST_COPIED])
         self.assertEqual(Limits(), Limits(MOST_LEVELS, MOST_COPIED))
+        self.assertEqual(len({Limits(), Limits(MOST_LEVELS), pickle.loads(pickle.dumps(Limits())), Limits(9), Limits(copied=9)}), 3)
 
     def test_what_are_no_limits(self):
         for name, value, error in (
