@@ -59,6 +59,7 @@ class Within(unittest.TestCase):
         patch = [{"op": "test", "path": "", "value": []}, {"op": "add", "path": "/0", "value": [[]]}]
         self.assertMakes([], patch, Limits(depth=3), [[[]]])
         self.assertOver([], patch, Limits(depth=2), 1, "TooDeep")
+        self.assertOver([], [{"op": "add", "path": "/0/a", "value": 1}], Limits(depth=1), 0, "TooDeep")
         self.assertMakes({}, [{"op": "add", "path": "/a", "value": nested(123)}], Limits(), {"a": nested(123)})
         self.assertOver({}, [{"op": "add", "path": "/a", "value": nested(124)}], Limits(), 0, "TooDeep")
 
@@ -118,6 +119,7 @@ class Within(unittest.TestCase):
         most = [int(number) for number in re.findall(r"#define JSON_PATCH_MOST_\w+ (\d+)", header)]
         self.assertEqual(most, [MOST_LEVELS, MOST_COPIED])
         self.assertEqual(Limits(), Limits(MOST_LEVELS, MOST_COPIED))
+        self.assertEqual(len({Limits(), Limits(MOST_LEVELS), pickle.loads(pickle.dumps(Limits())), Limits(9), Limits(copied=9)}), 3)
 
     def test_what_are_no_limits(self):
         for name, value, error in (
@@ -217,7 +219,7 @@ class Undone(unittest.TestCase):
 class InPlace(unittest.TestCase):
     def test_sizes(self):
         """One for each value, and one for each byte of a string or a name, whatever the characters."""
-        for value, size in ((7, 1), ("cde", 4), ("é", 3), ("\U0001f600", 5), ({"é": [None, "a"]}, 6), ({"a": {}, "b": []}, 5), ([], 1), (True, 1), (1.5, 1)):
+        for value, size in ((7, 1), ("cde", 4), ("é", 3), ("\U0001f600", 5), ({"é": [None, "a"]}, 7), ({"a": {}, "b": []}, 5), ([], 1), (True, 1), (1.5, 1)):
             for document in ({"a": value}, {"a": value, "gone": 1}):
                 patch = [{"op": "copy", "from": "/a", "path": "/b"}]
                 with self.assertRaises(OverLimit):

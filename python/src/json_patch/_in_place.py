@@ -181,14 +181,16 @@ class _Run:
 
     def _replace(self, path: List[str], value: Any) -> None:
         if not path:
-            return self._become(value)
+            self.root = value
+            return
         holder, key, old = self._held(path)
         holder[key] = value
         self._log.append((holder.__setitem__, key, old))
 
     def _put(self, path: List[str], value: Any) -> None:
         if not path:
-            return self._become(value)
+            self.root = value
+            return
         holder, last = self._at(path[:-1]), path[-1]
         if isinstance(holder, dict):
             back = (holder.__setitem__, last, holder[last]) if last in holder else (holder.__delitem__, last)
@@ -198,10 +200,6 @@ class _Run:
             back = (holder.__delitem__, place)
             holder.insert(place, value)
         self._log.append(back)
-
-    def _become(self, value: Any) -> None:
-        self._log.append((setattr, self, "root", self.root))
-        self.root = value
 
 
 def _child(holder: Any, token: str, kind: int = NOWHERE) -> Any:
@@ -250,6 +248,7 @@ def _copied(value: Any, most: int) -> Tuple[Any, int]:
     left: List[Tuple[Any, Any, Any]] = [(value, made, 0)]
     size = 0
     while left:
+        # what is left has this size at least: so it stays short, too
         if size + len(left) > most:
             raise _Refused(TOO_MUCH, OVER)
         value, into, key = left.pop()
