@@ -43,6 +43,7 @@ CAPTIONS = {
     "json_patch_uses": ("proved examples of use", "library"),
     "json_patch_examples": ("the examples, by rows", "test"),
     "json_patch_vectors": ("tables of cases", "test"),
+    "long_vec_vectors": ("lists in blocks, by rows", "test"),
     "json_text_vectors": ("calls on texts, by rows", "test"),
     "json_patch_memory": ("one call, or rows of calls", "test"),
 }
