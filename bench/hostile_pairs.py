@@ -87,7 +87,7 @@ def spent(program, mode, line, begins="ok "):
 def tell(program, modes, rounds, name, pair, begins="ok "):
     line = (json.dumps(pair) + "\n").encode()
     least = lambda mode: min(spent(program, mode, line, begins) for _ in range(rounds))
-    times = ", ".join(f"{mode} {least(mode):.2f} s" for mode in modes)
+    times = ", ".join(f"{mode} {least(mode):.3f} s" for mode in modes)
     print(f"{name}, {len(line):,} bytes: {times}", flush=True)
 
 
