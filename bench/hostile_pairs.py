@@ -6,12 +6,13 @@
 PROGRAM is that of diff/differences.rt.txt, as diff/differences.py says. Each pair is handed in as one line,
 once for each of `diff`, `guarded_diff` and `moving_diff`. Those for `merge_diff` and `merge_both` come in
 several sizes, so that twice the size shows to take twice the time, and the least of three times is told.
-Reading and writing are counted, and the merge with what was made."""
+Processor time, so that other work beside counts little; reading and writing are in it, and the merge with
+what was made."""
 import argparse
 import json
 import random
+import resource
 import subprocess
-import time
 
 TABLE = 4096  # of two lists with as many items all pairs of items are looked at, and then of no others
 LARGE = 100_000
@@ -70,17 +71,23 @@ def merge_pairs():
         yield f"{what}, and none serves", tuple(nested_objects(levels, bottom) for bottom in (1, {"x": None})), "none"
 
 
+def processor_time():
+    """That of the programs that have ended."""
+    usage = resource.getrusage(resource.RUSAGE_CHILDREN)
+    return usage.ru_utime + usage.ru_stime
+
+
 def spent(program, mode, line, begins="ok "):
-    begun = time.perf_counter()
+    before = processor_time()
     said = subprocess.run([program, mode], input=line, capture_output=True, check=True).stdout
     assert said.startswith(begins.encode()), f"{mode} says {said[:20]}"
-    return time.perf_counter() - begun
+    return processor_time() - before
 
 
 def tell(program, modes, rounds, name, pair, begins="ok "):
     line = (json.dumps(pair) + "\n").encode()
     least = lambda mode: min(spent(program, mode, line, begins) for _ in range(rounds))
-    times = ", ".join(f"{mode} {least(mode):.2f} s" for mode in modes)
+    times = ", ".join(f"{mode} {least(mode):.3f} s" for mode in modes)
     print(f"{name}, {len(line):,} bytes: {times}", flush=True)
 
 
