@@ -2,6 +2,8 @@
 use Rattle.std.proofs.Common.{◌≡◌, ◌<◌, ◌≤◌, ◌+◌, ◌-◌, ◌∷◌, ◌++◌, [], zero, suc, List, ℕ, Vec, length, slice_index_or, slice_set, ◌∙◌, Result, Ok, Err, OnOk, ap, subst, arith, inl, inr, length-append, vec_len, vec_capacity}
 use Rattle.std.proofs.lemmas.Bool.{cases_lt, cases_order}
 use Rattle.std.proofs.lemmas.List.Concat.{flat_map-append}
+use Rattle.std.proofs.lemmas.List.Edits.{length-remove}
+use Rattle.std.specs.List.{remove}
 use Rattle.long_vec.specs.Blocks.{items_in, capacity_in, HasRoom}
 
 -- what follows from what a success brings
@@ -30,6 +32,10 @@ module _ {T A : Type 0} where
   pub fits : (bs : List (Vec T A)) → length (items_in bs) ≤ capacity_in bs
   fits [] = omega arith
   fits (b ∷ bs) = let more = fits bs in omega (arith, b.ok.0, b.ok.1, length-append b.items (items_in bs))
+
+  -- where an item was taken out, there is room
+  pub room_left : (bs cs : List (Vec T A)) (n : ℕ) → n < length (items_in bs) → items_in cs ≡ remove (items_in bs) n → capacity_in cs ≡ capacity_in bs → length (items_in cs) < capacity_in cs
+  room_left bs cs n within is same = let gone = length-remove (items_in bs) n within in let more = fits bs in omega (arith, ap length is, same)
 
   -- a block's room is room
   pub room_in : (bs : List (Vec T A)) (i : ℕ) → HasRoom bs i → length (items_in bs) < capacity_in bs

@@ -72,6 +72,8 @@ impl<T> LongVec<T> {
         ensures value { result ≡ slice_index_or (items_of self.old) number result }
         ensures items { items_of self.new ≡ remove (items_of self.old) number }
         ensures capacity { capacity_of self.new ≡ capacity_of self.old }
+        // So it can be put back.
+        ensures room { length (items_of self.new) < capacity_of self.new }
     {
         let (i, k) = self.find(number);
         self.blocks[i].remove(k)

@@ -1,5 +1,6 @@
+use Rattle.std.proofs.Common.{slice_set}
 use Rattle.long_vec.proofs.Blocks.{found, removed}
-use Rattle.long_vec.proofs.Room.{capacity_same}
+use Rattle.long_vec.proofs.Room.{capacity_same, room_left}
 use Rattle.long_vec.proofs.LongVec.remove.Goals as goal
 
 pub returns-clause-value : goal.returns-clause-value
@@ -16,3 +17,8 @@ pub returns-clause-capacity : goal.returns-clause-capacity
 returns-clause-capacity g c =
     capacity_same c.args.self.now.blocks.items c.find-i.result.0 c.index_mut.result.now c.remove.new.self c.find-i.ensures.block
     c.index_mut.ensures.value c.remove.ensures.capacity
+
+pub returns-clause-room : goal.returns-clause-room
+returns-clause-room g c =
+    room_left c.args.self.now.blocks.items (slice_set c.args.self.now.blocks.items c.find-i.result.0 c.remove.new.self) c.args.number c.requires
+    (returns-clause-items g c) (returns-clause-capacity g c)
