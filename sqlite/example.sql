@@ -29,10 +29,10 @@ INSERT INTO documents (id, document) VALUES (1, '{"price":12.50,"stock":5,"tags"
 
 -- two changes; the second is made only while there are 5 in stock
 UPDATE documents SET version = version + 1,
-    document = json_patch_apply(document, '[{"op":"add","path":"/tags/-","value":"red"},{"op":"replace","path":"/price","value":9.90}]')
+    document = json_patch_apply(document, '[{"op":"add","path":"/tags/-","value":"red"}]')
 WHERE id = 1;
 UPDATE documents SET version = version + 1,
-    document = json_patch_apply(document, '[{"op":"test","path":"/stock","value":5},{"op":"replace","path":"/stock","value":4}]')
+    document = json_patch_apply(document, '[{"op":"test","path":"/stock","value":5},{"op":"replace","path":"/price","value":9.90}]')
 WHERE id = 1;
 SELECT version, document FROM documents;
 SELECT version, patch FROM undos;
