@@ -1,5 +1,5 @@
 -- The marks of an index: what they say of a name, and what stays of them when a seam comes behind the last or is taken out.
-use Rattle.std.proofs.Common.{◌≡◌, ℕ, zero, suc, ◌<◌, ◌≤◌, ◌⊎◌, inl, inr, Bool, true, false, cond, List, [], ◌∷◌, ◌++◌, length, get_or, Option, Some, None, eqb, eqb-true, ltb, ltb-false, ltb-true, not, refl, sym, ap, ap₂, ◌∙◌, subst, arith}
+use Rattle.std.proofs.Common.{◌≡◌, ℕ, zero, suc, ◌+◌, ◌<◌, ◌≤◌, ◌^◌, ◌⊎◌, inl, inr, Bool, true, false, cond, List, [], ◌∷◌, ◌++◌, length, get_or, Option, Some, None, eqb, eqb-true, ltb, ltb-false, ltb-true, not, refl, sym, ap, ap₂, ◌∙◌, subst, arith}
 use Rattle.std.specs.Prelude.{IfSome, OnOk, Result, Ok, Err, is_ok, option_map}
 use Rattle.std.specs.Option.{option_eq}
 use Rattle.std.specs.List.{remove}
@@ -13,6 +13,7 @@ use Rattle.std.proofs.lemmas.Option.{none-some, same_Some}
 use Rattle.std.proofs.lemmas.Slice.Eq.{bytes_eq-Decides}
 use Rattle.json_lexemes.specs.Found.{or_else}
 use Rattle.json_text.specs.Rows.{Child, last_named}
+use Rattle.long_vec.specs.Items.{items_of}
 use Rattle.json_pieces.specs.Marks.{AreMarks, Fits, Keys, names_of, with_key}
 use Rattle.json_pieces.specs.declared.index.Mark.{Mark}
 use Rattle.json_pieces.specs.declared.index.NameIndex.{NameIndex}
@@ -220,29 +221,36 @@ at_latest cs ms g top k i key is bound point a =
 
 -- ---- what is written to an index
 
-pub index_learnt : (x y : NameIndex) (n : List ℕ) (earlier : Option ℕ) → y.marks.items ≡ x.marks.items ++ record { key = x.next; earlier = earlier } ∷ [] → earlier ≡ get_by_text x.latest n → ((k : List ℕ) → get_by_text y.latest k ≡ with_key (get_by_text x.latest) n x.next k) → x.next < y.next
+pub index_learnt : (x y : NameIndex) (n : List ℕ) (earlier : Option ℕ) → items_of y.marks ≡ items_of x.marks ++ record { key = x.next; earlier = earlier } ∷ [] → earlier ≡ get_by_text x.latest n → ((k : List ℕ) → get_by_text y.latest k ≡ with_key (get_by_text x.latest) n x.next k) → x.next < y.next
     → (ns : List (List ℕ)) → Fits x ns → Fits y (ns ++ n ∷ [])
 index_learnt x y n earlier marks is learns up ns h =
     subst (λ ms. AreMarks (λ k. None) 0 (ns ++ n ∷ []) ms (get_by_text y.latest) y.next) (sym marks)
-    (marks_pushed (λ k. None) 0 ns x.marks.items (get_by_text x.latest) x.next n (record { key = x.next; earlier = earlier }) (get_by_text y.latest) y.next refl is learns up h)
+    (marks_pushed (λ k. None) 0 ns (items_of x.marks) (get_by_text x.latest) x.next n (record { key = x.next; earlier = earlier }) (get_by_text y.latest) y.next refl is learns up h)
 
-pub index_without : (x y : NameIndex) (n : List ℕ) (i : ℕ) (m : Mark) (earlier : Option ℕ) → i < length x.marks.items → m ≡ get_or x.marks.items i m → y.marks.items ≡ remove x.marks.items i → get_by_text x.latest n ≡ Some m.key → m.earlier ≡ earlier → ((k : List ℕ) → get_by_text y.latest k ≡ cond (bytes_eq n k) earlier (get_by_text x.latest k)) → y.next ≡ x.next
+pub index_without : (x y : NameIndex) (n : List ℕ) (i : ℕ) (m : Mark) (earlier : Option ℕ) → i < length (items_of x.marks) → m ≡ get_or (items_of x.marks) i m → items_of y.marks ≡ remove (items_of x.marks) i → get_by_text x.latest n ≡ Some m.key → m.earlier ≡ earlier → ((k : List ℕ) → get_by_text y.latest k ≡ cond (bytes_eq n k) earlier (get_by_text x.latest k)) → y.next ≡ x.next
     → (ns : List (List ℕ)) → Fits x ns → Fits y (remove ns i)
 index_without x y n i m earlier l at marks last is gone next ns h =
     subst (λ ms. AreMarks (λ k. None) 0 (remove ns i) ms (get_by_text y.latest) y.next) (sym marks)
-    (subst (AreMarks (λ k. None) 0 (remove ns i) (remove x.marks.items i) (get_by_text y.latest)) (sym next)
-    (marks_taken (λ k. None) 0 ns x.marks.items (get_by_text x.latest) x.next (get_by_text y.latest) n i m (λ k key e. absurd (none-some key e)) l at last (λ k. gone k ∙ ap (λ o. cond (bytes_eq n k) o (get_by_text x.latest k)) (sym is)) h))
+    (subst (AreMarks (λ k. None) 0 (remove ns i) (remove (items_of x.marks) i) (get_by_text y.latest)) (sym next)
+    (marks_taken (λ k. None) 0 ns (items_of x.marks) (get_by_text x.latest) x.next (get_by_text y.latest) n i m (λ k key e. absurd (none-some key e)) l at last (λ k. gone k ∙ ap (λ o. cond (bytes_eq n k) o (get_by_text x.latest k)) (sym is)) h))
 
 -- ---- what is read of it
 
 pub named_none : (x : NameIndex) (k : List ℕ) (r : Option ℕ) → get_by_text x.latest k ≡ None → r ≡ None → (cs : List Child) → Fits x (names_of cs) → r ≡ last_named k cs
-named_none x k r none e cs h = none_latest cs x.marks.items (get_by_text x.latest) x.next k r none e h
+named_none x k r none e cs h = none_latest cs (items_of x.marks) (get_by_text x.latest) x.next k r none e h
 
-pub named_at : (x : NameIndex) (ms : List Mark) (k : List ℕ) (i key : ℕ) → ms ≡ x.marks.items → get_by_text x.latest k ≡ Some key → i ≤ length ms
-    → (IsPartitionedBy (λ m. ltb m.key key) ms → IsPartitionPoint (λ m. ltb m.key key ≡ true) (λ m. ltb m.key key ≡ false) ms i)
+-- no more marks than keys
+marks_fit : (f : Keys) (low : ℕ) (ns : List (List ℕ)) (ms : List Mark) (g : Keys) (top : ℕ) → AreMarks f low ns ms g top → low + length ms ≤ top
+marks_fit f low [] [] g top h = omega (arith, h.0)
+marks_fit f low [] (m ∷ ms) g top h = absurd h
+marks_fit f low (n ∷ ns) [] g top h = absurd h
+marks_fit f low (n ∷ ns) (m ∷ ms) g top h = omega (arith, h.0, marks_fit (with_key f n m.key) (suc m.key) ns ms g top h.2)
+
+pub named_at : (x : NameIndex) (k : List ℕ) (i key : ℕ) → x.next < 2 ^ 64 → get_by_text x.latest k ≡ Some key → i ≤ length (items_of x.marks)
+    → (length (items_of x.marks) < 2 ^ 64 → IsPartitionedBy (λ m. ltb m.key key) (items_of x.marks) → IsPartitionPoint (λ m. ltb m.key key ≡ true) (λ m. ltb m.key key ≡ false) (items_of x.marks) i)
     → (cs : List Child) → Fits x (names_of cs) → Some i ≡ last_named k cs
-named_at x ms k i key e is bound point cs h =
-    at_latest cs ms (get_by_text x.latest) x.next k i key is bound point (subst (λ l. AreMarks (λ k. None) 0 (names_of cs) l (get_by_text x.latest) x.next) (sym e) h)
+named_at x k i key small is bound point cs h =
+    at_latest cs (items_of x.marks) (get_by_text x.latest) x.next k i key is bound (point (omega (arith, small, marks_fit (λ k. None) 0 (names_of cs) (items_of x.marks) (get_by_text x.latest) x.next h))) h
 
 -- ---- what tests tell
 

@@ -1,5 +1,5 @@
 -- The index of the names: it stays that of its seams.
-use Rattle.std.proofs.Common.{◌≡◌, ℕ, zero, suc, ◌+◌, ◌<◌, ◌≤◌, List, [], ◌∷◌, ◌++◌, length, take, get_or, vec_len, Option, Some, None, String, refl, sym, ap, ap₂, ◌∙◌, subst, arith}
+use Rattle.std.proofs.Common.{◌≡◌, ℕ, zero, suc, ◌+◌, ◌<◌, ◌≤◌, List, [], ◌∷◌, ◌++◌, length, take, get_or, Option, Some, None, String, refl, sym, ap, ap₂, ◌∙◌, subst, arith}
 use Rattle.std.specs.Prelude.{slice_set, IfSome, OnOk, Result}
 use Rattle.std.specs.declared.alloc.AllocError.{AllocError}
 use Rattle.std.specs.declared.alloc.Global.{Global}
@@ -13,6 +13,7 @@ use Rattle.std.proofs.lemmas.Result.{on_ok_weaker}
 use Rattle.json.specs.Json.{string}
 use Rattle.json_text.specs.Listing.{IsTextOf}
 use Rattle.json_text.specs.Rows.{Child, last_named}
+use Rattle.long_vec.specs.Items.{items_of}
 use Rattle.json_pieces.specs.Marks.{Fits, names_of}
 use Rattle.json_pieces.specs.Names.{Agrees, AreNames, AreSaid, IsIndexOf, text_bytes}
 use Rattle.json_pieces.specs.declared.index.NameIndex.{NameIndex}
@@ -83,9 +84,9 @@ pub put_behind : (ss : List Seam) (s : Seam) (i : ℕ) (x y : NameIndex) → i �
 put_behind ss s i x y e learns h =
     subst (λ o. IsIndexOf o y) (sym (ap₂ (λ a b. a ++ s ∷ b) (take_all i ss (omega (arith, e))) (drop_all i ss (omega (arith, e))))) (learns ss h)
 
-pub within_marks : (ss : List Seam) (o : Option NameIndex) (i : ℕ) → Agrees ss o → i < length ss → IfSome o (λ x. i < vec_len x.marks)
+pub within_marks : (ss : List Seam) (o : Option NameIndex) (i : ℕ) → Agrees ss o → i < length ss → IfSome o (λ x. i < length (items_of x.marks))
 within_marks ss None i h l = tt
-within_marks ss (Some x) i h l = ∥∥₁_elim h le_prop (λ p. omega (arith, l, said_count ss p.0 p.1, marks_count (λ k. None) 0 p.0 x.marks.items _ x.next p.2, x.marks.ok.0))
+within_marks ss (Some x) i h l = ∥∥₁_elim h le_prop (λ p. omega (arith, l, said_count ss p.0 p.1, marks_count (λ k. None) 0 p.0 (items_of x.marks) _ x.next p.2))
 
 pub taken : (ss : List Seam) (i : ℕ) (x y : NameIndex) → ((ns : List (List ℕ)) → Fits x ns → Fits y (remove ns i)) → IsIndexOf ss x → IsIndexOf (remove ss i) y
 taken ss i x y fits h = ∥∥₁_map h (λ p. (remove p.0 i, said_taken ss p.0 i p.1, fits p.0 p.2))

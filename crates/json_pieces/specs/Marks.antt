@@ -3,6 +3,7 @@ use Rattle.std.specs.Prelude.{◌≡◌, ◌≤◌, ℕ, suc, List, [], ◌∷�
 use Rattle.std.specs.BTreeMap.{get_by_text}
 use Rattle.std.specs.Str.{bytes_eq}
 use Rattle.json_text.specs.Rows.{Child}
+use Rattle.long_vec.specs.Items.{items_of}
 use Rattle.json_pieces.specs.declared.index.Mark.{Mark}
 use Rattle.json_pieces.specs.declared.index.NameIndex.{NameIndex}
 
@@ -26,4 +27,4 @@ AreMarks f low (n ∷ ns) (m ∷ ms) g top = (low ≤ m.key) × (m.earlier ≡ f
 
 -- the index is that of seams of these names
 abbrev pub Fits : NameIndex → List (List ℕ) → Type 0
-Fits x ns = AreMarks (λ k. None) 0 ns x.marks.items (get_by_text x.latest) x.next
+Fits x ns = AreMarks (λ k. None) 0 ns (items_of x.marks) (get_by_text x.latest) x.next

@@ -1,11 +1,13 @@
 //! Where each name of a row stands, kept while seams are put in and taken out.
 
-ghost use Rattle.std.specs.Prelude.{◌≡◌, ◌<◌, ◌∷◌, ◌++◌, [], List, ℕ, true, vec_len, OnOk};
+ghost use Rattle.std.specs.Prelude.{◌≡◌, ◌<◌, ◌∷◌, ◌++◌, [], List, ℕ, length, true, OnOk};
 ghost use Rattle.std.specs.String.{string_bytes};
 ghost use Rattle.std.specs.List.{remove};
 ghost use Rattle.json_pieces.specs.Marks.{Fits, names_of};
 ghost use Rattle.json_text.specs.Rows.{Child, last_named};
+ghost use Rattle.long_vec.specs.Items.{items_of};
 
+use long_vec::LongVec;
 use std::alloc::{AllocError, Global};
 use std::collections::BTreeMap;
 
@@ -23,7 +25,7 @@ pub(crate) struct Mark {
 pub(crate) struct NameIndex {
     /// The key of the last seam of each name.
     latest: BTreeMap<String, usize>,
-    marks: Vec<Mark>,
+    marks: LongVec<Mark>,
     /// The key of the seam that comes next.
     next: usize,
 }
@@ -35,7 +37,7 @@ impl NameIndex {
     {
         NameIndex {
             latest: BTreeMap::new(alloc),
-            marks: Vec::new(alloc),
+            marks: LongVec::new(alloc),
             next: 0,
         }
     }
@@ -45,7 +47,9 @@ impl NameIndex {
         ensures { (cs : List Child) → Fits self.now (names_of cs) → result ≡ last_named name.now cs }
     {
         let key = self.latest.get(name).copied()?;
-        Some(self.marks.as_slice().partition_point(|mark| mark.key < key))
+        // There are no more marks than keys, so their number fits a `usize`.
+        let _fits = self.next;
+        Some(self.marks.partition_point(|mark| mark.key < key))
     }
 
     /// Learns the name of a seam that comes behind the last.
@@ -68,7 +72,7 @@ impl NameIndex {
     /// Forgets the seam of this number, if it is the last of this name. Else the index is spoilt. It
     /// asks for no memory.
     pub(crate) fn forget(&mut self, name: &str, number: usize) -> bool
-        requires { number < vec_len self.old.marks }
+        requires { number < length (items_of self.old.marks) }
         ensures { result ≡ true → (ns : List (List ℕ)) → Fits self.old ns
             → Fits self.new (remove ns number) }
     {

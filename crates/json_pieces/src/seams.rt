@@ -8,6 +8,7 @@ ghost use Rattle.json_pieces.specs.Names.{Agrees, Agrees-prop, AreNames, IsIndex
 ghost use Rattle.json_pieces.specs.declared.seams.Seam.{Seam};
 ghost use Rattle.json_text.specs.Listing.{IsTextOf};
 ghost use Rattle.json_text.specs.Rows.{Child, last_named};
+ghost use Rattle.long_vec.specs.Items.{items_of};
 
 use crate::index::NameIndex;
 use crate::text::Text;
@@ -117,7 +118,7 @@ fn index_with(
 /// The index, if there is one, once the last seam of this name, which has this number, is taken out. Of
 /// another seam it is dropped.
 fn index_without(index: Option<NameIndex>, name: &str, number: usize) -> Option<NameIndex>
-    requires { IfSome index (λ x. number < vec_len x.marks) }
+    requires { IfSome index (λ x. number < length (items_of x.marks)) }
     ensures { (ss : List Seam) → Agrees ss index → Agrees (remove ss number) result }
 {
     let mut index = index?;

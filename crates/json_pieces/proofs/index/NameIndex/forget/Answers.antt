@@ -1,4 +1,4 @@
-use Rattle.std.proofs.Common.{◌≡◌, ◌∙◌, arith, refl, rules, sym, Some}
+use Rattle.std.proofs.Common.{◌≡◌, ◌∙◌, refl, rules, sym, Some}
 use Rattle.std.specs.BTreeMap.{get_by_text}
 use Rattle.std.proofs.lemmas.Map.Text.{btree_map_updates_text}
 use Rattle.json_pieces.specs.declared.index.NameIndex.{NameIndex}
@@ -11,7 +11,7 @@ returns-in_default c = λ done.
     let n = c.args.name.now in
     let new : NameIndex = record { latest = c.remove.new.self; marks = c.remove-mark.new.self; next = x.next } in
     let last : get_by_text x.latest n ≡ Some c.remove-mark.result.key = sym c.get.ensures.value ∙ sym c.copied.ensures ∙ is_same c.copied.result c.remove-mark.result.key c.if-ne.ensures in
-    index_without x new n c.args.number c.remove-mark.result _ (omega (arith, x.marks.ok.0, c.requires)) c.remove-mark.ensures.value c.remove-mark.ensures.items last c.in_default.is
+    index_without x new n c.args.number c.remove-mark.result _ c.requires c.remove-mark.ensures.value c.remove-mark.ensures.items last c.in_default.is
     (btree_map_updates_text n x.latest c.remove.new.self _ c.remove.ensures.updates) refl
 
 pub returns : goal.returns
@@ -21,5 +21,5 @@ returns c = λ done.
     let e = c.in-Some.earlier in
     let new : NameIndex = record { latest = c.get_mut.follows.lender e; marks = c.remove-mark.new.self; next = x.next } in
     let last : get_by_text x.latest n ≡ Some c.remove-mark.result.key = sym c.get.ensures.value ∙ sym c.copied.ensures ∙ is_same c.copied.result c.remove-mark.result.key c.if-ne.ensures in
-    index_without x new n c.args.number c.remove-mark.result (Some e) (omega (arith, x.marks.ok.0, c.requires)) c.remove-mark.ensures.value c.remove-mark.ensures.items last c.in-Some.is
+    index_without x new n c.args.number c.remove-mark.result (Some e) c.requires c.remove-mark.ensures.value c.remove-mark.ensures.items last c.in-Some.is
     (btree_map_updates_text n x.latest (c.get_mut.follows.lender e) (Some e) ((c.get_mut.follows.holds e).3 (search rules))) refl

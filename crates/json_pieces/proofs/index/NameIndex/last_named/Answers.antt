@@ -1,4 +1,4 @@
-use Rattle.std.proofs.Common.{◌∙◌, ltb, of_calls, rules, sym}
+use Rattle.std.proofs.Common.{◌∙◌, arith, ltb, of_calls, rules, sym}
 use Rattle.std.proofs.lemmas.Fn.{always_returns_same}
 use Rattle.json_pieces.proofs.Marks.{named_at, named_none}
 use Rattle.json_pieces.proofs.index.NameIndex.last_named.Goals as goal
@@ -8,5 +8,5 @@ returns-in_err-key c = named_none c.args.self.now c.args.name.now c.from_residua
 
 pub returns : goal.returns
 returns c =
-    named_at c.args.self.now c.as_slice.result.now c.args.name.now c.partition_point.result c.in_ok-key.key c.as_slice.ensures.value (sym c.get.ensures.value ∙ sym c.copied.ensures ∙ c.in_ok-key.was)
-    c.partition_point.ensures.bound (c.partition_point.ensures.partitioned (λ m. ltb m.key c.in_ok-key.key) (always_returns_same _ _ _ (λ a r f k. search (rules, of_calls))))
+    named_at c.args.self.now c.args.name.now c.partition_point.result c.in_ok-key.key (omega arith) (sym c.get.ensures.value ∙ sym c.copied.ensures ∙ c.in_ok-key.was)
+    c.partition_point.ensures.bound (λ small. c.partition_point.ensures.partitioned small (λ m. ltb m.key c.in_ok-key.key) (always_returns_same _ _ _ (λ a r f k. search (rules, of_calls))))
