@@ -5,8 +5,11 @@ mod carry;
 mod growth;
 mod places;
 mod search;
+mod walk;
 
-ghost use Rattle.std.specs.Prelude.{◌≡◌, ◌<◌, ◌≤◌, [], ℕ, insert, length, slice_index_or, slice_set};
+pub use walk::Items;
+
+ghost use Rattle.std.specs.Prelude.{◌≡◌, ◌<◌, ◌≤◌, ◌+◌, [], ℕ, insert, length, slice_index_or, slice_set};
 ghost use Rattle.std.specs.List.{remove};
 ghost use Rattle.long_vec.specs.Blocks.{items_in, IsAt};
 ghost use Rattle.long_vec.specs.Items.{items_of, capacity_of};
@@ -29,6 +32,11 @@ impl<T> LongVec<T> {
         LongVec {
             blocks: Vec::new(alloc),
         }
+    }
+
+    /// What it asks for memory.
+    pub fn allocator(&self) -> &Global {
+        self.blocks.allocator()
     }
 
     /// The blocks, for a loop over all items: one over the blocks, and one over each of them.
@@ -71,6 +79,7 @@ impl<T> LongVec<T> {
         requires { number < length (items_of self.old) }
         ensures value { result ≡ slice_index_or (items_of self.old) number result }
         ensures items { items_of self.new ≡ remove (items_of self.old) number }
+        ensures len { length (items_of self.new) + 1 ≡ length (items_of self.old) }
         ensures capacity { capacity_of self.new ≡ capacity_of self.old }
         // So it can be put back.
         ensures room { length (items_of self.new) < capacity_of self.new }
