@@ -1,9 +1,10 @@
 -- The seams and the values of a row, by number.
-use Rattle.std.proofs.Common.{◌≡◌, ℕ, zero, suc, ◌+◌, ◌<◌, Bool, List, [], ◌∷◌, ◌++◌, length, take, drop, get_or, map, refl, sym, ap, ap₂, ◌∙◌, subst, arith, append_assoc, append-nil}
-use Rattle.std.specs.Prelude.{slice_set}
-use Rattle.std.proofs.Math.Seq.{take-length}
+use Rattle.std.proofs.Common.{◌≡◌, ℕ, zero, suc, ◌<◌, Bool, List, [], ◌∷◌, ◌++◌, length, get_or, map, Option, Some, None, refl, sym, ap, ap₂, ◌∙◌, subst, arith, append_assoc, append-nil}
+use Rattle.std.specs.Prelude.{MatchOption, slice_set}
+use Rattle.std.proofs.lemmas.Option.{none-some}
 use Rattle.json_text.specs.Cuts.{Piece, closes, opens, piece_text, pieces_text, row_text}
-use Rattle.json_pieces.specs.Nodes.{AreSound, IsSound, Tree, lead_of, mark_before, text_bytes, parts_of, piece_with, pieces, tree_text, view}
+pub use Rattle.json_pieces.specs.Nodes.{AreSoundIn}
+use Rattle.json_pieces.specs.Nodes.{AreSound, IsFirstPart, IsSound, Tree, lead_of, text_bytes, parts_of, piece_with, pieces, tree_text, view}
 use Rattle.json_pieces.specs.declared.node.Node.{Node}
 use Rattle.json_pieces.specs.declared.seams.Seam.{Seam}
 use Rattle.json_pieces.specs.PieceLists.{with_value}
@@ -28,21 +29,20 @@ count_views (v ∷ vs) = ap suc (count_views vs)
 abbrev pub pieces_in : List Seam → List Node → List Piece
 pieces_in ss vs = pieces (parts_of ss (map view vs))
 
-abbrev pub AreSoundIn : List Seam → List Node → Type 0
-AreSoundIn ss vs = AreSound (parts_of ss (map view vs))
-
 pub seams_are : (ss : List Seam) (vs : List Node) → AreSoundIn ss vs → length ss ≡ length vs
 seams_are ss vs h = seams_count ss (map view vs) h ∙ count_views vs
 
 pub pieces_are : (ss : List Seam) (vs : List Node) → AreSoundIn ss vs → length (pieces_in ss vs) ≡ length vs
 pieces_are ss vs h = parts_count ss (map view vs) h ∙ count_views vs
 
-pub nth : (ss : List Seam) (vs : List Node) (i : ℕ) (s : Seam) (v : Node) → AreSoundIn ss vs → i < length vs → s ≡ get_or ss i s → v ≡ get_or vs i v → drop i (pieces_in ss vs) ≡ piece_with s (tree_text (view v)) ∷ drop (suc i) (pieces_in ss vs)
-nth [] [] i s v h l e f = absurd (omega (arith, l))
-nth [] (w ∷ vs) i s v h l e f = absurd h
-nth (t ∷ ss) [] i s v h l e f = absurd h
-nth (t ∷ ss) (w ∷ vs) zero s v h l e f = ap₂ (λ x y. piece_with x (tree_text (view y)) ∷ pieces_in ss vs) (sym e) (sym f)
-nth (t ∷ ss) (w ∷ vs) (suc i) s v h l e f = nth ss vs i s v h.1 (omega (arith, l)) e f
+-- with no seam there is no value
+pub none_left : (ss : List Seam) (vs : List Node) → ss ≡ [] → AreSoundIn ss vs → vs ≡ []
+none_left ss [] e h = refl
+none_left ss (v ∷ vs) e h = absurd (omega (arith, seams_are ss (v ∷ vs) h, ap length e))
+
+pub none_said : {T A : Type 0} (P : T → Type 0) (o : Option T) → o ≡ None → A → MatchOption o A P
+none_said P None e a = a
+none_said P (Some x) e a = absurd (none-some x (sym e))
 
 pub value_sound : (ss : List Seam) (vs : List Node) (i : ℕ) (v : Node) → AreSoundIn ss vs → i < length vs → v ≡ get_or vs i v → IsSound (view v)
 value_sound [] [] i v h l f = absurd (omega (arith, l))
@@ -75,34 +75,6 @@ set_sound (t ∷ ss) [] i v h k = absurd h
 set_sound (t ∷ ss) (w ∷ vs) zero v h k = (k, h.1)
 set_sound (t ∷ ss) (w ∷ vs) (suc i) v h k = (h.0, set_sound ss vs i v h.1 k)
 
--- ---- one part more is written
-
-mark_at : ℕ → ℕ → ℕ
-mark_at x zero = x
-mark_at x (suc i) = 44
-
-take_more : (x i : ℕ) (p : Piece) (ps : List Piece) → drop i ps ≡ p ∷ drop (suc i) ps → pieces_text x (take (suc i) ps) ≡ pieces_text x (take i ps) ++ (mark_at x i ∷ piece_text p)
-unfolding mark_at
-take_more x zero p [] e = absurd (omega (arith, ap length e))
-take_more x (suc i) p [] e = absurd (omega (arith, ap length e))
-take_more x zero p (q ∷ ps) e =
-    let same : q ≡ p = ap (λ l. get_or l 0 p) e in
-    ap (λ y. x ∷ y) (append-nil (piece_text q)) ∙ ap (λ y. x ∷ piece_text y) same
-take_more x (suc zero) p (q ∷ ps) e = ap (λ l. x ∷ (piece_text q ++ l)) (take_more 44 zero p ps e) ∙ ap (λ l. x ∷ l) (sym (ap (λ l. l ++ (44 ∷ piece_text p)) (append-nil (piece_text q))))
-take_more x (suc (suc i)) p (q ∷ ps) e = ap (λ l. x ∷ (piece_text q ++ l)) (take_more 44 (suc i) p ps e) ∙ ap (λ l. x ∷ l) (sym (append_assoc (piece_text q) (pieces_text 44 (take (suc i) ps)) (44 ∷ piece_text p)))
-
-mark_is : (b : Bool) (i : ℕ) → mark_at (opens b) i ≡ mark_before b i
-unfolding mark_at
-mark_is b zero = refl
-mark_is b (suc i) = refl
-
-pub part_more : (b : Bool) (ss : List Seam) (vs : List Node) (i k : ℕ) (s : Seam) (v : Node) → k ≡ i + 1 → AreSoundIn ss vs → i < length vs → s ≡ get_or ss i s → v ≡ get_or vs i v
-    → pieces_text (opens b) (take k (pieces_in ss vs)) ≡ pieces_text (opens b) (take i (pieces_in ss vs)) ++ (mark_before b i ∷ piece_text (piece_with s (tree_text (view v))))
-part_more b ss vs i k s v is h l e f =
-    let n : k ≡ suc i = omega (arith, is) in
-    ap (λ m. pieces_text (opens b) (take m (pieces_in ss vs))) n ∙ take_more (opens b) i (piece_with s (tree_text (view v))) (pieces_in ss vs) (nth ss vs i s v h l e f)
-    ∙ ap (λ m. pieces_text (opens b) (take i (pieces_in ss vs)) ++ (m ∷ piece_text (piece_with s (tree_text (view v))))) (mark_is b i)
-
 -- ---- a row is written
 
 pub no_pieces : (ss : List Seam) (vs : List Node) → length vs ≡ 0 → pieces_in ss vs ≡ []
@@ -113,29 +85,31 @@ no_pieces ss (v ∷ vs) e = absurd (omega (arith, e))
 pub hollow_written : (b : Bool) (hollow new old : List ℕ) (ss : List Seam) (vs : List Node) → length vs ≡ 0 → new ≡ old ++ row_text b hollow [] → new ≡ old ++ row_text b hollow (pieces_in ss vs)
 hollow_written b hollow new old ss vs e h = h ∙ ap (λ ps. old ++ row_text b hollow ps) (sym (no_pieces ss vs e))
 
--- the mark, the lead, the value and the trail of one part more
-pub one_written : (b : Bool) (ss : List Seam) (vs : List Node) (i k : ℕ) (s : Seam) (v : Node) (old out m a c new : List ℕ) → k ≡ i + 1 → AreSoundIn ss vs → i < length vs → s ≡ get_or ss i s → v ≡ get_or vs i v
-    → out ≡ old ++ pieces_text (opens b) (take i (pieces_in ss vs)) → m ≡ out ++ (mark_before b i ∷ []) → a ≡ m ++ lead_of s → c ≡ a ++ tree_text (view v) → new ≡ c ++ text_bytes s.trail
-    → new ≡ old ++ pieces_text (opens b) (take k (pieces_in ss vs))
-one_written b ss vs i k s v old out m a c new is h l e f o p q r t =
-    let x = pieces_text (opens b) (take i (pieces_in ss vs)) in
-    let n = mark_before b i in
+-- the first of the parts that are left is written: its mark, its lead, its value and its trail
+pub one_written : (x y : ℕ) (ss rest : List Seam) (vs behind : List Node) (s : Seam) (v : Node) (whole out m a c new : List ℕ) → IsFirstPart ss vs s v rest behind → y ≡ 44
+    → out ++ pieces_text x (pieces_in ss vs) ≡ whole → m ≡ out ++ (x ∷ []) → a ≡ m ++ lead_of s → c ≡ a ++ tree_text (view v) → new ≡ c ++ text_bytes s.trail
+    → new ++ pieces_text y (pieces_in rest behind) ≡ whole
+one_written x y ss rest vs behind s v whole out m a c new f comma o p q r t =
     let lead = lead_of s in
     let value = tree_text (view v) in
     let trail = text_bytes s.trail in
-    t ∙ ap (λ y. y ++ trail) (r ∙ ap (λ y. y ++ value) (q ∙ ap (λ y. y ++ lead) (p ∙ ap (λ y. y ++ (n ∷ [])) o)))
-    ∙ append_assoc (((old ++ x) ++ (n ∷ [])) ++ lead) value trail ∙ append_assoc ((old ++ x) ++ (n ∷ [])) lead (value ++ trail) ∙ append_assoc (old ++ x) (n ∷ []) (lead ++ (value ++ trail)) ∙ append_assoc old x (n ∷ (lead ++ (value ++ trail)))
-    ∙ ap (λ y. old ++ (x ++ (n ∷ y))) (lead_first s value)
-    ∙ ap (λ y. old ++ y) (sym (part_more b ss vs i k s v is h l e f))
+    let later = pieces_text y (pieces_in rest behind) in
+    ap (λ z. z ++ later) (t ∙ ap (λ z. z ++ trail) (r ∙ ap (λ z. z ++ value) (q ∙ ap (λ z. z ++ lead) p)))
+    ∙ append_assoc ((((out ++ (x ∷ [])) ++ lead) ++ value)) trail later ∙ append_assoc ((out ++ (x ∷ [])) ++ lead) value (trail ++ later) ∙ append_assoc (out ++ (x ∷ [])) lead (value ++ (trail ++ later)) ∙ append_assoc out (x ∷ []) (lead ++ (value ++ (trail ++ later)))
+    ∙ ap (λ z. out ++ (x ∷ z)) (lead_first s value later ∙ ap (λ n. piece_text (piece_with s value) ++ pieces_text n (pieces_in rest behind)) comma)
+    ∙ ap (λ ps. out ++ pieces_text x ps) (sym (ap₂ pieces_in f.seam f.value)) ∙ o
   where
-    lead_first : (s : Seam) (value : List ℕ) → lead_of s ++ (value ++ text_bytes s.trail) ≡ piece_text (piece_with s value)
-    lead_first s value = append_assoc (text_bytes s.whitespace) (text_bytes s.name ++ text_bytes s.colons) (value ++ text_bytes s.trail) ∙ ap (λ y. text_bytes s.whitespace ++ y) (append_assoc (text_bytes s.name) (text_bytes s.colons) (value ++ text_bytes s.trail))
+    lead_first : (s : Seam) (value later : List ℕ) → lead_of s ++ (value ++ (text_bytes s.trail ++ later)) ≡ piece_text (piece_with s value) ++ later
+    lead_first s value later =
+        append_assoc (text_bytes s.whitespace) (text_bytes s.name ++ text_bytes s.colons) (value ++ (text_bytes s.trail ++ later))
+        ∙ ap (λ y. text_bytes s.whitespace ++ y) (append_assoc (text_bytes s.name) (text_bytes s.colons) (value ++ (text_bytes s.trail ++ later)))
+        ∙ sym (append_assoc (text_bytes s.whitespace) _ later ∙ ap (λ y. text_bytes s.whitespace ++ y) (append_assoc (text_bytes s.name) _ later ∙ ap (λ y. text_bytes s.name ++ y) (append_assoc (text_bytes s.colons) _ later ∙ ap (λ y. text_bytes s.colons ++ y) (append_assoc value (text_bytes s.trail) later))))
 
-pub row_written : (b : Bool) (hollow old out new : List ℕ) (ss : List Seam) (vs : List Node) (i : ℕ) → AreSoundIn ss vs → 0 < length vs → i ≡ length vs → out ≡ old ++ pieces_text (opens b) (take i (pieces_in ss vs)) → new ≡ out ++ (closes b ∷ []) → new ≡ old ++ row_text b hollow (pieces_in ss vs)
-row_written b hollow old out new ss vs i h some is o p =
-    let count : i ≡ length (pieces_in ss vs) = is ∙ sym (pieces_are ss vs h) in
-    p ∙ ap (λ y. y ++ (closes b ∷ [])) (o ∙ ap (λ n. old ++ pieces_text (opens b) (take n (pieces_in ss vs))) count ∙ ap (λ y. old ++ pieces_text (opens b) y) (take-length (pieces_in ss vs)))
-    ∙ append_assoc old (pieces_text (opens b) (pieces_in ss vs)) (closes b ∷ []) ∙ ap (λ y. old ++ y) (some_row b hollow (pieces_in ss vs) (omega (arith, some, is, count)))
+pub row_written : (b : Bool) (x : ℕ) (hollow old out new : List ℕ) (ss left : List Seam) (vs behind : List Node) → AreSoundIn ss vs → 0 < length vs → behind ≡ [] → out ++ pieces_text x (pieces_in left behind) ≡ old ++ pieces_text (opens b) (pieces_in ss vs) → new ≡ out ++ (closes b ∷ []) → new ≡ old ++ row_text b hollow (pieces_in ss vs)
+row_written b x hollow old out new ss left vs behind h some none o p =
+    let all : out ≡ old ++ pieces_text (opens b) (pieces_in ss vs) = sym (append-nil out) ∙ ap (λ ps. out ++ pieces_text x ps) (sym (no_pieces left behind (ap length none))) ∙ o in
+    p ∙ ap (λ y. y ++ (closes b ∷ [])) all
+    ∙ append_assoc old (pieces_text (opens b) (pieces_in ss vs)) (closes b ∷ []) ∙ ap (λ y. old ++ y) (some_row b hollow (pieces_in ss vs) (omega (arith, some, pieces_are ss vs h)))
   where
     some_row : (b : Bool) (hollow : List ℕ) (ps : List Piece) → 0 < length ps → pieces_text (opens b) ps ++ (closes b ∷ []) ≡ row_text b hollow ps
     some_row b hollow [] l = absurd (omega (arith, l))

@@ -14,6 +14,7 @@ use Rattle.json_text.specs.Rows.{Child, tree_in}
 use Rattle.json_text.specs.declared.listing.Shape.{Shape}
 use Rattle.json_text.specs.declared.listing.Shape.TheVariants.{Object, Array}
 use Rattle.jsonptr.specs.Text.{Pointer}
+use Rattle.long_vec.specs.Items.{items_of}
 use Rattle.json_pieces.specs.Looks.{Looks}
 use Rattle.json_pieces.specs.Nodes.{IsSound, IsWhole, parts_of, row_view, text_bytes, tree_text, view, wide}
 use Rattle.json_pieces.specs.declared.node.Node.{Node}
@@ -43,25 +44,25 @@ pub array_shape : (r : Row) → IsSound (row_view r) → r.named ≡ false → (
 array_shape r h e j says = sym (in_array h.0.cs r.named e) ∙ ap shape_of (row_tree r h j says)
 
 -- no child has the name
-pub none_looked : (t k : List ℕ) (P : Pointer) (r : Row) → IsSound (row_view r) → k ≡ t → ((cs : List Child) → AllSuit r.named cs (pieces_in r.seams.list.items r.values.items) → child k (tree_in r.named cs) ≡ None)
+pub none_looked : (t k : List ℕ) (P : Pointer) (r : Row) → IsSound (row_view r) → k ≡ t → ((cs : List Child) → AllSuit r.named cs (pieces_in (items_of r.seams.all) (items_of r.values)) → child k (tree_in r.named cs) ≡ None)
     → (j : Json) → Says (tree_text (row_view r)) j → Looks (tree_text (row_view r)) j (t ∷ P) (tree_text (row_view r)) None
 none_looked t k P r h is none j says =
     let nothing : child t j ≡ None = subst (λ y. child y j ≡ None) is (subst (λ i. child k i ≡ None) (row_tree r h j says) (none h.0.cs h.0.suit)) in
     (refl, sym (ap (λ o. option_map shape_of (option_and_then (tree_at P) o)) nothing))
 
 -- the value of this number was looked at, and is w since
-module _ (r : Row) (n : ℕ) (v w : Node) (P : Pointer) (h : IsSound (row_view r)) (l : n < length r.values.items) (e : v ≡ get_or r.values.items n v) where
+module _ (r : Row) (n : ℕ) (v w : Node) (P : Pointer) (h : IsSound (row_view r)) (l : n < length (items_of r.values)) (e : v ≡ get_or (items_of r.values) n v) where
   pub still_sound : (c : Result (Option Shape) AllocError) → OnOk c (IsWhole (view w)) → IfOk c (λ found. (j : Json) → Says (tree_text (view v)) j → Looks (tree_text (view v)) j P (tree_text (view w)) found)
-      → OnOk c (IsSound (wide r.named r.length (text_bytes r.hollow) (parts_of r.seams.list.items (map view (slice_set r.values.items n w)))))
+      → OnOk c (IsSound (wide r.named r.length (text_bytes r.hollow) (parts_of (items_of r.seams.all) (map view (slice_set (items_of r.values) n w)))))
   still_sound (Ok found) whole looked =
       let (_, (j, is)) = value_whole r n v h l e in
       let (same, _) = looked j is.0 in
       set_is_sound r n v w h l e r.length whole (ap (λ s. r.length + length s) (sym same))
   still_sound (Err failed) whole looked = tt
 
-  pub looked_below : (c : Result (Option Shape) AllocError) (t k : List ℕ) → k ≡ t → ((cs : List Child) → AllSuit r.named cs (pieces_in r.seams.list.items r.values.items) → IsNumberOf r.named cs k n)
+  pub looked_below : (c : Result (Option Shape) AllocError) (t k : List ℕ) → k ≡ t → ((cs : List Child) → AllSuit r.named cs (pieces_in (items_of r.seams.all) (items_of r.values)) → IsNumberOf r.named cs k n)
       → IfOk c (λ found. (j : Json) → Says (tree_text (view v)) j → Looks (tree_text (view v)) j P (tree_text (view w)) found)
-      → IfOk c (λ found. (j : Json) → Says (tree_text (row_view r)) j → Looks (tree_text (row_view r)) j (t ∷ P) (row_text r.named (text_bytes r.hollow) (pieces_in r.seams.list.items (slice_set r.values.items n w))) found)
+      → IfOk c (λ found. (j : Json) → Says (tree_text (row_view r)) j → Looks (tree_text (row_view r)) j (t ∷ P) (row_text r.named (text_bytes r.hollow) (pieces_in (items_of r.seams.all) (slice_set (items_of r.values) n w))) found)
   looked_below c t k is names =
       IfOk-weaker c _ _ (λ found. set_makes r n v w h l e (λ text j new. Looks text j P new found) (λ text j new. Looks text j (t ∷ P) new found) t k is names (λ cs s. lift_looks r.named (text_bytes r.hollow) t n cs _ _ P found s))
 

@@ -1,10 +1,10 @@
 -- What a token names in a row.
-use Rattle.std.proofs.Common.{◌≡◌, ℕ, zero, suc, ◌+◌, ◌<◌, ◌≤◌, ◌^◌, Bool, true, false, cond, List, [], ◌∷◌, length, drop, get_or, Option, Some, None, option_and_then, refl, sym, ap, ap₂, ◌∙◌, subst, arith}
+use Rattle.std.proofs.Common.{◌≡◌, ℕ, zero, suc, ◌+◌, ◌<◌, ◌≤◌, ◌^◌, Bool, true, false, cond, List, [], ◌∷◌, length, take, drop, get_or, Option, Some, None, option_and_then, vec_len, Vec, Global, length-append, ◌-◌, ◌++◌, refl, sym, ap, ap₂, ◌∙◌, subst, arith}
 use Rattle.std.specs.Prelude.{MatchOption, IfSome, IfNone, option_map}
 use Rattle.std.specs.Bool.{Decides}
 use Rattle.std.specs.Str.{bytes_eq}
 use Rattle.std.proofs.lemmas.Bool.{true≢false}
-use Rattle.std.proofs.lemmas.List.{drop_all}
+use Rattle.std.proofs.lemmas.List.{drop-drop, drop_all, take-append-drop}
 use Rattle.std.proofs.lemmas.Option.{none-some}
 use Rattle.std.proofs.lemmas.Slice.Eq.{bytes_eq-Decides}
 use Rattle.json.specs.Json.{string}
@@ -19,6 +19,9 @@ use Rattle.json_text.specs.Pointed.{child}
 use Rattle.json_text.specs.Rows.{Child, elements_in, last_named, tree_in}
 use Rattle.json_text.proofs.Rows.Trees.{no_element, no_member}
 use Rattle.json_pieces.specs.Nodes.{AreNames, text_bytes}
+use Rattle.long_vec.specs.Blocks.{items_in}
+use Rattle.long_vec.proofs.Blocks.{items_around}
+use Rattle.long_vec.proofs.Handing.{items_before}
 use Rattle.json_pieces.specs.declared.node.Node.{Node}
 use Rattle.json_pieces.specs.declared.seams.Seam.{Seam}
 use Rattle.json_pieces.proofs.Lists.{AreSoundIn, pieces_in}
@@ -73,10 +76,12 @@ drop_next [] (suc i) c more e = absurd (omega (arith, ap length e))
 drop_next (d ∷ cs) zero c more e = ap (drop 1) e
 drop_next (d ∷ cs) (suc i) c more e = drop_next cs i c more e
 
-found_at : (cs : List Child) (i : ℕ) (k : List ℕ) → last_named k (drop i cs) ≡ Some zero → last_named k cs ≡ Some i
-found_at cs zero k e = e
-found_at [] (suc i) k e = absurd (none-some zero e)
-found_at (c ∷ cs) (suc i) k e = ap (λ o. or_else (option_map suc o) (cond (bytes_eq c.0 k) (Some zero) None)) (found_at cs i k e)
+found_at : (cs : List Child) (i m : ℕ) (k : List ℕ) → last_named k (drop i cs) ≡ Some m → last_named k cs ≡ Some (i + m)
+found_at cs zero m k e = let at : m ≡ zero + m = omega arith in e ∙ ap Some at
+found_at [] (suc i) m k e = absurd (none-some m e)
+found_at (c ∷ cs) (suc i) m k e =
+    let at : suc (i + m) ≡ suc i + m = omega arith in
+    ap (λ o. or_else (option_map suc o) (cond (bytes_eq c.0 k) (Some zero) None)) (found_at cs i m k e) ∙ ap Some at
 
 -- the one before those that were looked at has the name, or hasn't
 pub named_here : (ss : List Seam) (cs : List Child) (i m : ℕ) (k : List ℕ) (s : Seam) (is : Bool) → AreNames ss cs → i < length ss → m ≡ i + 1 → s ≡ get_or ss i s → ((l : List ℕ) → IsTextOf (text_bytes s.name) (string l) → Decides is (l ≡ k)) → last_named k (drop m cs) ≡ None
@@ -86,7 +91,8 @@ named_here ss cs i m k s is h l n e d none t =
     let same : c.0 ≡ k = (d c.0 text).0 t in
     let next : m ≡ suc i = omega (arith, n) in
     let rest : last_named k more ≡ None = ap (last_named k) (sym (drop_next cs i c more at) ∙ ap (λ x. drop x cs) (sym next)) ∙ none in
-    sym (found_at cs i k (ap (last_named k) at ∙ ap₂ (λ o b. or_else (option_map suc o) (cond b (Some zero) None)) rest (bytes_same c.0 k same)))
+    let here : i ≡ i + 0 = omega arith in
+    ap Some here ∙ sym (found_at cs i 0 k (ap (last_named k) at ∙ ap₂ (λ o b. or_else (option_map suc o) (cond b (Some zero) None)) rest (bytes_same c.0 k same)))
 
 pub not_here : (ss : List Seam) (cs : List Child) (i m : ℕ) (k : List ℕ) (s : Seam) (is : Bool) → AreNames ss cs → i < length ss → m ≡ i + 1 → s ≡ get_or ss i s → ((l : List ℕ) → IsTextOf (text_bytes s.name) (string l) → Decides is (l ≡ k)) → last_named k (drop m cs) ≡ None
     → is ≡ false → last_named k (drop i cs) ≡ None
@@ -95,6 +101,41 @@ not_here ss cs i m k s is h l n e d none f =
     let next : m ≡ suc i = omega (arith, n) in
     let rest : last_named k more ≡ None = ap (last_named k) (sym (drop_next cs i c more at) ∙ ap (λ x. drop x cs) (sym next)) ∙ none in
     ap (last_named k) at ∙ ap₂ (λ o b. or_else (option_map suc o) (cond b (Some zero) None)) rest (bytes_differ c.0 k (λ same. true≢false (sym ((d c.0 text).1 same) ∙ f)))
+
+-- ---- the same in blocks
+
+-- the names of the seams between others
+names_between : (xs ys zs : List Seam) (cs : List Child) → AreNames (xs ++ (ys ++ zs)) cs → AreNames ys (take (length ys) (drop (length xs) cs))
+names_between [] [] zs [] h = tt
+names_between [] [] zs (c ∷ cs) h = tt
+names_between [] (y ∷ ys) zs [] h = absurd h
+names_between [] (y ∷ ys) zs (c ∷ cs) h = (h.0, names_between [] ys zs cs h.1)
+names_between (x ∷ xs) ys zs [] h = absurd h
+names_between (x ∷ xs) ys zs (c ∷ cs) h = names_between xs ys zs cs h.1
+
+none_later : (k : List ℕ) (cs ds : List Child) → last_named k ds ≡ None → last_named k (cs ++ ds) ≡ last_named k cs
+none_later k [] ds e = e
+none_later k (c ∷ cs) ds e = ap (λ o. or_else (option_map suc o) (cond (bytes_eq c.0 k) (Some zero) None)) (none_later k cs ds e)
+
+module _ (bs : List (Vec Seam Global)) (i m : ℕ) (b : Vec Seam Global) (k : List ℕ) (block : i < length bs) (is : b ≡ get_or bs i b) (behind : m ≡ length (items_in (take (i + 1) bs))) where
+  pub before_block : m ≡ length (items_in (take i bs)) + vec_len b
+  before_block = behind ∙ ap length (items_before bs i b block is) ∙ length-append (items_in (take i bs)) b.items ∙ ap (λ n. length (items_in (take i bs)) + n) (sym b.ok.0)
+
+  -- what is the last of a name in the block is that from there on, where none stands behind the block
+  pub last_from : (n : ℕ) (cs : List Child) (r : Option ℕ) → n ≡ m - vec_len b → AreNames (items_in bs) cs → ((cs : List Child) → AreNames (items_in bs) cs → last_named k (drop m cs) ≡ None) → ((cs : List Child) → AreNames b.items cs → r ≡ last_named k cs)
+      → last_named k (drop n cs) ≡ r
+  last_from n cs r at h none there =
+      let p = items_in (take i bs) in
+      let start : n ≡ length p = omega (arith, at, before_block) in
+      let size : m ≡ n + length b.items = omega (arith, at, before_block, b.ok.0) in
+      let ds = drop n cs in
+      let later : last_named k (drop (length b.items) ds) ≡ None = ap (last_named k) (drop-drop (length b.items) n cs ∙ ap (λ x. drop x cs) (sym size)) ∙ none cs h in
+      let inside : AreNames b.items (take (length b.items) ds) = subst (λ x. AreNames b.items (take (length b.items) (drop x cs))) (sym start) (names_between p b.items (items_in (drop (suc i) bs)) cs (subst (λ l. AreNames l cs) (items_around bs i b block is) h)) in
+      ap (last_named k) (sym (take-append-drop (length b.items) ds)) ∙ none_later k (take (length b.items) ds) (drop (length b.items) ds) later ∙ sym (there (take (length b.items) ds) inside)
+
+  pub last_there : (n j : ℕ) (cs : List Child) → n ≡ m - vec_len b → AreNames (items_in bs) cs → ((cs : List Child) → AreNames (items_in bs) cs → last_named k (drop m cs) ≡ None) → ((cs : List Child) → AreNames b.items cs → Some j ≡ last_named k cs)
+      → Some (n + j) ≡ last_named k cs
+  last_there n j cs at h none there = sym (found_at cs n j k (last_from n cs (Some j) at h none there))
 
 -- ---- an element
 

@@ -1,10 +1,9 @@
 -- A text is opened: its parts, one after another.
-use Rattle.std.proofs.Common.{◌≡◌, ◌≢◌, inl, ℕ, zero, suc, ◌+◌, ◌<◌, ◌≤◌, Bool, true, false, List, [], ◌∷◌, ◌++◌, length, take, drop, get_or, Some, None, refl, sym, ap, ap₂, ◌∙◌, subst, arith, append_assoc, append-nil}
+use Rattle.std.proofs.Common.{◌≡◌, ◌≢◌, inl, ℕ, ◌<◌, ◌≤◌, Bool, true, false, List, [], ◌∷◌, ◌++◌, length, drop, Some, None, refl, sym, ap, ap₂, ◌∙◌, subst, arith, append_assoc, append-nil}
 use Rattle.std.specs.Prelude.{MatchOption}
 use Rattle.std.specs.Str.{IsUtf8, IsCharBoundary}
 use Rattle.std.proofs.lemmas.List.{get_or_default}
 use Rattle.std.proofs.lemmas.Str.{IsCharBoundary-after_ascii}
-use Rattle.std.proofs.lemmas.List.{take_all}
 use Rattle.json.specs.Json.{Json, null, boolean, number, string, array, object, Items, no_items, item, Members, no_members, member}
 use Rattle.json.specs.Lex.{between, lex, operator_lexeme}
 use Rattle.json.specs.Word.{is_operator, is_space}
@@ -19,11 +18,12 @@ use Rattle.json_text.proofs.Whitespace.{lexemes_behind}
 use Rattle.json_lexemes.proofs.FirstBytes.{operator_by_kind}
 use Rattle.json_text.proofs.Rows.Trees.{spelled_in}
 use Rattle.json_lexemes.proofs.Steps.{drop_step, operator_end, operator_left}
-use Rattle.json_pieces.specs.Nodes.{IsRow, IsRowOf, IsSound, shut, piece_with, row_view, text_bytes, tree_text, view}
+use Rattle.long_vec.specs.Items.{items_of}
+use Rattle.json_pieces.specs.Nodes.{IsFirstPart, IsRow, IsRowOf, IsSound, shut, piece_with, row_view, text_bytes, tree_text, view}
 use Rattle.json_pieces.specs.declared.node.Node.{Node}
 use Rattle.json_pieces.specs.declared.node.Row.{Row}
 use Rattle.json_pieces.specs.declared.seams.Seam.{Seam}
-use Rattle.json_pieces.proofs.Lists.{AreSoundIn, nth, pieces_are, pieces_in}
+use Rattle.json_pieces.proofs.Lists.{AreSoundIn, no_pieces, pieces_in}
 
 -- ---- the bracket
 
@@ -177,13 +177,13 @@ pub behind_mark : (t : List ℕ) (b : Bool) (cs : List Child) (ps : List Piece) 
 behind_mark t b cs ps from h s = ((tree_in b cs, h.0), h.1, s.left, s.begins)
 
 -- the row that is handed out
-pub row_made : (t : List ℕ) (b : Bool) (cs : List Child) (hollow : List ℕ) (ss : List Seam) (vs : List Node) (r : Row) → InParts t b cs hollow (pieces_in ss vs) → AreSoundIn ss vs → r.named ≡ b → r.length ≡ length t → text_bytes r.hollow ≡ hollow → r.seams.list.items ≡ ss → r.values.items ≡ vs → IsRowOf t r
+pub row_made : (t : List ℕ) (b : Bool) (cs : List Child) (hollow : List ℕ) (ss : List Seam) (vs : List Node) (r : Row) → InParts t b cs hollow (pieces_in ss vs) → AreSoundIn ss vs → r.named ≡ b → r.length ≡ length t → text_bytes r.hollow ≡ hollow → (items_of r.seams.all) ≡ ss → (items_of r.values) ≡ vs → IsRowOf t r
 row_made t b cs hollow ss vs r p h named size whitespace seams values =
-    let parts : pieces_in r.seams.list.items r.values.items ≡ pieces_in ss vs = ap₂ pieces_in seams values in
-    let sound : AreSoundIn r.seams.list.items r.values.items = subst (λ x. AreSoundIn x r.values.items) (sym seams) (subst (λ x. AreSoundIn ss x) (sym values) h) in
-    let here : InParts t r.named cs (text_bytes r.hollow) (pieces_in r.seams.list.items r.values.items) =
-    subst (λ x. InParts t x cs (text_bytes r.hollow) (pieces_in r.seams.list.items r.values.items)) (sym named) (subst (λ x. InParts t b cs x (pieces_in r.seams.list.items r.values.items)) (sym whitespace) (subst (InParts t b cs hollow) (sym parts) p)) in
-    row_of_parts t r.named cs (text_bytes r.hollow) r.length r.seams.list.items r.values.items here sound size
+    let parts : pieces_in (items_of r.seams.all) (items_of r.values) ≡ pieces_in ss vs = ap₂ pieces_in seams values in
+    let sound : AreSoundIn (items_of r.seams.all) (items_of r.values) = subst (λ x. AreSoundIn x (items_of r.values)) (sym seams) (subst (λ x. AreSoundIn ss x) (sym values) h) in
+    let here : InParts t r.named cs (text_bytes r.hollow) (pieces_in (items_of r.seams.all) (items_of r.values)) =
+    subst (λ x. InParts t x cs (text_bytes r.hollow) (pieces_in (items_of r.seams.all) (items_of r.values))) (sym named) (subst (λ x. InParts t b cs x (pieces_in (items_of r.seams.all) (items_of r.values))) (sym whitespace) (subst (InParts t b cs hollow) (sym parts) p)) in
+    row_of_parts t r.named cs (text_bytes r.hollow) r.length (items_of r.seams.all) (items_of r.values) here sound size
 
 -- ---- what is opened
 
@@ -234,25 +234,19 @@ row_text_of t b j h (cs, e) = (cs, subst (IsTextOf t) e h)
 
 -- ---- a row of texts of its own
 
-take_next : (i : ℕ) (p : Piece) (ps : List Piece) → drop i ps ≡ p ∷ drop (suc i) ps → take (suc i) ps ≡ take i ps ++ (p ∷ [])
-take_next zero p [] e = absurd (omega (arith, ap length e))
-take_next (suc i) p [] e = absurd (omega (arith, ap length e))
-take_next zero p (q ∷ ps) e = ap (λ x. x ∷ []) (ap (λ l. get_or l 0 p) e)
-take_next (suc i) p (q ∷ ps) e = ap (λ l. q ∷ l) (take_next i p ps e)
-
-pub one_owned : (ss own_seams new_seams : List Seam) (vs own_values new_values : List Node) (i k : ℕ) (s own : Seam) (v w : Node) (text : List ℕ) → k ≡ i + 1 → AreSoundIn ss vs → i < length vs → s ≡ get_or ss i s → v ≡ get_or vs i v
-    → AreSoundIn own_seams own_values → pieces_in own_seams own_values ≡ take i (pieces_in ss vs) → new_seams ≡ own_seams ++ (own ∷ []) → new_values ≡ own_values ++ (w ∷ []) → view w ≡ shut text → text ≡ tree_text (view v) → ((x : List ℕ) → piece_with own x ≡ piece_with s x)
-    → AreSoundIn new_seams new_values × (pieces_in new_seams new_values ≡ take k (pieces_in ss vs))
-one_owned ss own_seams new_seams vs own_values new_values i k s own v w text n h l e f g same p q seen is alike =
+pub one_owned : (ss rest own_seams new_seams : List Seam) (vs behind own_values new_values : List Node) (s own : Seam) (v w : Node) (text : List ℕ) (whole : List Piece) → IsFirstPart ss vs s v rest behind
+    → AreSoundIn own_seams own_values → pieces_in own_seams own_values ++ pieces_in ss vs ≡ whole → new_seams ≡ own_seams ++ (own ∷ []) → new_values ≡ own_values ++ (w ∷ []) → view w ≡ shut text → text ≡ tree_text (view v) → ((x : List ℕ) → piece_with own x ≡ piece_with s x)
+    → AreSoundIn new_seams new_values × (pieces_in new_seams new_values ++ pieces_in rest behind ≡ whole)
+one_owned ss rest own_seams new_seams vs behind own_values new_values s own v w text whole f g same p q seen is alike =
     let sound : AreSoundIn (own_seams ++ (own ∷ [])) (own_values ++ (w ∷ [])) = push_sound own_seams own_values own w g (subst IsSound (sym seen) tt) in
-    let next : k ≡ suc i = omega (arith, n) in (
+    let so_far = pieces_in own_seams own_values in (
       subst (λ x. AreSoundIn x new_values) (sym p) (subst (λ x. AreSoundIn (own_seams ++ (own ∷ [])) x) (sym q) sound),
-      ap₂ pieces_in p q ∙ push_pieces own_seams own_values own w g ∙ ap₂ (λ l x. l ++ (piece_with own (tree_text x) ∷ [])) same seen
-          ∙ ap (λ x. take i (pieces_in ss vs) ++ (x ∷ [])) (alike text ∙ ap (piece_with s) is) ∙ sym (take_next i (piece_with s (tree_text (view v))) (pieces_in ss vs) (nth ss vs i s v h l e f)) ∙ ap (λ m. take m (pieces_in ss vs)) (sym next),
+      ap (λ l. l ++ pieces_in rest behind) (ap₂ pieces_in p q ∙ push_pieces own_seams own_values own w g ∙ ap (λ x. so_far ++ (x ∷ [])) (ap (λ x. piece_with own (tree_text x)) seen ∙ alike text ∙ ap (piece_with s) is))
+          ∙ append_assoc so_far (piece_with s (tree_text (view v)) ∷ []) (pieces_in rest behind) ∙ ap (λ ps. so_far ++ ps) (sym (ap₂ pieces_in f.seam f.value)) ∙ same,
     )
 
-pub row_same : (r new : Row) (ss : List Seam) (vs : List Node) (i : ℕ) → IsSound (row_view r) → AreSoundIn ss vs → pieces_in ss vs ≡ take i (pieces_in r.seams.list.items r.values.items) → length r.values.items ≤ i → new.named ≡ r.named → new.length ≡ r.length → text_bytes new.hollow ≡ text_bytes r.hollow → new.seams.list.items ≡ ss → new.values.items ≡ vs → IsRowOf (tree_text (row_view r)) new
-row_same r new ss vs i h g same l named size whitespace seams values =
-    let all : pieces_in ss vs ≡ pieces_in r.seams.list.items r.values.items = same ∙ take_all i (pieces_in r.seams.list.items r.values.items) (omega (arith, pieces_are r.seams.list.items r.values.items h.1, l)) in
+pub row_same : (r new : Row) (ss left : List Seam) (vs behind : List Node) → IsSound (row_view r) → AreSoundIn ss vs → pieces_in ss vs ++ pieces_in left behind ≡ pieces_in (items_of r.seams.all) (items_of r.values) → behind ≡ [] → new.named ≡ r.named → new.length ≡ r.length → text_bytes new.hollow ≡ text_bytes r.hollow → items_of new.seams.all ≡ ss → items_of new.values ≡ vs → IsRowOf (tree_text (row_view r)) new
+row_same r new ss left vs behind h g same none named size whitespace seams values =
+    let all : pieces_in ss vs ≡ pieces_in (items_of r.seams.all) (items_of r.values) = sym (append-nil (pieces_in ss vs)) ∙ ap (λ ps. pieces_in ss vs ++ ps) (sym (no_pieces left behind (ap length none))) ∙ same in
     row_made (tree_text (row_view r)) r.named h.0.cs (text_bytes r.hollow) ss vs new
     (record { is = ap (row_text r.named (text_bytes r.hollow)) all; suit = subst (AllSuit r.named h.0.cs) (sym all) h.0.suit; whitespace = h.0.whitespace }) g named (size ∙ h.0.size) whitespace seams values

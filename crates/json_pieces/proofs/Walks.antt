@@ -3,6 +3,7 @@ use Rattle.std.proofs.Common.{◌≡◌, inl, inr, ℕ, zero, suc, ◌+◌, ◌<
 use Rattle.std.specs.Box.{with_value as boxed_with}
 use Rattle.std.specs.Prelude.{IfOk, IsSome, OnOk, Result, Ok, Err, String, slice_set}
 use Rattle.std.specs.declared.alloc.AllocError.{AllocError}
+use Rattle.std.proofs.lemmas.List.{set-set}
 use Rattle.std.proofs.lemmas.Result.{IfOk-weaker}
 use Rattle.std.specs.Borrow.{Bor}
 use Rattle.std.proofs.lemmas.Bool.{true≢false}
@@ -16,15 +17,16 @@ use Rattle.json_text.specs.Listing.{IsTextOf}
 use Rattle.json_text.specs.Pointed.{child, tree_at}
 use Rattle.json_text.specs.Rows.{Child, tree_in}
 use Rattle.json_lexemes.specs.Spelled.{Says}
+use Rattle.long_vec.specs.Items.{items_of}
 use Rattle.json_pieces.specs.Edits.{Alters, Changes, IsMade, IsReady, Makes, PutsIn, TakesOut}
-use Rattle.json_pieces.specs.Nodes.{IsOpened, IsSound, IsWhole, Tree, parts_of, row_view, shut, text_bytes, tree_text, view, wide}
+use Rattle.json_pieces.specs.Nodes.{IsOpened, IsRowOf, IsSound, IsWhole, Tree, parts_of, row_view, shut, text_bytes, tree_text, view, wide}
 use Rattle.json_pieces.specs.declared.edit.Edit.{Edit}
 use Rattle.json_pieces.specs.declared.edit.Edit.TheVariants.{Read, Put, Take, Insert}
 use Rattle.json_pieces.specs.declared.node.Node.{Node}
 use Rattle.json_pieces.specs.declared.node.Node.TheVariants.{Open, Closed}
 use Rattle.json_pieces.specs.declared.node.Row.{Row}
 use Rattle.json_pieces.specs.declared.text.Text.{Text}
-use Rattle.json_pieces.proofs.Levels.{view_closed, view_open}
+use Rattle.json_pieces.proofs.Levels.{row_sound, view_closed, view_open}
 use Rattle.json_pieces.specs.PieceLists.{with_value}
 use Rattle.json_pieces.proofs.Lifts.{lift, none_there}
 use Rattle.json_pieces.proofs.Lists.{pieces_are, pieces_in, set_pieces, set_sound, value_sound, value_there}
@@ -41,7 +43,7 @@ pub open_whole : (node : Node) (b : Box Row Global) → node ≡ Open b → IsSo
 open_whole node b e h = subst IsWhole (sym (ap view e ∙ view_open b)) (row_whole b.value h)
 
 pub open_sound : (node : Node) (b : Box Row Global) → node ≡ Open b → IsWhole (view node) → IsSound (row_view b.value)
-open_sound node b e h = (subst IsWhole (ap view e ∙ view_open b) h).0
+open_sound node b e h = row_sound node b e h.0
 
 -- what is known of the value stays known where its row is seen as before
 pub row_stays : {E : Type 0} (c : Result Unit E) (P : Tree → Type 0) (old new : Node) (b : Box Row Global) (r : Row) → old ≡ Open b → new ≡ Open (boxed_with b r) → row_view r ≡ row_view b.value → P (view old) → OnOk c (P (view new))
@@ -137,66 +139,78 @@ answered e text j new true (Some out) some none m = m (string_bytes out)
 answered e text j new true None some none m = absurd (true≢false (sym (some refl)))
 answered e text j new false found some none m = subst (Makes e text j [] new) (sym (none refl)) m
 
+-- ---- opened
+
+pub box_opened : (n : Node) (b : Box Row Global) (r : Row) → b.value ≡ r → IsWhole (view n) → IsRowOf (tree_text (view n)) r → IsWhole (view (Open b)) × (tree_text (view (Open b)) ≡ tree_text (view n))
+box_opened n b r is (sound, (j, text)) h =
+    let seen : view (Open b) ≡ row_view r = view_open b ∙ ap row_view is in
+    let same : tree_text (view (Open b)) ≡ tree_text (view n) = ap tree_text seen ∙ h.1 in
+    ((subst IsSound (sym seen) h.0, (j, subst (λ x. IsTextOf x j) (sym same) text)), same)
+
 -- ---- a child
 
 -- the value of this number is a whole one
-pub value_whole : (r : Row) (n : ℕ) (v : Node) → IsSound (row_view r) → n < length r.values.items → v ≡ get_or r.values.items n v → IsWhole (view v)
+pub value_whole : (r : Row) (n : ℕ) (v : Node) → IsSound (row_view r) → n < length (items_of r.values) → v ≡ get_or (items_of r.values) n v → IsWhole (view v)
 value_whole r n v h l e =
-    let at = has_text r.named n h.0.cs (pieces_in r.seams.list.items r.values.items) h.0.suit (omega (arith, pieces_are r.seams.list.items r.values.items h.1, l)) in
-    (value_sound r.seams.list.items r.values.items n v h.1 l e, (at.0, subst (λ x. IsTextOf x at.0) (value_there r.seams.list.items r.values.items n v h.1 l e) at.1))
+    let at = has_text r.named n h.0.cs (pieces_in (items_of r.seams.all) (items_of r.values)) h.0.suit (omega (arith, pieces_are (items_of r.seams.all) (items_of r.values) h.1, l)) in
+    (value_sound (items_of r.seams.all) (items_of r.values) n v h.1 l e, (at.0, subst (λ x. IsTextOf x at.0) (value_there (items_of r.seams.all) (items_of r.values) n v h.1 l e) at.1))
 
-pub value_low : (r : Row) (n m : ℕ) (v : Node) → IsSound (row_view r) → n < length r.values.items → v ≡ get_or r.values.items n v → m ≡ length (tree_text (view v)) → m ≤ r.length
+pub value_low : (r : Row) (n m : ℕ) (v : Node) → IsSound (row_view r) → n < length (items_of r.values) → v ≡ get_or (items_of r.values) n v → m ≡ length (tree_text (view v)) → m ≤ r.length
 value_low r n m v h l e is =
-    let low = value_fits r.named (text_bytes r.hollow) n r.length (pieces_in r.seams.list.items r.values.items) (omega (arith, pieces_are r.seams.list.items r.values.items h.1, l)) h.0.size in
-    omega (arith, low, is, ap length (value_there r.seams.list.items r.values.items n v h.1 l e))
+    let low = value_fits r.named (text_bytes r.hollow) n r.length (pieces_in (items_of r.seams.all) (items_of r.values)) (omega (arith, pieces_are (items_of r.seams.all) (items_of r.values) h.1, l)) h.0.size in
+    omega (arith, low, is, ap length (value_there (items_of r.seams.all) (items_of r.values) n v h.1 l e))
 
 -- the row with another value there
-module _ (r : Row) (n : ℕ) (v w : Node) (h : IsSound (row_view r)) (l : n < length r.values.items) (e : v ≡ get_or r.values.items n v) where
-  count : n < length (pieces_in r.seams.list.items r.values.items)
-  count = omega (arith, pieces_are r.seams.list.items r.values.items h.1, l)
+module _ (r : Row) (n : ℕ) (v w : Node) (h : IsSound (row_view r)) (l : n < length (items_of r.values)) (e : v ≡ get_or (items_of r.values) n v) where
+  count : n < length (pieces_in (items_of r.seams.all) (items_of r.values))
+  count = omega (arith, pieces_are (items_of r.seams.all) (items_of r.values) h.1, l)
 
-  set_text : row_text r.named (text_bytes r.hollow) (pieces_in r.seams.list.items (slice_set r.values.items n w)) ≡ row_text r.named (text_bytes r.hollow) (with_value n (tree_text (view w)) (pieces_in r.seams.list.items r.values.items))
-  set_text = ap (row_text r.named (text_bytes r.hollow)) (set_pieces r.seams.list.items r.values.items n w)
+  set_text : row_text r.named (text_bytes r.hollow) (pieces_in (items_of r.seams.all) (slice_set (items_of r.values) n w)) ≡ row_text r.named (text_bytes r.hollow) (with_value n (tree_text (view w)) (pieces_in (items_of r.seams.all) (items_of r.values)))
+  set_text = ap (row_text r.named (text_bytes r.hollow)) (set_pieces (items_of r.seams.all) (items_of r.values) n w)
 
-  pub set_is_sound : (k : ℕ) → IsWhole (view w) → k + length (tree_text (view v)) ≡ r.length + length (tree_text (view w)) → IsSound (wide r.named k (text_bytes r.hollow) (parts_of r.seams.list.items (map view (slice_set r.values.items n w))))
+  pub set_is_sound : (k : ℕ) → IsWhole (view w) → k + length (tree_text (view v)) ≡ r.length + length (tree_text (view w)) → IsSound (wide r.named k (text_bytes r.hollow) (parts_of (items_of r.seams.all) (map view (slice_set (items_of r.values) n w))))
   set_is_sound k whole size =
-      let old = pieces_in r.seams.list.items r.values.items in
+      let old = pieces_in (items_of r.seams.all) (items_of r.values) in
       let x = tree_text (view w) in
-      let there : length (value_at n old) ≡ length (tree_text (view v)) = ap length (value_there r.seams.list.items r.values.items n v h.1 l e) in
+      let there : length (value_at n old) ≡ length (tree_text (view v)) = ap length (value_there (items_of r.seams.all) (items_of r.values) n v h.1 l e) in
       let fits : k ≡ length (row_text r.named (text_bytes r.hollow) (with_value n x old)) = put_size r.named (text_bytes r.hollow) n r.length k old x count h.0.size (omega (arith, size, there)) in
       let some = value_of_some r.named old n x whole.1.0 (h.0.cs, h.0.suit) count whole.1.1 in (
         record {
           cs = some.0;
-          suit = subst (AllSuit r.named some.0) (sym (set_pieces r.seams.list.items r.values.items n w)) some.1;
+          suit = subst (AllSuit r.named some.0) (sym (set_pieces (items_of r.seams.all) (items_of r.values) n w)) some.1;
           whitespace = h.0.whitespace;
           size = fits ∙ ap length (sym set_text);
         },
-        set_sound r.seams.list.items r.values.items n w h.1 whole.0,
+        set_sound (items_of r.seams.all) (items_of r.values) n w h.1 whole.0,
       )
 
   -- what is made of the value, M, makes N of the row
   pub set_makes : (M N : List ℕ → Json → List ℕ → Type 0) (t k : List ℕ) → k ≡ t
-      → ((cs : List Child) → AllSuit r.named cs (pieces_in r.seams.list.items r.values.items) → IsNumberOf r.named cs k n)
-      → ((cs : List Child) (s : Stands r.named t n cs (pieces_in r.seams.list.items r.values.items)) → M (value_at n (pieces_in r.seams.list.items r.values.items)) s.child_tree (tree_text (view w))
-      → N (tree_text (row_view r)) (tree_in r.named cs) (row_text r.named (text_bytes r.hollow) (with_value n (tree_text (view w)) (pieces_in r.seams.list.items r.values.items))))
+      → ((cs : List Child) → AllSuit r.named cs (pieces_in (items_of r.seams.all) (items_of r.values)) → IsNumberOf r.named cs k n)
+      → ((cs : List Child) (s : Stands r.named t n cs (pieces_in (items_of r.seams.all) (items_of r.values))) → M (value_at n (pieces_in (items_of r.seams.all) (items_of r.values))) s.child_tree (tree_text (view w))
+      → N (tree_text (row_view r)) (tree_in r.named cs) (row_text r.named (text_bytes r.hollow) (with_value n (tree_text (view w)) (pieces_in (items_of r.seams.all) (items_of r.values)))))
       → ((j : Json) → Says (tree_text (view v)) j → M (tree_text (view v)) j (tree_text (view w))) → (j : Json) → Says (tree_text (row_view r)) j
-      → N (tree_text (row_view r)) j (row_text r.named (text_bytes r.hollow) (pieces_in r.seams.list.items (slice_set r.values.items n w)))
+      → N (tree_text (row_view r)) j (row_text r.named (text_bytes r.hollow) (pieces_in (items_of r.seams.all) (slice_set (items_of r.values) n w)))
   set_makes M N t k is names lifts made j says =
-      let old = pieces_in r.seams.list.items r.values.items in
+      let old = pieces_in (items_of r.seams.all) (items_of r.values) in
       let x = tree_text (view w) in
-      let there : value_at n old ≡ tree_text (view v) = value_there r.seams.list.items r.values.items n v h.1 l e in
+      let there : value_at n old ≡ tree_text (view v) = value_there (items_of r.seams.all) (items_of r.values) n v h.1 l e in
       let inner : (j : Json) → Says (value_at n old) j → M (value_at n old) j x = subst (λ y. (j : Json) → Says y j → M y j x) (sym there) made in
       subst (λ y. N (tree_text (row_view r)) j y) (sym set_text)
       (lift r.named (text_bytes r.hollow) t n h.0.cs old x M N h.0.suit h.0.whitespace count (subst (λ y. IsNumberOf r.named h.0.cs y n) is (names h.0.cs h.0.suit)) (lifts h.0.cs) inner j says)
+
+-- a value that was out, and another in its place for that while
+pub put_back : (vs between new : List Node) (n : ℕ) (a w : Node) → between ≡ slice_set vs n a → new ≡ slice_set between n w → new ≡ slice_set vs n w
+put_back vs between new n a w e f = f ∙ ap (λ l. slice_set l n w) e ∙ set-set vs n a w
 
 pub value_set : (vs : List Node) (n : ℕ) (v w : Node) → n < length vs → v ≡ get_or (slice_set vs n w) n v → v ≡ w
 value_set [] n v w l e = absurd (omega (arith, l))
 value_set (x ∷ vs) zero v w l e = e
 value_set (x ∷ vs) (suc n) v w l e = value_set vs n v w (omega (arith, l)) e
 
-pub none_made : (e : Edit) (t k : List ℕ) (P : Pointer) (r : Row) → IsSound (row_view r) → k ≡ t → ((cs : List Child) → AllSuit r.named cs (pieces_in r.seams.list.items r.values.items) → child k (tree_in r.named cs) ≡ None) → (j : Json) → Says (tree_text (row_view r)) j → Makes e (tree_text (row_view r)) j (t ∷ P) (tree_text (row_view r)) None
+pub none_made : (e : Edit) (t k : List ℕ) (P : Pointer) (r : Row) → IsSound (row_view r) → k ≡ t → ((cs : List Child) → AllSuit r.named cs (pieces_in (items_of r.seams.all) (items_of r.values)) → child k (tree_in r.named cs) ≡ None) → (j : Json) → Says (tree_text (row_view r)) j → Makes e (tree_text (row_view r)) j (t ∷ P) (tree_text (row_view r)) None
 none_made e t k P r h is none j says =
-    none_there r.named (text_bytes r.hollow) t h.0.cs (pieces_in r.seams.list.items r.values.items) e P h.0.suit h.0.whitespace (subst (λ y. child y (tree_in r.named h.0.cs) ≡ None) is (none h.0.cs h.0.suit)) j says
+    none_there r.named (text_bytes r.hollow) t h.0.cs (pieces_in (items_of r.seams.all) (items_of r.values)) e P h.0.suit h.0.whitespace (subst (λ y. child y (tree_in r.named h.0.cs) ≡ None) is (none h.0.cs h.0.suit)) j says
 
 -- the same of what a call answers, by the tokens that it was given
 pub row_made_at : {X : Type 0} (c : Result X AllocError) (M : Pointer → X → List ℕ → Json → List ℕ → Type 0) (old opened new : Node) (copy : Row) (r s : Box Row Global) (P Q : Pointer) → Q ≡ P → tree_text (view opened) ≡ tree_text (view old) → copy ≡ r.value → opened ≡ Open r → new ≡ Open s

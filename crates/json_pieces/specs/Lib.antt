@@ -7,3 +7,4 @@ pub mod Changes
 pub mod PieceLists
 pub mod Whole
 pub mod Lengths
+pub mod Exchanges

@@ -1,11 +1,12 @@
 -- A value in pieces as a tree, and the text that it makes.
-use Rattle.std.specs.Prelude.{◌≡◌, ℕ, zero, suc, List, [], ◌∷◌, ◌++◌, length, map, Bool, ⊤}
+use Rattle.std.specs.Prelude.{◌≡◌, ℕ, List, [], ◌∷◌, ◌++◌, length, map, Bool, true, false, ⊤}
 use Rattle.json.specs.Json.{Json}
 use Rattle.json_text.specs.Cuts.{AllSuit, IsWhitespace, Piece, opens, row_text}
 use Rattle.json_text.specs.Less.{IsLeaf}
 use Rattle.json_text.specs.Listing.{IsTextOf}
 use Rattle.json_text.specs.Rows.{Child}
 use Rattle.json_lexemes.specs.Spelled.{Says}
+use Rattle.long_vec.specs.Items.{items_of}
 pub use Rattle.json_pieces.specs.Names.{text_bytes, AreNames}
 use Rattle.json_pieces.specs.declared.node.Node.{Node}
 use Rattle.json_pieces.specs.declared.node.Node.TheOpen.{Node-F, Row-F}
@@ -40,13 +41,13 @@ view_step (Node-F.Closed s) = shut (text_bytes s)
 view_step (Node-F.Open b) = b.value
 
 abbrev pub row_step : Row-F Tree Tree → Tree
-row_step r = wide r.named r.length (text_bytes r.hollow) (parts_of r.seams.list.items r.values.items)
+row_step r = wide r.named r.length (text_bytes r.hollow) (parts_of (items_of r.seams.all) (items_of r.values))
 
 abbrev pub view : Node → Tree
 view = fold-Node Tree Tree view_step row_step
 
 abbrev pub row_parts : Row → Parts
-row_parts r = parts_of r.seams.list.items (map view r.values.items)
+row_parts r = parts_of (items_of r.seams.all) (map view (items_of r.values))
 
 abbrev pub row_view : Row → Tree
 row_view r = wide r.named r.length (text_bytes r.hollow) (row_parts r)
@@ -86,10 +87,10 @@ abbrev mutual
 abbrev pub IsWhole : Tree → Type 0
 IsWhole t = IsSound t × ((j : Json) × IsTextOf (tree_text t) j)
 
--- before a part of this number: the bracket or a comma
-abbrev pub mark_before : Bool → ℕ → ℕ
-mark_before b zero = opens b
-mark_before b (suc n) = 44
+-- before a part, the first or another: the bracket or a comma
+abbrev pub mark_before : Bool → Bool → ℕ
+mark_before b true = opens b
+mark_before b false = 44
 
 -- before its value
 abbrev pub lead_of : Seam → List ℕ
@@ -106,3 +107,15 @@ IsOpened (wide b n hollow ps) = ⊤
 -- the row makes this text
 abbrev pub IsRowOf : List ℕ → Row → Type 0
 IsRowOf text r = IsSound (row_view r) × (tree_text (row_view r) ≡ text)
+
+-- ---- a walk over its parts
+
+abbrev pub AreSoundIn : List Seam → List Node → Type 0
+AreSoundIn ss vs = AreSound (parts_of ss (map view vs))
+
+-- s and v are the first of these seams and values, and the others are left
+pub record IsFirstPart (ss : List Seam) (vs : List Node) (s : Seam) (v : Node) (seams : List Seam) (values : List Node) : Type 0 where
+  pub seam : ss ≡ s ∷ seams
+  pub value : vs ≡ v ∷ values
+  pub sound : IsSound (view v)
+  pub others : AreSoundIn seams values

@@ -135,9 +135,12 @@ fn edit_in(
     let Some(number) = number_of(row, name.as_str()) else {
         return Ok(None);
     };
-    let old = row.values[number].len();
-    let done = edit_at(alloc, &mut row.values[number], rest, edit)?;
-    let new = row.values[number].len();
-    row.length = resized(row.length, old, new)?;
+    let old = row.values.at(number).len();
+    let mut value = row.values.exchange(number, Node::Closed(Text::Kept("")));
+    let done = edit_at(alloc, &mut value, rest, edit);
+    // Also where memory ran out.
+    row.values.exchange(number, value);
+    let done = done?;
+    row.length = resized(row.length, old, row.values.at(number).len())?;
     Ok(done)
 }

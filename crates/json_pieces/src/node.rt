@@ -1,12 +1,15 @@
 //! A value in pieces: its text, or a row of values with what stands around each.
 
-ghost use Rattle.std.specs.Prelude.{◌≡◌, ◌++◌, ◌∷◌, [], IfOk, OnOk, length};
+ghost use Rattle.std.specs.Prelude.{◌≡◌, ◌++◌, ◌∷◌, [], IfOk, MatchOption, OnOk, length};
 ghost use Rattle.std.specs.String.{string_bytes};
-ghost use Rattle.json_pieces.specs.Nodes.{IsSound, lead_of, mark_before, row_view, text_bytes, tree_text, view};
+ghost use Rattle.json_pieces.specs.Nodes.{AreSoundIn, IsFirstPart, IsSound, lead_of, mark_before, row_view, text_bytes, tree_text, view};
 ghost use Rattle.json_text.specs.Cuts.{closes, row_text};
+ghost use Rattle.long_vec.specs.Items.{items_of};
+ghost use Rattle.long_vec.specs.Walks.{left};
 
 use crate::seams::{Seam, Seams};
 use crate::text::Text;
+use long_vec::{Items, LongVec};
 use std::alloc::{AllocError, Global};
 
 /// A value.
@@ -29,7 +32,45 @@ pub(crate) struct Row<'a> {
     /// The whitespace between the brackets where no value stands there.
     pub hollow: Text<'a>,
     pub seams: Seams<'a>,
-    pub values: Vec<Node<'a>>,
+    pub values: LongVec<Node<'a>>,
+}
+
+/// A walk over the parts of a row: each seam with its value.
+#[derive(Drop)]
+pub(crate) struct Parts<'r, 'a> {
+    seams: Items<'r, Seam<'a>>,
+    values: Items<'r, Node<'a>>,
+}
+
+impl<'a> Row<'a> {
+    /// How many values stand in it.
+    pub(crate) fn count(&self) -> usize
+        requires { IsSound (row_view self.now) }
+        ensures { result ≡ length (items_of self.now.values) }
+    {
+        self.seams.count()
+    }
+
+    pub(crate) fn parts(&self) -> Parts<'_, 'a>
+        ensures seams { left result.seams ≡ items_of self.now.seams.all }
+        ensures values { left result.values ≡ items_of self.now.values }
+    {
+        Parts {
+            seams: self.seams.all.items(),
+            values: self.values.items(),
+        }
+    }
+}
+
+impl<'r, 'a> Parts<'r, 'a> {
+    pub(crate) fn next(&mut self) -> Option<(&'r Seam<'a>, &'r Node<'a>)>
+        requires { AreSoundIn (left self.old.seams) (left self.old.values) }
+        ensures { MatchOption result (left self.old.values ≡ []) (λ part. IsFirstPart (left self.old.seams) (left self.old.values) part.0.now part.1.now (left self.new.seams) (left self.new.values)) }
+    {
+        let seam = self.seams.next()?;
+        let value = self.values.next()?;
+        Some((seam, value))
+    }
 }
 
 impl<'a> Node<'a> {
@@ -67,16 +108,17 @@ fn write_row(row: &Row<'_>, out: &mut String) -> Result<(), AllocError>
     ensures { OnOk result (string_bytes out.new
         ≡ string_bytes out.old ++ tree_text (row_view row.now)) }
 {
-    let count = row.values.len();
-    if count == 0 {
+    if row.count() == 0 {
         return write_hollow(row, out);
     }
-    for i in 0..count {
-        let seam = &row.seams.list[i];
-        out.push_str(mark(row.named, i))?;
+    let mut first = true;
+    let mut parts = row.parts();
+    while let Some((seam, value)) = parts.next() {
+        out.push_str(mark(row.named, first))?;
         write_lead(seam, out)?;
-        write(&row.values[i], out)?;
+        write(value, out)?;
         out.push_str(seam.trail.as_str())?;
+        first = false;
     }
     out.push_str(closing(row.named))
 }
@@ -86,7 +128,7 @@ fn write_hollow(row: &Row<'_>, out: &mut String) -> Result<(), AllocError>
     ensures { OnOk result (string_bytes out.new
         ≡ string_bytes out.old ++ row_text row.now.named (text_bytes row.now.hollow) []) }
 {
-    out.push_str(mark(row.named, 0))?;
+    out.push_str(mark(row.named, true))?;
     out.push_str(row.hollow.as_str())?;
     out.push_str(closing(row.named))
 }
@@ -100,11 +142,11 @@ fn write_lead(seam: &Seam<'_>, out: &mut String) -> Result<(), AllocError>
     out.push_str(seam.colons.as_str())
 }
 
-/// What stands before a member or an element of this number.
-fn mark(named: bool, number: usize) -> &'static str
-    ensures { result.now ≡ mark_before named number ∷ [] }
+/// What stands before a member or an element, the first or another.
+fn mark(named: bool, first: bool) -> &'static str
+    ensures { result.now ≡ mark_before named first ∷ [] }
 {
-    if number > 0 {
+    if !first {
         ","
     } else if named {
         "{"

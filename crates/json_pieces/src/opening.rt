@@ -8,11 +8,13 @@ ghost use Rattle.json_text.specs.Less.{IsLeaf};
 ghost use Rattle.json_text.specs.Listing.{IsTextOf};
 ghost use Rattle.json_text.specs.Rows.{Child, tree_in};
 ghost use Rattle.json_lexemes.specs.Spelled.{Says};
+ghost use Rattle.long_vec.specs.Items.{items_of};
 
 use crate::node::{Node, Row, written};
 use crate::seams::{Seam, Seams};
 use crate::text::Text;
 use json_text::{Cut, Shape, cut_at, whitespace_at};
+use long_vec::LongVec;
 use std::alloc::{AllocError, Global};
 
 /// The row of a text that is an object or an array.
@@ -20,8 +22,8 @@ fn row_of<'a>(alloc: Global, text: &'a str, named: bool) -> Result<Row<'a>, Allo
     requires { (cs : List Child) × IsTextOf text.now (tree_in named cs) }
     ensures { IfOk result (IsRowOf text.now) }
 {
-    let mut seams = Vec::new(alloc);
-    let mut values = Vec::new(alloc);
+    let mut seams = Seams::new(alloc);
+    let mut values = LongVec::new(alloc);
     let mut from = 1;
     while let Some(cut) = cut_at(text, from, named) {
         seams.push(seam_of(cut))?;
@@ -52,20 +54,20 @@ fn row_with<'a>(
     length: usize,
     named: bool,
     hollow: Text<'a>,
-    parts: (Vec<Seam<'a>>, Vec<Node<'a>>),
+    parts: (Seams<'a>, LongVec<Node<'a>>),
 ) -> Row<'a>
     ensures named { result.named ≡ named }
     ensures length { result.length ≡ length }
     ensures hollow { text_bytes result.hollow ≡ text_bytes hollow.entry }
-    ensures seams { result.seams.list.items ≡ parts.entry.0.items }
-    ensures values { result.values.items ≡ parts.entry.1.items }
+    ensures seams { items_of result.seams.all ≡ items_of parts.entry.0.all }
+    ensures values { items_of result.values ≡ items_of parts.entry.1 }
 {
     let (seams, values) = parts;
     Row {
         named,
         length,
         hollow,
-        seams: Seams::new(seams),
+        seams,
         values,
     }
 }
@@ -100,11 +102,12 @@ fn owned<'a>(alloc: Global, row: &Row<'_>) -> Result<Row<'a>, AllocError>
     requires { IsSound (row_view row.now) }
     ensures { IfOk result (IsRowOf (tree_text (row_view row.now))) }
 {
-    let mut seams = Vec::new(alloc);
-    let mut values = Vec::new(alloc);
-    for i in 0..row.values.len() {
-        let text = written(alloc, &row.values[i])?;
-        seams.push(owned_seam(alloc, &row.seams.list[i])?)?;
+    let mut seams = Seams::new(alloc);
+    let mut values = LongVec::new(alloc);
+    let mut parts = row.parts();
+    while let Some((seam, value)) = parts.next() {
+        let text = written(alloc, value)?;
+        seams.push(owned_seam(alloc, seam)?)?;
         values.push(Node::Closed(Text::Made(text)))?;
     }
     let hollow = Text::made(alloc, row.hollow.as_str())?;

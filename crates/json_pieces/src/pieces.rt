@@ -15,7 +15,8 @@ use std::alloc::{AllocError, Global};
 /// is found at once, in an open object a member by comparing names. When an object of at least 32 members
 /// has been asked for a name 16 times, the next call makes an index of its names, and a member is found
 /// in as many steps as the logarithm of their number. The index is kept while members are added and
-/// removed. An open one takes some 170 bytes of memory for each member or element, and an index, by
+/// removed. An open one stands in blocks of at most 256 members or elements: one that comes or goes
+/// moves those of its block alone. It takes some 170 bytes of memory for each, and an index, by
 /// reckoning, some 110 for each name, with the name once more.
 ///
 /// A call that runs out of memory leaves pieces of which nothing is known: let them go. `replace` and
@@ -175,8 +176,7 @@ impl<'a> Pieces<'a> {
 
     /// Takes out the member or element where the pointer leads (RFC 6902, section 4.2), and of several
     /// members of one name all, with the comma and the whitespace that `json_text::remove` cuts. `false`
-    /// where nothing stands there, and of the whole, and then the text is as before. In a long array or
-    /// object those behind it move up.
+    /// where nothing stands there, and of the whole, and then the text is as before.
     ///
     /// ```rust
     /// let done = pieces.remove(alloc, place)?;
@@ -199,7 +199,7 @@ impl<'a> Pieces<'a> {
 
     /// Adds a value where the pointer leads (RFC 6902, section 4.1), as it is written, with the comma,
     /// the whitespace and the colon that `json_text::add` gives it. `false` where there is no place for
-    /// it, and then the text is as before. In a long array those behind it move down.
+    /// it, and then the text is as before.
     ///
     /// ```rust
     /// let done = pieces.add(alloc, place, value)?;

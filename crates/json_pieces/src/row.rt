@@ -1,6 +1,6 @@
 //! A member or an element found in a row, taken out of it or put into it.
 
-ghost use Rattle.std.specs.Prelude.{◌≡◌, ◌<◌, ◌≤◌, ◌+◌, ◌^◌, [], false, length, vec_len, List, ℕ, true, Some, None, IfNone, IfOk, IfSome, MatchOption, OnOk};
+ghost use Rattle.std.specs.Prelude.{◌≡◌, ◌<◌, ◌≤◌, ◌+◌, ◌^◌, [], false, length, List, ℕ, true, Some, None, IfNone, IfOk, IfSome, MatchOption, OnOk};
 ghost use Rattle.jsonptr.specs.Places.{place_of};
 ghost use Rattle.json.specs.Json.{Json};
 ghost use Rattle.json_pieces.specs.Edits.{PutsIn, TakesOut};
@@ -16,6 +16,7 @@ ghost use Rattle.json_text.specs.Cuts.{AllSuit};
 ghost use Rattle.json_text.specs.Less.{IsNumberOf};
 ghost use Rattle.json_text.specs.Pointed.{child};
 ghost use Rattle.json_text.specs.Rows.{Child, tree_in};
+ghost use Rattle.long_vec.specs.Items.{items_of};
 
 use crate::node::{Node, Row};
 use crate::seams::Seam;
@@ -56,12 +57,12 @@ pub(crate) fn number_of(row: &Row<'_>, name: &str) -> Option<usize>
     ensures number { (cs : List Child) → AllSuit row.now.named cs (row_pieces row.now)
         → MatchOption result (child name.now (tree_in row.now.named cs) ≡ None)
         (IsNumberOf row.now.named cs name.now) }
-    ensures within { IfSome result (λ n. n < vec_len row.now.values) }
+    ensures within { IfSome result (λ n. n < length (items_of row.now.values)) }
 {
     if row.named {
         row.seams.last_named(name)
     } else {
-        element_number(name, row.values.len())
+        element_number(name, row.count())
     }
 }
 
@@ -77,9 +78,9 @@ impl<'a> Seam<'a> {
 /// Takes out one that is not the last: its whitespace stays, before the next one.
 fn take_before(row: &mut Row<'_>, number: usize, name: &str)
     requires sound { IsSound (row_view row.old) }
-    requires within { number + 1 < vec_len row.old.values }
+    requires within { number + 1 < length (items_of row.old.values) }
     ensures named { row.new.named ≡ row.old.named }
-    ensures less { vec_len row.new.values + 1 ≡ vec_len row.old.values }
+    ensures less { length (items_of row.new.values) + 1 ≡ length (items_of row.old.values) }
     ensures pieces { row_pieces row.new ≡ taken number (row_pieces row.old) }
     ensures some { taken number (row_pieces row.old) ≡ [] → text_bytes row.new.hollow ≡ [] }
     ensures sound { IsSound (row_view row.new) }
@@ -87,8 +88,7 @@ fn take_before(row: &mut Row<'_>, number: usize, name: &str)
     let length = row.length;
     let mut seam = row.seams.remove(number, name);
     let value = row.values.remove(number);
-    let seams = &mut row.seams;
-    mem::swap(&mut seams.list[number].whitespace, &mut seam.whitespace);
+    row.seams.swap_whitespace(number, &mut seam.whitespace);
     row.length = length - (seam.len() + value.len() + 1);
 }
 
@@ -96,9 +96,9 @@ fn take_before(row: &mut Row<'_>, number: usize, name: &str)
 fn take_last(row: &mut Row<'_>, number: usize, name: &str)
     requires sound { IsSound (row_view row.old) }
     requires first { 0 < number }
-    requires last { number + 1 ≡ vec_len row.old.values }
+    requires last { number + 1 ≡ length (items_of row.old.values) }
     ensures named { row.new.named ≡ row.old.named }
-    ensures less { vec_len row.new.values + 1 ≡ vec_len row.old.values }
+    ensures less { length (items_of row.new.values) + 1 ≡ length (items_of row.old.values) }
     ensures pieces { row_pieces row.new ≡ taken number (row_pieces row.old) }
     ensures some { taken number (row_pieces row.old) ≡ [] → text_bytes row.new.hollow ≡ [] }
     ensures sound { IsSound (row_view row.new) }
@@ -106,17 +106,16 @@ fn take_last(row: &mut Row<'_>, number: usize, name: &str)
     let length = row.length;
     let mut seam = row.seams.remove(number, name);
     let value = row.values.remove(number);
-    let seams = &mut row.seams;
-    mem::swap(&mut seams.list[number - 1].trail, &mut seam.trail);
+    row.seams.swap_trail(number - 1, &mut seam.trail);
     row.length = length - (seam.len() + value.len() + 1);
 }
 
 /// Takes out the only one.
 fn take_alone(row: &mut Row<'_>, name: &str)
     requires sound { IsSound (row_view row.old) }
-    requires alone { vec_len row.old.values ≡ 1 }
+    requires alone { length (items_of row.old.values) ≡ 1 }
     ensures named { row.new.named ≡ row.old.named }
-    ensures less { vec_len row.new.values + 1 ≡ vec_len row.old.values }
+    ensures less { length (items_of row.new.values) + 1 ≡ length (items_of row.old.values) }
     ensures pieces { row_pieces row.new ≡ taken 0 (row_pieces row.old) }
     ensures some { taken 0 (row_pieces row.old) ≡ [] → text_bytes row.new.hollow ≡ [] }
     ensures sound { IsSound (row_view row.new) }
@@ -131,14 +130,14 @@ fn take_alone(row: &mut Row<'_>, name: &str)
 /// next one; of the last one the whitespace behind it stays, behind the one before.
 fn take_part(row: &mut Row<'_>, number: usize, name: &str)
     requires sound { IsSound (row_view row.old) }
-    requires within { number < vec_len row.old.values }
+    requires within { number < length (items_of row.old.values) }
     ensures named { row.new.named ≡ row.old.named }
-    ensures less { vec_len row.new.values + 1 ≡ vec_len row.old.values }
+    ensures less { length (items_of row.new.values) + 1 ≡ length (items_of row.old.values) }
     ensures pieces { row_pieces row.new ≡ taken number (row_pieces row.old) }
     ensures some { taken number (row_pieces row.old) ≡ [] → text_bytes row.new.hollow ≡ [] }
     ensures sound { IsSound (row_view row.new) }
 {
-    if number + 1 < row.values.len() {
+    if number < row.count() - 1 {
         take_before(row, number, name);
     } else if number > 0 {
         take_last(row, number, name);
@@ -175,15 +174,16 @@ pub(crate) fn put_value(
     value: &str,
 ) -> Result<(), AllocError>
     requires sound { IsSound (row_view row.old) }
-    requires within { number < vec_len row.old.values }
+    requires within { number < length (items_of row.old.values) }
     requires value { (w : Json) × IsTextOf value.now w }
     ensures named { OnOk result (row.new.named ≡ row.old.named) }
     ensures pieces { OnOk result (row_pieces row.new ≡ with_value number value.now (row_pieces row.old)) }
     ensures hollow { OnOk result (row.new.hollow ≡ row.old.hollow) }
     ensures sound { OnOk result (IsSound (row_view row.new)) }
 {
-    let length = resized(row.length, row.values[number].len(), value.len())?;
-    row.values[number] = Node::Closed(Text::made(alloc, value)?);
+    let length = resized(row.length, row.values.at(number).len(), value.len())?;
+    let made = Text::made(alloc, value)?;
+    row.values.exchange(number, Node::Closed(made));
     row.length = length;
     Ok(())
 }
@@ -213,12 +213,12 @@ fn put_part<'a>(
     value: Text<'a>,
     commas: usize,
 ) -> Result<(), AllocError>
-    requires seams { number ≤ vec_len row.old.seams.list }
-    requires values { number ≤ vec_len row.old.values }
+    requires seams { number ≤ length (items_of row.old.seams.all) }
+    requires values { number ≤ length (items_of row.old.values) }
     ensures named { OnOk result (row.new.named ≡ row.old.named) }
     ensures hollow { OnOk result (row.new.hollow ≡ row.old.hollow) }
-    ensures seams { OnOk result (row.new.seams.list.items ≡ insert row.old.seams.list.items number seam.entry) }
-    ensures values { OnOk result (row.new.values.items ≡ insert row.old.values.items number (Closed value.entry)) }
+    ensures seams { OnOk result (items_of row.new.seams.all ≡ insert (items_of row.old.seams.all) number seam.entry) }
+    ensures values { OnOk result (items_of row.new.values ≡ insert (items_of row.old.values) number (Closed value.entry)) }
     ensures length { OnOk result (row.new.length ≡ row.old.length + (seam_length seam.entry + length (text_bytes value.entry) + commas)) }
 {
     let length = lengthened(row.length, &seam, value.len(), commas)?;
@@ -262,7 +262,7 @@ fn labelled<'a>(whitespace: Text<'a>, name: Text<'a>, colons: Text<'a>, trail: T
 /// Takes the whitespace out of an empty row.
 fn hollowed<'a>(row: &mut Row<'a>) -> Text<'a>
     requires sound { IsSound (row_view row.old) }
-    requires empty { vec_len row.old.values ≡ 0 }
+    requires empty { length (items_of row.old.values) ≡ 0 }
     ensures hollow { result ≡ row.old.hollow }
     ensures left { text_bytes row.new.hollow ≡ [] }
     ensures named { row.new.named ≡ row.old.named }
@@ -278,15 +278,15 @@ fn hollowed<'a>(row: &mut Row<'a>) -> Text<'a>
 /// Takes the whitespace behind the last member or element, which has this number.
 fn trail_of<'a>(row: &mut Row<'a>, number: usize) -> Text<'a>
     requires sound { IsSound (row_view row.old) }
-    requires last { number < vec_len row.old.values }
-    ensures trail { HasLost row.old.seams.list.items number result row.new.seams.list.items }
+    requires last { number < length (items_of row.old.values) }
+    ensures trail { HasLost (items_of row.old.seams.all) number result (items_of row.new.seams.all) }
     ensures named { row.new.named ≡ row.old.named }
     ensures hollow { row.new.hollow ≡ row.old.hollow }
     ensures values { row.new.values ≡ row.old.values }
     ensures length { row.new.length + length (text_bytes result) ≡ row.old.length }
 {
-    let seams = &mut row.seams;
-    let trail = mem::replace(&mut seams.list[number].trail, Text::Kept(""));
+    let mut trail = Text::Kept("");
+    row.seams.swap_trail(number, &mut trail);
     row.length -= trail.len();
     trail
 }
@@ -300,7 +300,7 @@ fn first_member<'a>(
 ) -> Result<(), AllocError>
     requires sound { IsSound (row_view row.old) }
     requires object { row.old.named ≡ true }
-    requires empty { vec_len row.old.values ≡ 0 }
+    requires empty { length (items_of row.old.values) ≡ 0 }
     requires value { (w : Json) × IsTextOf (text_bytes value) w }
     ensures named { OnOk result (row.new.named ≡ row.old.named) }
     ensures pieces { OnOk result (row_pieces row.new ≡ member_pushed (text_bytes row.old.hollow) (quoted name.now) (text_bytes value.entry) (row_pieces row.old)) }
@@ -318,29 +318,30 @@ fn first_member<'a>(
     Ok(())
 }
 
-/// Puts a member behind the last one, which has this number.
+/// Puts a member behind the last one.
 fn next_member<'a>(
     alloc: Global,
     row: &mut Row<'a>,
-    last: usize,
     name: &str,
     value: Text<'a>,
 ) -> Result<(), AllocError>
     requires sound { IsSound (row_view row.old) }
     requires object { row.old.named ≡ true }
-    requires last { last + 1 ≡ vec_len row.old.values }
+    requires some { 0 < length (items_of row.old.values) }
     requires value { (w : Json) × IsTextOf (text_bytes value) w }
     ensures named { OnOk result (row.new.named ≡ row.old.named) }
     ensures pieces { OnOk result (row_pieces row.new ≡ member_pushed (text_bytes row.old.hollow) (quoted name.now) (text_bytes value.entry) (row_pieces row.old)) }
     ensures sound { OnOk result (IsSound (row_view row.new)) }
 {
+    let count = row.count();
+    let last = count - 1;
     let name = Text::Made(quoted(alloc, name)?);
-    let whitespace = row.seams.list[last].whitespace.whitespace_like(alloc)?;
-    let colons = row.seams.list[last].colons.colons_like(alloc)?;
+    let whitespace = row.seams.all.at(last).whitespace.whitespace_like(alloc)?;
+    let colons = row.seams.all.at(last).colons.colons_like(alloc)?;
     let trail = trail_of(row, last);
     put_part(
         row,
-        last + 1,
+        count,
         labelled(whitespace, name, colons, trail),
         value,
         1,
@@ -352,7 +353,7 @@ fn next_member<'a>(
 fn first_element<'a>(row: &mut Row<'a>, value: Text<'a>) -> Result<(), AllocError>
     requires sound { IsSound (row_view row.old) }
     requires array { row.old.named ≡ false }
-    requires empty { vec_len row.old.values ≡ 0 }
+    requires empty { length (items_of row.old.values) ≡ 0 }
     requires value { (w : Json) × IsTextOf (text_bytes value) w }
     ensures named { OnOk result (row.new.named ≡ row.old.named) }
     ensures pieces { OnOk result (row_pieces row.new ≡ element_pushed (text_bytes row.old.hollow) (text_bytes value.entry) (row_pieces row.old)) }
@@ -363,24 +364,25 @@ fn first_element<'a>(row: &mut Row<'a>, value: Text<'a>) -> Result<(), AllocErro
     Ok(())
 }
 
-/// Puts an element behind the last one, which has this number.
+/// Puts an element behind the last one.
 fn next_element<'a>(
     alloc: Global,
     row: &mut Row<'a>,
-    last: usize,
     value: Text<'a>,
 ) -> Result<(), AllocError>
     requires sound { IsSound (row_view row.old) }
     requires array { row.old.named ≡ false }
-    requires last { last + 1 ≡ vec_len row.old.values }
+    requires some { 0 < length (items_of row.old.values) }
     requires value { (w : Json) × IsTextOf (text_bytes value) w }
     ensures named { OnOk result (row.new.named ≡ row.old.named) }
     ensures pieces { OnOk result (row_pieces row.new ≡ element_pushed (text_bytes row.old.hollow) (text_bytes value.entry) (row_pieces row.old)) }
     ensures sound { OnOk result (IsSound (row_view row.new)) }
 {
-    let whitespace = row.seams.list[last].whitespace.whitespace_like(alloc)?;
+    let count = row.count();
+    let last = count - 1;
+    let whitespace = row.seams.all.at(last).whitespace.whitespace_like(alloc)?;
     let trail = trail_of(row, last);
-    put_part(row, last + 1, around(whitespace, trail), value, 1)?;
+    put_part(row, count, around(whitespace, trail), value, 1)?;
     Ok(())
 }
 
@@ -399,11 +401,11 @@ fn like_number(number: usize, count: usize) -> usize
 fn whitespace_of<'a>(
     row: &mut Row<'a>,
     number: usize,
-    whitespace: Text<'a>,
+    mut whitespace: Text<'a>,
 ) -> Result<Text<'a>, AllocError>
     requires sound { IsSound (row_view row.old) }
-    requires within { number < vec_len row.old.values }
-    ensures whitespace { IfOk result (λ old. HasGained row.old.seams.list.items number (text_bytes whitespace.entry) old row.new.seams.list.items) }
+    requires within { number < length (items_of row.old.values) }
+    ensures whitespace { IfOk result (λ old. HasGained (items_of row.old.seams.all) number (text_bytes whitespace.entry) old (items_of row.new.seams.all)) }
     ensures named { row.new.named ≡ row.old.named }
     ensures hollow { row.new.hollow ≡ row.old.hollow }
     ensures values { row.new.values ≡ row.old.values }
@@ -411,13 +413,12 @@ fn whitespace_of<'a>(
 {
     let length = resized(
         row.length,
-        row.seams.list[number].whitespace.len(),
+        row.seams.all.at(number).whitespace.len(),
         whitespace.len(),
     )?;
-    let seams = &mut row.seams;
-    let old = mem::replace(&mut seams.list[number].whitespace, whitespace);
+    row.seams.swap_whitespace(number, &mut whitespace);
     row.length = length;
-    Ok(old)
+    Ok(whitespace)
 }
 
 /// Puts an element before the one of this number. The whitespace of that one goes to the new one;
@@ -430,14 +431,14 @@ fn element_before<'a>(
 ) -> Result<(), AllocError>
     requires sound { IsSound (row_view row.old) }
     requires array { row.old.named ≡ false }
-    requires within { number < vec_len row.old.values }
+    requires within { number < length (items_of row.old.values) }
     requires value { (w : Json) × IsTextOf (text_bytes value) w }
     ensures named { OnOk result (row.new.named ≡ row.old.named) }
     ensures pieces { OnOk result (row_pieces row.new ≡ element_put number (text_bytes value.entry) (row_pieces row.old)) }
     ensures sound { OnOk result (IsSound (row_view row.new)) }
 {
-    let like = like_number(number, row.values.len());
-    let behind = row.seams.list[like].whitespace.whitespace_like(alloc)?;
+    let like = like_number(number, row.count());
+    let behind = row.seams.all.at(like).whitespace.whitespace_like(alloc)?;
     let whitespace = whitespace_of(row, number, behind)?;
     put_part(row, number, around(whitespace, Text::Kept("")), value, 1)?;
     Ok(())
@@ -458,12 +459,12 @@ fn put_member(alloc: Global, row: &mut Row<'_>, name: &str, value: &str) -> Resu
         return Ok(());
     }
     let value = Text::made(alloc, value)?;
-    let count = row.values.len();
+    let count = row.count();
     if count == 0 {
         first_member(alloc, row, name, value)?;
         return Ok(());
     }
-    next_member(alloc, row, count - 1, name, value)?;
+    next_member(alloc, row, name, value)?;
     Ok(())
 }
 
@@ -482,7 +483,7 @@ fn put_element(
         → PutsIn (tree_text (row_view row.old)) j name.now value.now
         (tree_text (row_view row.new)) done) }
 {
-    let count = row.values.len();
+    let count = row.count();
     let Ok(index) = Index::parse(name) else {
         return Ok(false);
     };
@@ -498,7 +499,7 @@ fn put_element(
         first_element(row, value)?;
         return Ok(true);
     }
-    next_element(alloc, row, count - 1, value)?;
+    next_element(alloc, row, value)?;
     Ok(true)
 }
 

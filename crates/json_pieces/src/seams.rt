@@ -1,18 +1,22 @@
 //! The seams of a row, and where each name stands among them, once that has been asked often.
 
-ghost use Rattle.std.specs.Prelude.{◌≡◌, ◌+◌, ◌<◌, ◌≤◌, ◌∷◌, ◌++◌, [], List, ℕ, length, vec_len, IfOk, OnOk, slice_index_or, IfSome};
+ghost use Rattle.std.specs.Prelude.{◌≡◌, ◌+◌, ◌<◌, ◌≤◌, ◌∷◌, ◌++◌, [], List, ℕ, length, IfOk, OnOk, slice_index_or, IfSome};
 ghost use Rattle.std.specs.String.{string_bytes};
 ghost use Rattle.std.specs.List.{insert, remove};
 ghost use Rattle.json.specs.Json.{string};
+ghost use Rattle.json_pieces.specs.Exchanges.{HasTrail, HasWhitespace};
 ghost use Rattle.json_pieces.specs.Names.{Agrees, Agrees-prop, AreNames, IsIndexOf};
 ghost use Rattle.json_pieces.specs.declared.seams.Seam.{Seam};
 ghost use Rattle.json_text.specs.Listing.{IsTextOf};
 ghost use Rattle.json_text.specs.Rows.{Child, last_named};
+ghost use Rattle.long_vec.specs.Blocks.{items_in};
 ghost use Rattle.long_vec.specs.Items.{items_of};
+ghost use Rattle.long_vec.specs.Walks.{left};
 
 use crate::index::NameIndex;
 use crate::text::Text;
 use json_text::{is_name_text, string_of};
+use long_vec::{Items, LongVec};
 use std::alloc::{AllocError, Global};
 use std::mem;
 
@@ -35,24 +39,57 @@ pub(crate) struct Seam<'a> {
     pub trail: Text<'a>,
 }
 
+impl<'a> Seam<'a> {
+    /// One of nothing, for a while in the place of another.
+    fn empty() -> Seam<'a> {
+        Seam {
+            whitespace: Text::Kept(""),
+            name: Text::Kept(""),
+            colons: Text::Kept(""),
+            trail: Text::Kept(""),
+        }
+    }
+}
+
 /// The seams of a row, and where each name stands, once that has been asked often.
 #[derive(Drop)]
 pub(crate) struct Seams<'a> {
-    pub list: Vec<Seam<'a>>,
+    pub all: LongVec<Seam<'a>>,
+    count: usize,
     asked: usize,
     index: Option<NameIndex>,
-    ghost agrees: { Agrees list.items index } by { Agrees-prop list.items index },
+    ghost counted: { length (items_of all) ≡ count },
+    ghost agrees: { Agrees (items_of all) index } by { Agrees-prop (items_of all) index },
 }
 
-/// The number of the last seam of this name, found by comparing names.
-fn scanned(seams: &[Seam<'_>], name: &str) -> Option<usize>
-    ensures { (cs : List Child) → AreNames seams.now cs → result ≡ last_named name.now cs }
+/// The number of the last of these seams of this name, found by comparing names.
+fn last_in(seams: &[Seam<'_>], name: &str) -> Option<usize>
+    ensures within { IfSome result (λ n. n < length seams.now) }
+    ensures number { (cs : List Child) → AreNames seams.now cs → result ≡ last_named name.now cs }
 {
     let mut i = seams.len();
     while i > 0 {
         let seam = &seams[i - 1];
         if is_name_text(seam.name.as_str(), name) {
             return Some(i - 1);
+        }
+        i -= 1;
+    }
+    None
+}
+
+/// The same of the seams in blocks, of which there are so many.
+fn scanned(blocks: &[Vec<Seam<'_>>], count: usize, name: &str) -> Option<usize>
+    requires { length (items_in blocks.now) ≡ count }
+    ensures { (cs : List Child) → AreNames (items_in blocks.now) cs → result ≡ last_named name.now cs }
+{
+    let mut before = count;
+    let mut i = blocks.len();
+    while i > 0 {
+        let block = &blocks[i - 1];
+        before -= block.len();
+        if let Some(number) = last_in(block.as_slice(), name) {
+            return Some(before + number);
         }
         i -= 1;
     }
@@ -81,12 +118,12 @@ fn learn(alloc: Global, index: &mut NameIndex, seam: &Seam<'_>) -> Result<(), Al
 /// The index of these seams.
 // Not inlined: each level of an edit would else hold its room.
 #[inline(never)]
-fn indexed(alloc: Global, seams: &[Seam<'_>]) -> Result<NameIndex, AllocError>
-    ensures { IfOk result (λ index. IsIndexOf seams.now index) }
+fn indexed(alloc: Global, mut seams: Items<'_, Seam<'_>>) -> Result<NameIndex, AllocError>
+    ensures { IfOk result (λ index. IsIndexOf (left seams.entry) index) }
 {
     let mut index = NameIndex::new(alloc);
-    for i in 0..seams.len() {
-        learn(alloc, &mut index, &seams[i])?;
+    while let Some(seam) = seams.next() {
+        learn(alloc, &mut index, seam)?;
     }
     Ok(index)
 }
@@ -130,67 +167,116 @@ fn index_without(index: Option<NameIndex>, name: &str, number: usize) -> Option<
 }
 
 impl<'a> Seams<'a> {
-    /// These seams, of which none was asked for yet.
-    pub(crate) fn new(list: Vec<Seam<'a>>) -> Seams<'a>
-        ensures { result.list ≡ list.entry }
+    /// No seams.
+    pub(crate) fn new(alloc: Global) -> Seams<'a>
+        ensures { items_of result.all ≡ [] }
     {
         Seams {
-            list,
+            all: LongVec::new(alloc),
+            count: 0,
             asked: 0,
             index: None,
         }
     }
 
+    /// How many there are.
+    pub(crate) fn count(&self) -> usize
+        ensures { result ≡ length (items_of self.now.all) }
+    {
+        self.count
+    }
+
+    /// Puts in a seam behind the last, before a name is asked for.
+    pub(crate) fn push(&mut self, seam: Seam<'a>) -> Result<(), AllocError>
+        ensures { OnOk result (items_of self.new.all ≡ items_of self.old.all ++ seam.entry ∷ []) }
+    {
+        let Some(count) = self.count.checked_add(1) else {
+            return Err(AllocError);
+        };
+        self.index = None;
+        match self.all.push(seam) {
+            Ok(_) => {}
+            Err(_) => return Err(AllocError),
+        }
+        self.count = count;
+        Ok(())
+    }
+
     /// The number of the last seam of this name.
     pub(crate) fn last_named(&self, name: &str) -> Option<usize>
-        ensures { (cs : List Child) → AreNames self.now.list.items cs → result ≡ last_named name.now cs }
+        ensures { (cs : List Child) → AreNames (items_of self.now.all) cs → result ≡ last_named name.now cs }
     {
         match &self.index {
             Some(index) => index.last_named(name),
-            None => scanned(self.list.as_slice(), name),
+            None => scanned(self.all.blocks(), self.count, name),
         }
     }
 
     /// Counts a question for a name; after some, of many seams, the index is built.
     pub(crate) fn ask(&mut self, alloc: Global) -> Result<(), AllocError>
-        ensures { self.new.list ≡ self.old.list }
+        ensures { self.new.all ≡ self.old.all }
     {
-        if self.index.is_some() || self.list.len() < MANY {
+        if self.index.is_some() || self.count < MANY {
             return Ok(());
         }
         if self.asked < QUESTIONS {
             self.asked += 1;
             return Ok(());
         }
-        self.index = Some(indexed(alloc, self.list.as_slice())?);
+        self.index = Some(indexed(alloc, self.all.items())?);
         Ok(())
     }
 
     /// Puts in a seam before that of this number, or behind the last.
     pub(crate) fn insert(&mut self, number: usize, seam: Seam<'a>) -> Result<(), AllocError>
-        requires { number ≤ vec_len self.old.list }
-        ensures { OnOk result (self.new.list.items ≡ insert self.old.list.items number seam.entry) }
+        requires { number ≤ length (items_of self.old.all) }
+        ensures { OnOk result (items_of self.new.all ≡ insert (items_of self.old.all) number seam.entry) }
     {
-        let alloc = *self.list.allocator();
+        let Some(count) = self.count.checked_add(1) else {
+            return Err(AllocError);
+        };
+        let alloc = *self.all.allocator();
         let index = mem::replace(&mut self.index, None);
-        let index = index_with(alloc, index, self.list.len(), &seam, number)?;
-        match self.list.insert(number, seam) {
+        let index = index_with(alloc, index, self.count, &seam, number)?;
+        match self.all.insert(number, seam) {
             Ok(_) => {}
             Err(_) => return Err(AllocError),
         }
+        self.count = count;
         self.index = index;
         Ok(())
     }
 
     /// Takes out the seam of this number, the last of this name, or an element's.
     pub(crate) fn remove(&mut self, number: usize, name: &str) -> Seam<'a>
-        requires { number < vec_len self.old.list }
-        ensures value { result ≡ slice_index_or self.old.list.items number result }
-        ensures items { self.new.list.items ≡ remove self.old.list.items number }
-        ensures len { vec_len self.new.list + 1 ≡ vec_len self.old.list }
+        requires { number < length (items_of self.old.all) }
+        ensures value { result ≡ slice_index_or (items_of self.old.all) number result }
+        ensures items { items_of self.new.all ≡ remove (items_of self.old.all) number }
+        ensures len { length (items_of self.new.all) + 1 ≡ length (items_of self.old.all) }
     {
         let index = mem::replace(&mut self.index, None);
         self.index = index_without(index, name, number);
-        self.list.remove(number)
+        self.count -= 1;
+        self.all.remove(number)
+    }
+
+    /// Exchanges the whitespace before the value of this number for this one.
+    pub(crate) fn swap_whitespace(&mut self, number: usize, whitespace: &mut Text<'a>)
+        requires { number < length (items_of self.old.all) }
+        ensures { HasWhitespace (items_of self.old.all) number whitespace.old whitespace.new (items_of self.new.all) }
+    {
+        let mut seam = self.all.exchange(number, Seam::empty());
+        mem::swap(&mut seam.whitespace, whitespace);
+        self.all.exchange(number, seam);
+    }
+
+    /// Exchanges the whitespace behind the value of this number for this one.
+    pub(crate) fn swap_trail(&mut self, number: usize, trail: &mut Text<'a>)
+        requires { number < length (items_of self.old.all) }
+        ensures { HasTrail (items_of self.old.all) number trail.old trail.new (items_of self.new.all) }
+    {
+        let mut seam = self.all.exchange(number, Seam::empty());
+        mem::swap(&mut seam.trail, trail);
+        self.all.exchange(number, seam);
     }
 }

@@ -11,6 +11,7 @@ ghost use Rattle.jsonptr.specs.Pointers.{token_of, tokens_left};
 use crate::node::{Node, Row};
 use crate::opening::open;
 use crate::row::number_of;
+use crate::text::Text;
 use json_text::Shape;
 use jsonptr::{Token, Tokens};
 use std::alloc::{AllocError, Global};
@@ -77,5 +78,9 @@ fn shape_in(
     let Some(number) = number_of(row, name.as_str()) else {
         return Ok(None);
     };
-    shape_at(alloc, &mut row.values[number], rest)
+    let mut value = row.values.exchange(number, Node::Closed(Text::Kept("")));
+    let found = shape_at(alloc, &mut value, rest);
+    // Also where memory ran out.
+    row.values.exchange(number, value);
+    found
 }

@@ -7,13 +7,6 @@ ghost use Rattle.long_vec.specs.Walks.{left};
 use crate::LongVec;
 
 /// A walk over the items, from the first to the last.
-///
-/// ```rust
-/// let mut items = list.items();
-/// while let Some(item) = items.next() {
-///     sum += *item;
-/// }
-/// ```
 #[derive(Drop)]
 pub struct Items<'a, T> {
     /// Those of the block that is walked through.

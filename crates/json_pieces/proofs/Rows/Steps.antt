@@ -3,6 +3,7 @@ use Rattle.std.proofs.Common.{◌≡◌, ℕ, ◌+◌, ◌<◌, Bool, List, [], 
 use Rattle.std.specs.List.{remove}
 use Rattle.std.specs.Prelude.{slice_set}
 use Rattle.json_text.specs.Cuts.{AllSuit, IsWhitespace, row_text}
+use Rattle.json_pieces.specs.Exchanges.{with_trail, with_whitespace}
 use Rattle.json_pieces.specs.Lengths.{seam_length}
 use Rattle.json_pieces.specs.Nodes.{IsRow, tree_text, view}
 use Rattle.json_pieces.specs.PieceLists.{taken}
@@ -28,12 +29,6 @@ kept_by b m k hollow hollow2 ss ss2 vs vs2 n (r, h) l e is sound size =
 -- some are left
 some_left : (ss : List Seam) (vs : List Node) → AreSoundIn ss vs → 0 < length vs → pieces_in ss vs ≡ [] → ⊥
 some_left ss vs h l e = absurd (omega (arith, pieces_are ss vs h, l, ap length e))
-
-abbrev pub with_whitespace : Text → Seam → Seam
-with_whitespace x t = record { whitespace = x; name = t.name; colons = t.colons; trail = t.trail }
-
-abbrev pub with_trail : Text → Seam → Seam
-with_trail x t = record { whitespace = t.whitespace; name = t.name; colons = t.colons; trail = x }
 
 -- what is known where s and v of number n are out, and t now has this number
 pub record IsOut (ss ss1 : List Seam) (vs vs1 : List Node) (n : ℕ) (s t : Seam) (v : Node) (at : ℕ) : Type 0 where

@@ -1,9 +1,13 @@
-use Rattle.std.proofs.Common.{[], ◌∙◌, ap, rules}
+use Rattle.std.proofs.Common.{[], ◌∙◌, ap, rules, subst, sym}
 use Rattle.std.specs.Box.{with_value}
 use Rattle.json_pieces.specs.Edits.{Makes}
+use Rattle.json_pieces.specs.Nodes.{IsSound, row_view}
 use Rattle.json_pieces.specs.declared.node.Node.{the_lemmas}
-use Rattle.json_pieces.proofs.Walks.{answered, open_whole, row_made}
+use Rattle.json_pieces.proofs.Walks.{answered, open_sound, open_whole, row_made}
 use Rattle.json_pieces.proofs.edit.apply_below.Goals as goal
+
+pub apply_in-requires-clause-sound : goal.apply_in-requires-clause-sound
+apply_in-requires-clause-sound c = subst (λ r. IsSound (row_view r)) (sym (c.deref_mut.ensures.value ∙ ap (λ b. b.value) c.in-Open.row-is)) (open_sound c.open.new.node c.in-Open.row c.in-Open.is c.in_ok-open.ensures.whole)
 
 pub returns-in_ok-done-in-Open-clause-whole : goal.returns-in_ok-done-in-Open-clause-whole
 returns-in_ok-done-in-Open-clause-whole c =

@@ -1,7 +1,7 @@
 use Rattle.std.proofs.Common.{◌≡◌, ◌∙◌, ap, refl, rules}
 use Rattle.json_pieces.specs.Nodes.{IsOpened, IsWhole, row_view, tree_text, view}
 use Rattle.json_pieces.specs.declared.node.Node.{the_lemmas}
-use Rattle.json_pieces.proofs.Walks.{open_opened, row_stays}
+use Rattle.json_pieces.proofs.Walks.{box_opened, open_opened, row_stays}
 use Rattle.json_pieces.proofs.opening.open.Goals as goal
 
 pub returns-in-Open-clause-whole : goal.returns-in-Open-clause-whole
@@ -15,3 +15,9 @@ returns-in-Open-clause-text c =
 pub returns-in-Open-clause-opened : goal.returns-in-Open-clause-opened
 returns-in-Open-clause-opened c =
     row_stays c.ask.result IsOpened c.args.node.now _ c.in-Open.row c.ask.new.row c.in-Open.is (search (rules, the_lemmas)) (c.ask.ensures ∙ ap row_view (c.deref_mut.ensures.value ∙ ap (λ b. b.value) c.in-Open.row-is)) (open_opened c.args.node.now c.in-Open.row c.in-Open.is)
+
+pub returns-in_ok-new-clause-whole : goal.returns-in_ok-new-clause-whole
+returns-in_ok-new-clause-whole c = (box_opened c.args.node.now c.in_ok-new.field-0 c.in-Some.row c.in_ok-new.ensures.ok c.requires (rw c.in-Some.is at c.in_ok-row.ensures)).0
+
+pub returns-in_ok-new-clause-text : goal.returns-in_ok-new-clause-text
+returns-in_ok-new-clause-text c = (box_opened c.args.node.now c.in_ok-new.field-0 c.in-Some.row c.in_ok-new.ensures.ok c.requires (rw c.in-Some.is at c.in_ok-row.ensures)).1

@@ -1,6 +1,7 @@
 use Rattle.std.proofs.Common.{◌≡◌, ◌+◌, ◌<◌, [], length, ap, sym, ◌∙◌, subst, arith}
 use Rattle.json_text.specs.Cuts.{IsWhitespace}
 use Rattle.json_text.specs.Styled.{whitespace_like}
+use Rattle.long_vec.specs.Items.{items_of}
 use Rattle.json_pieces.specs.Lengths.{HasGained}
 use Rattle.json_pieces.specs.Nodes.{text_bytes}
 use Rattle.json_pieces.specs.PieceLists.{element_between}
@@ -8,16 +9,16 @@ use Rattle.json_pieces.proofs.Lists.{seams_are}
 use Rattle.json_pieces.proofs.Rows.Puts.{IsLike, element_before_kept, element_before_put, gained_count}
 use Rattle.json_pieces.proofs.row.element_before.Goals as goal
 
-pub index-requires : goal.index-requires
-index-requires c =
+pub at-requires : goal.at-requires
+at-requires c =
     let r = c.args.row.now in
-    omega (arith, seams_are r.seams.list.items r.values.items c.requires.sound.1, r.seams.list.ok.0, r.values.ok.0, c.like_number-like.ensures.within, c.len.ensures)
+    omega (arith, seams_are (items_of r.seams.all) (items_of r.values) c.requires.sound.1, c.like_number-like.ensures.within, c.count.ensures)
 
 pub put_part-requires-clause-seams : goal.put_part-requires-clause-seams
 put_part-requires-clause-seams c =
     let r = c.args.row.now in
     let h = c.whitespace_of.new.row in
-    omega (arith, seams_are r.seams.list.items r.values.items c.requires.sound.1, r.values.ok.0, c.requires.within, h.seams.list.ok.0, gained_count r.seams.list.items c.args.number _ c.in_ok-whitespace.whitespace h.seams.list.items c.in_ok-whitespace.ensures.whitespace)
+    omega (arith, seams_are (items_of r.seams.all) (items_of r.values) c.requires.sound.1, c.requires.within, gained_count (items_of r.seams.all) c.args.number _ c.in_ok-whitespace.whitespace (items_of h.seams.all) c.in_ok-whitespace.ensures.whitespace)
 
 pub returns-clause-pieces : goal.returns-clause-pieces
 returns-clause-pieces c =
@@ -27,18 +28,18 @@ returns-clause-pieces c =
     let e = c.whitespace_of.ensures in
     let g = c.in_ok-put_part.ensures in
     let n = c.args.number in
-    let x = c.index.result.now in
-    let within : n < length r.values.items = omega (arith, r.values.ok.0, c.requires.within) in
-    let count : c.len.result ≡ length r.values.items = omega (arith, c.len.ensures, r.values.ok.0) in
-    let z : IsLike r.seams.list.items (length r.values.items) n c.like_number-like.result x = record {
-      is = c.index.ensures;
+    let x = c.at.result.now in
+    let within : n < length (items_of r.values) = omega (arith, c.requires.within) in
+    let count : c.count.result ≡ length (items_of r.values) = omega (arith, c.count.ensures) in
+    let z : IsLike (items_of r.seams.all) (length (items_of r.values)) n c.like_number-like.result x = record {
+      is = c.at.ensures;
       within = omega (arith, c.like_number-like.ensures.within, count);
       first = λ a m. c.like_number-like.ensures.first a (omega (arith, m, count));
       own = λ f. c.like_number-like.ensures.own (λ a. omega (arith, f a, count));
     } in
-    let o : HasGained r.seams.list.items n (whitespace_like (text_bytes x.whitespace)) c.in_ok-whitespace.whitespace h.seams.list.items = subst (λ y. HasGained r.seams.list.items n y c.in_ok-whitespace.whitespace h.seams.list.items) c.in_ok-behind.ensures c.in_ok-whitespace.ensures.whitespace in
-    element_before_put r.named p.named r.length h.length p.length (text_bytes r.hollow) (text_bytes p.hollow) r.seams.list.items h.seams.list.items p.seams.list.items r.values.items h.values.items p.values.items c.around.result c.args.value n c.like_number-like.result x c.in_ok-whitespace.whitespace
-    c.requires.sound within z o (ap (λ v. v.items) e.values) g.seams g.values (λ u. c.around.ensures.piece u ∙ ap (λ t. element_between (text_bytes t) u []) o.whitespace_is)
+    let o : HasGained (items_of r.seams.all) n (whitespace_like (text_bytes x.whitespace)) c.in_ok-whitespace.whitespace (items_of h.seams.all) = subst (λ y. HasGained (items_of r.seams.all) n y c.in_ok-whitespace.whitespace (items_of h.seams.all)) c.in_ok-behind.ensures c.in_ok-whitespace.ensures.whitespace in
+    element_before_put r.named p.named r.length h.length p.length (text_bytes r.hollow) (text_bytes p.hollow) (items_of r.seams.all) (items_of h.seams.all) (items_of p.seams.all) (items_of r.values) (items_of h.values) (items_of p.values) c.around.result c.args.value n c.like_number-like.result x c.in_ok-whitespace.whitespace
+    c.requires.sound within z o (ap (λ v. items_of v) e.values) g.seams g.values (λ u. c.around.ensures.piece u ∙ ap (λ t. element_between (text_bytes t) u []) o.whitespace_is)
 
 pub returns-clause-sound : goal.returns-clause-sound
 returns-clause-sound c =
@@ -48,17 +49,17 @@ returns-clause-sound c =
     let e = c.whitespace_of.ensures in
     let g = c.in_ok-put_part.ensures in
     let n = c.args.number in
-    let x = c.index.result.now in
-    let within : n < length r.values.items = omega (arith, r.values.ok.0, c.requires.within) in
-    let count : c.len.result ≡ length r.values.items = omega (arith, c.len.ensures, r.values.ok.0) in
-    let z : IsLike r.seams.list.items (length r.values.items) n c.like_number-like.result x = record {
-      is = c.index.ensures;
+    let x = c.at.result.now in
+    let within : n < length (items_of r.values) = omega (arith, c.requires.within) in
+    let count : c.count.result ≡ length (items_of r.values) = omega (arith, c.count.ensures) in
+    let z : IsLike (items_of r.seams.all) (length (items_of r.values)) n c.like_number-like.result x = record {
+      is = c.at.ensures;
       within = omega (arith, c.like_number-like.ensures.within, count);
       first = λ a m. c.like_number-like.ensures.first a (omega (arith, m, count));
       own = λ f. c.like_number-like.ensures.own (λ a. omega (arith, f a, count));
     } in
-    let o : HasGained r.seams.list.items n (whitespace_like (text_bytes x.whitespace)) c.in_ok-whitespace.whitespace h.seams.list.items = subst (λ y. HasGained r.seams.list.items n y c.in_ok-whitespace.whitespace h.seams.list.items) c.in_ok-behind.ensures c.in_ok-whitespace.ensures.whitespace in
-    element_before_kept r.named p.named r.length h.length p.length (text_bytes r.hollow) (text_bytes p.hollow) r.seams.list.items h.seams.list.items p.seams.list.items r.values.items h.values.items p.values.items c.around.result c.args.value n c.like_number-like.result x c.in_ok-whitespace.whitespace
+    let o : HasGained (items_of r.seams.all) n (whitespace_like (text_bytes x.whitespace)) c.in_ok-whitespace.whitespace (items_of h.seams.all) = subst (λ y. HasGained (items_of r.seams.all) n y c.in_ok-whitespace.whitespace (items_of h.seams.all)) c.in_ok-behind.ensures c.in_ok-whitespace.ensures.whitespace in
+    element_before_kept r.named p.named r.length h.length p.length (text_bytes r.hollow) (text_bytes p.hollow) (items_of r.seams.all) (items_of h.seams.all) (items_of p.seams.all) (items_of r.values) (items_of h.values) (items_of p.values) c.around.result c.args.value n c.like_number-like.result x c.in_ok-whitespace.whitespace
     c.requires.value.0 c.requires.array (g.named ∙ e.named)
-    c.requires.sound within z o (ap (λ v. v.items) e.values) g.seams g.values (λ u. c.around.ensures.piece u ∙ ap (λ t. element_between (text_bytes t) u []) o.whitespace_is)
+    c.requires.sound within z o (ap (λ v. items_of v) e.values) g.seams g.values (λ u. c.around.ensures.piece u ∙ ap (λ t. element_between (text_bytes t) u []) o.whitespace_is)
     (subst IsWhitespace (sym (ap text_bytes (g.hollow ∙ e.hollow))) c.requires.sound.0.whitespace) c.requires.value.1 (c.in_ok-whitespace.ensures.length ∙ ap (λ t. r.length + length t) c.in_ok-behind.ensures) g.length

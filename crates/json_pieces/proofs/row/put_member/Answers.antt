@@ -1,4 +1,5 @@
 use Rattle.std.proofs.Common.{◌<◌, length, ap, arith}
+use Rattle.long_vec.specs.Items.{items_of}
 use Rattle.json_pieces.specs.Nodes.{row_pieces, text_bytes}
 use Rattle.json_pieces.proofs.Lists.{pieces_are}
 use Rattle.json_pieces.proofs.Rows.PutsIn.{member_exchanged, member_new}
@@ -11,7 +12,7 @@ returns-in-Some-clause-put c =
     let s = c.put_value.new.row in
     let g = c.in_ok-put_value.ensures in
     let n = c.in-Some.number in
-    let within : n < length (row_pieces r) = omega (arith, c.in-Some.ensures.within, pieces_are r.seams.list.items r.values.items c.requires.sound.1, r.values.ok.0) in
+    let within : n < length (row_pieces r) = omega (arith, c.in-Some.ensures.within, pieces_are (items_of r.seams.all) (items_of r.values) c.requires.sound.1) in
     member_exchanged r.named s.named r.length (text_bytes r.hollow) (text_bytes s.hollow) (row_pieces r) (row_pieces s) n c.args.name.now c.args.value.now c.requires.object g.named (ap text_bytes g.hollow) c.requires.sound.0 g.pieces
     (some_named r.named (row_pieces r) c.args.name.now c.number_of.result n c.in-Some.is c.number_of.ensures.number) within
 

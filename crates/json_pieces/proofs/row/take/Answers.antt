@@ -1,4 +1,5 @@
 use Rattle.std.proofs.Common.{◌≡◌, ◌<◌, length, true, sym, ◌∙◌, arith}
+use Rattle.long_vec.specs.Items.{items_of}
 use Rattle.json_pieces.specs.Nodes.{row_pieces, text_bytes}
 use Rattle.json_pieces.proofs.Lists.{pieces_are}
 use Rattle.json_pieces.proofs.Rows.Takes.{all_steps, element_taken, first_step, next_step, none_named, nothing_taken, some_named}
@@ -15,7 +16,7 @@ returns-then-not-row-clause-taken c =
     let s = c.take_part.new.row in
     let n = c.in-Some.number in
     let e = c.take_part.ensures in
-    let within : n < length (row_pieces r) = omega (arith, c.in-Some.ensures.within, pieces_are r.seams.list.items r.values.items c.requires.1, r.values.ok.0) in
+    let within : n < length (row_pieces r) = omega (arith, c.in-Some.ensures.within, pieces_are (items_of r.seams.all) (items_of r.values) c.requires.1) in
     element_taken r.named s.named r.length s.length (text_bytes r.hollow) (text_bytes s.hollow) (row_pieces r) (row_pieces s) n c.args.name.now e.named c.if-not-row.true c.requires.0 e.sound.0 e.pieces e.some
     (some_named r.named (row_pieces r) c.args.name.now c.number_of.result n c.in-Some.is c.number_of.ensures.number) within
 
@@ -25,7 +26,7 @@ loop-number-init c =
     let s = c.take_part.new.row in
     let n = c.in-Some.number in
     let e = c.take_part.ensures in
-    let within : n < length (row_pieces r) = omega (arith, c.in-Some.ensures.within, pieces_are r.seams.list.items r.values.items c.requires.1, r.values.ok.0) in
+    let within : n < length (row_pieces r) = omega (arith, c.in-Some.ensures.within, pieces_are (items_of r.seams.all) (items_of r.values) c.requires.1) in
     record {
       named = c.if-not-row.false;
       sound = e.sound;
@@ -42,7 +43,7 @@ loop-number-preserved c =
     let i = c.loop-number.invariant in
     let e = c.take_part-in-Some-number_of.ensures in
     let object : r.named ≡ true = sym c.take_part.ensures.named ∙ c.if-not-row.false in
-    let within : n < length (row_pieces s) = omega (arith, c.in-Some-number_of.ensures.within, pieces_are s.seams.list.items s.values.items i.sound.1, s.values.ok.0) in
+    let within : n < length (row_pieces s) = omega (arith, c.in-Some-number_of.ensures.within, pieces_are (items_of s.seams.all) (items_of s.values) i.sound.1) in
     record {
       named = e.named ∙ i.named;
       sound = e.sound;

@@ -1,5 +1,6 @@
-use Rattle.std.proofs.Common.{◌≡◌, true, vec_len}
+use Rattle.std.proofs.Common.{◌≡◌, length, true}
 use Rattle.json_pieces.specs.Nodes.{IsSound, row_pieces, row_view, text_bytes}
+use Rattle.long_vec.specs.Items.{items_of}
 use Rattle.json_pieces.proofs.Rows.Takes.{IsLessOf}
 use Rattle.json_pieces.proofs.row.take.Given as goal
 
@@ -11,4 +12,4 @@ invariant-loop-number l = record {
 }
 
 abbrev pub decreases-loop-number : goal.decreases-loop-number
-decreases-loop-number l = vec_len l.row.values
+decreases-loop-number l = length (items_of l.row.values)

@@ -1,13 +1,18 @@
-use Rattle.std.proofs.Common.{arith}
-use Rattle.json_pieces.proofs.Places.{all_learnt, learnt_next, of_none}
+use Rattle.std.proofs.Common.{[], ◌∷◌, ◌++◌, ap, sym, subst, refl, ◌∙◌, append-nil, append_assoc}
+use Rattle.json_pieces.specs.Names.{IsIndexOf}
+use Rattle.json_pieces.proofs.Places.{of_none}
 use Rattle.json_pieces.proofs.seams.indexed.Goals as goal
 
-pub loop-i-init : goal.loop-i-init
-loop-i-init c = of_none c.new-index.result c.new-index.ensures
+pub loop-seam-init : goal.loop-seam-init
+loop-seam-init c = ([], refl, of_none c.new-index.result c.new-index.ensures)
 
-pub loop-i-preserved : goal.loop-i-preserved
-loop-i-preserved c =
-    learnt_next c.args.seams.now c.loop-i.i c.index-seams-i.result c.loop-i.index c.learn.new.index (omega (arith, c.loop-i-test.true, c.loop-i.auto.i-end)) c.index-seams-i.is c.in_ok-learn.ensures c.loop-i.invariant
+pub loop-seam-preserved : goal.loop-seam-preserved
+loop-seam-preserved c =
+    let (done, is, h) = c.loop-seam.invariant in
+    let s = c.in-Some.seam.now in
+    (done ++ s ∷ [], append_assoc done (s ∷ []) _ ∙ ap (λ l. done ++ l) (sym c.in-Some.ensures) ∙ is, c.in_ok-learn.ensures done h)
 
 pub returns : goal.returns
-returns c = all_learnt c.args.seams.now c.loop-i.i c.loop-i.index (omega (arith, c.loop-i-test.false, c.loop-i.auto.i-end)) c.loop-i.invariant
+returns c =
+    let (done, is, h) = c.loop-seam.invariant in
+    subst (λ l. IsIndexOf l c.loop-seam.index) (sym (append-nil done) ∙ ap (λ l. done ++ l) (sym c.in_default.ensures) ∙ is) h

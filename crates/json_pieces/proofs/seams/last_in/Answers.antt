@@ -3,7 +3,7 @@ use Rattle.std.specs.Bool.{Decides}
 use Rattle.json.specs.Json.{string}
 use Rattle.json_text.specs.Listing.{IsTextOf}
 use Rattle.json_pieces.proofs.Naming.{named_here, none_behind, not_here}
-use Rattle.json_pieces.proofs.seams.scanned.Goals as goal
+use Rattle.json_pieces.proofs.seams.last_in.Goals as goal
 
 pub loop-i-init : goal.loop-i-init
 loop-i-init c = record {
@@ -11,8 +11,8 @@ loop-i-init c = record {
   none = λ cs h. none_behind c.args.seams.now cs _ c.args.name.now h (omega arith);
 }
 
-pub returns-then-is_name_text : goal.returns-then-is_name_text
-returns-then-is_name_text c = λ cs h.
+pub returns-then-is_name_text-clause-number : goal.returns-then-is_name_text-clause-number
+returns-then-is_name_text-clause-number c = λ cs h.
     let d = subst (λ u. (l : List ℕ) → IsTextOf u (string l) → Decides c.is_name_text.result (l ≡ c.args.name.now)) c.as_str.ensures c.is_name_text.ensures in
     named_here c.args.seams.now cs (c.loop-i.i - 1) c.loop-i.i c.args.name.now c.index-seams-i.result c.is_name_text.result h (omega (arith, c.loop-i.invariant.within, c.loop-i-test.true)) (omega (arith, c.loop-i-test.true)) c.index-seams-i.is d (c.loop-i.invariant.none cs h) c.if-is_name_text.true
 

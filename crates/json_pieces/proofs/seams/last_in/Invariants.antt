@@ -1,7 +1,7 @@
 use Rattle.std.proofs.Common.{◌≡◌, ◌≤◌, length, drop, List, None}
 use Rattle.json_text.specs.Rows.{Child, last_named}
 use Rattle.json_pieces.specs.Nodes.{AreNames}
-use Rattle.json_pieces.proofs.seams.scanned.Given as goal
+use Rattle.json_pieces.proofs.seams.last_in.Given as goal
 
 abbrev pub invariant-loop-i : goal.invariant-loop-i
 invariant-loop-i l = record {
