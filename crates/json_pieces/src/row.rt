@@ -365,11 +365,7 @@ fn first_element<'a>(row: &mut Row<'a>, value: Text<'a>) -> Result<(), AllocErro
 }
 
 /// Puts an element behind the last one.
-fn next_element<'a>(
-    alloc: Global,
-    row: &mut Row<'a>,
-    value: Text<'a>,
-) -> Result<(), AllocError>
+fn next_element<'a>(alloc: Global, row: &mut Row<'a>, value: Text<'a>) -> Result<(), AllocError>
     requires sound { IsSound (row_view row.old) }
     requires array { row.old.named ≡ false }
     requires some { 0 < length (items_of row.old.values) }

@@ -7,8 +7,6 @@ mod places;
 mod search;
 mod walk;
 
-pub use walk::Items;
-
 ghost use Rattle.std.specs.Prelude.{◌≡◌, ◌<◌, ◌≤◌, ◌+◌, [], ℕ, insert, length, slice_index_or, slice_set};
 ghost use Rattle.std.specs.List.{remove};
 ghost use Rattle.long_vec.specs.Blocks.{items_in, IsAt};
@@ -16,6 +14,7 @@ ghost use Rattle.long_vec.specs.Items.{items_of, capacity_of};
 
 use std::alloc::Global;
 use std::mem;
+pub use walk::Items;
 
 /// A list in blocks.
 #[derive(Drop)]
