@@ -76,9 +76,10 @@ impl Counted {
     /// The items by turns, each times 31 and the next one more, without what doesn't fit.
     pub(crate) fn mixed(&self) -> usize {
         let mut mixed: usize = 0;
-        let mut items = self.list.items();
-        while let Some(item) = items.next() {
-            mixed = mixed.wrapping_mul(31).wrapping_add(*item);
+        for block in self.list.blocks() {
+            for item in block {
+                mixed = mixed.wrapping_mul(31).wrapping_add(*item);
+            }
         }
         mixed
     }
