@@ -90,13 +90,17 @@ reads_all : (ts : List (List ℕ)) (ops : List Operation) → ReadsTrees (tree_i
 reads_all ts [] = tt
 reads_all ts (op ∷ ops) = (fields_are ts op, reads_all ts ops)
 
-pub written_says : (ts : List (List ℕ)) (ops : List Operation) (text : List ℕ) (j : Json) → j ≡ tree_of ts (written_patch ops) → (tree.depth j ≤ max_depth → document text ≡ Some j) → depth (written_patch ops) ≤ max_depth → IsTextOf text (tree_ops ts ops)
-written_says ts ops text j is read low =
-    let deep : tree.depth j ≡ depth (written_patch ops) = ap tree.depth is ∙ depth_is ts (written_patch ops) in
+pub value_says : (ts : List (List ℕ)) (d : Data) (text : List ℕ) (j : Json) → j ≡ tree_of ts d → (tree.depth j ≤ max_depth → document text ≡ Some j) → depth d ≤ max_depth → Says text (tree_of ts d)
+value_says ts d text j is read low =
+    let deep : tree.depth j ≡ depth d = ap tree.depth is ∙ depth_is ts d in
     let low_tree : tree.depth j ≤ max_depth = omega (arith, deep, low) in
-    let says : Says text j = Says-document text j (read low_tree) in
-    let n = nests text j says in
-    ((tree_of ts (written_patch ops), subst (Says text) is says, reads_all ts ops), omega (arith, n, low_tree))
+    subst (Says text) is (Says-document text j (read low_tree))
+
+pub patch_says : (ts : List (List ℕ)) (ops : List Operation) (text : List ℕ) → Says text (tree_of ts (written_patch ops)) → depth (written_patch ops) ≤ max_depth → IsTextOf text (tree_ops ts ops)
+patch_says ts ops text says low =
+    let deep = depth_is ts (written_patch ops) in
+    let n = nests text (tree_of ts (written_patch ops)) says in
+    ((tree_of ts (written_patch ops), says, reads_all ts ops), omega (arith, n, deep, low))
 
 -- ---- a document is no deeper than the tree for which it stands
 
@@ -127,7 +131,7 @@ mutual
   read_members_depth r json.no_members before = omega arith
   read_members_depth r (json.member k j ms) before = let h = read_depth r j in let g = read_members_depth r ms (put k (data_of r j) before) in let p = put_depth k (data_of r j) before in omega arith
 
-stands_depth : (ts : List (List ℕ)) (d : Data) (j : Json) → StandsFor ts d j → depth d ≤ tree.depth j
+pub stands_depth : (ts : List (List ℕ)) (d : Data) (j : Json) → StandsFor ts d j → depth d ≤ tree.depth j
 stands_depth ts d j h =
     let same = depth_same (read_as some_reading ts) d in
     let is : depth (renumbered (read_as some_reading ts) d) ≡ depth (data_of some_reading j) = ap depth (stands_now ts d j some_reading h) in
@@ -220,13 +224,13 @@ nothing_exactly from to text i j a b h = (none h.says, some h.says)
     some (p, says, reads) (k, l, c, d, same) =
         (p, says, subst (ReadsTreePatch p) (h.nothing.1 (subst (λ x. SameTree x j) (one_tree from k i c a) (subst (λ x. SameTree k x) (one_tree to l j d b) same))) reads)
 
-pub patch_never : (from to text : List ℕ) (i j : Json) → Says to j → (max_depth < nesting from → ⊥) → tree.depth j ≤ max_depth → IsTreePatch i j text → IsNeverTooDeep (max (nesting from) (nesting to)) from text
-patch_never from to text i j b shallow low h =
+pub patch_never : (from to text : List ℕ) (i j : Json) → Says from i → Says to j → tree.depth i ≤ max_depth → tree.depth j ≤ max_depth → IsTreePatch i j text → IsNeverTooDeep (max (nesting from) (nesting to)) from text
+patch_never from to text i j a b low_i low_j h =
+    let m = nests from i a in
     let n = nests to j b in
-    let m : nesting from ≤ max_depth = ⊎_elim (λ deep. absurd (shallow deep)) (λ le. le) (cases_lt max_depth (nesting from)) in
     let under : tree.depth j ≤ max (nesting from) (nesting to) = omega (arith, n) in
     let first : nesting from ≤ max (nesting from) (nesting to) = omega arith in
-    let le : max (nesting from) (nesting to) ≤ max_depth = omega (arith, n, m, low) in
+    let le : max (nesting from) (nesting to) ≤ max_depth = omega (arith, m, n, low_i, low_j) in
     never_too_deep (max (nesting from) (nesting to)) from text h.ops h.says (puts_within_more (tree.depth j) (max (nesting from) (nesting to)) h.ops under h.shallow) first le
 
 -- ---- its faults

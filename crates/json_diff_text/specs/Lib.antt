@@ -1,4 +1,6 @@
 pub mod Differences
+pub mod Faults
+pub mod Merges
 pub mod Numerals
 pub mod Renumbered
 pub mod Tables
