@@ -5,4 +5,5 @@ pub mod Merged
 pub mod Merges
 pub mod Renumbering
 pub mod Shown
+pub mod Spelled
 pub mod Standing

@@ -3,4 +3,5 @@ pub mod Faults
 pub mod Merges
 pub mod Numerals
 pub mod Renumbered
+pub mod Spellings
 pub mod Tables

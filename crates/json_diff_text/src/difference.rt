@@ -15,6 +15,7 @@ use crate::coding::coded;
 use crate::fault::{DiffTextFault, from_fault, to_fault};
 use crate::numerals::Numerals;
 use crate::reading::read;
+use crate::spelling::spelled;
 use crate::writing::written;
 use json::{MAX_DEPTH, Scratch, Value};
 use json_patch_diff::diff;
@@ -40,7 +41,10 @@ fn between(alloc: Global, from: &Value, to: &Value) -> Result<String, AllocError
     let new = coded(alloc, to, None, &mut numerals)?;
     let old = coded(alloc, from, None, &mut numerals)?;
     let patch = diff(alloc, &old, &new)?;
-    written(alloc, &patch, numerals.texts())
+    numerals.set_apart();
+    let as_written = coded(alloc, to, None, &mut numerals)?;
+    let spelled = spelled(alloc, &patch, &new, &as_written)?;
+    written(alloc, &spelled, numerals.texts())
 }
 
 /// The patch, as text, that leads from what one text says to what another says: `patch_text` makes of
@@ -52,7 +56,7 @@ fn between(alloc: Global, from: &Value, to: &Value) -> Result<String, AllocError
 /// // [{"op":"replace","path":"/b","value":2.5e3}]
 /// ```
 ///
-/// A number is written as the second text writes it where it first stands. Of several members of one
+/// Each number is written as it stands in the second text where its value goes. Of several members of one
 /// name the last counts.
 pub fn diff_text(alloc: Global, from: &str, to: &str) -> Result<String, DiffTextFault>
     ensures leads { IfOk result (λ patch. AcceptsPatch from.now (string_bytes patch) to.now) }

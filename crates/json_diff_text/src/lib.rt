@@ -18,6 +18,7 @@ mod merging;
 mod numerals;
 mod reading;
 mod showing;
+mod spelling;
 mod writing;
 
 pub use composing::merge_both_text;

@@ -42,6 +42,13 @@ impl Numerals {
         }
     }
 
+    /// From here on each numeral gets a place of its own.
+    pub(crate) fn set_apart(&mut self)
+        ensures { table self.new ≡ table self.old }
+    {
+        self.places = None;
+    }
+
     pub(crate) fn texts(&self) -> &Vec<String>
         ensures { numerals_in result.now.items ≡ table self.now }
     {
