@@ -1,5 +1,5 @@
 -- The patch between two trees, and its text.
-use Rattle.std.proofs.Common.{◌≡◌, ◌<◌, ◌≤◌, ◌+◌, ℕ, zero, suc, List, [], ◌∷◌, length, ◌↔◌, ◌⊎◌, ⊎_elim, inl, inr, Some, None, Ordering, Less, Equal, Greater, Bool, false, max, map, refl, sym, ap, ◌∙◌, subst, arith}
+use Rattle.std.proofs.Common.{◌≡◌, ◌<◌, ◌≤◌, ◌+◌, ℕ, zero, suc, List, [], ◌∷◌, length, ◌↔◌, ◌⊎◌, inl, inr, Some, None, Ordering, Less, Equal, Greater, Bool, false, max, map, refl, sym, ap, ◌∙◌, subst, arith}
 use Rattle.std.specs.Bool.{Decides}
 use Rattle.std.specs.Prelude.{codes, IsSome}
 use Rattle.std.specs.Ordering.{nat_cmp, match_ordering}

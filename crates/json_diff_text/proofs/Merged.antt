@@ -1,5 +1,5 @@
 -- What a merge patch does with other numbers is what it does, with other numbers: a merge compares none. And how deep one nests.
-use Rattle.std.proofs.Common.{◌≡◌, ◌≢◌, ◌<◌, ◌≤◌, ◌-◌, ℕ, suc, List, [], ◌∷◌, Option, Some, None, option_map, option_and_then, max, refl, sym, ap, ◌∙◌, subst, arith}
+use Rattle.std.proofs.Common.{◌≡◌, ◌≢◌, ◌<◌, ◌≤◌, ◌-◌, ℕ, List, [], ◌∷◌, Option, Some, None, option_map, option_and_then, max, refl, sym, ap, ◌∙◌, subst, arith}
 use Rattle.std.specs.Prelude.{unwrap_or}
 use Rattle.std.proofs.lemmas.Option.{none-some}
 use Rattle.serde_json.specs.Data.{Num, Data, null, boolean, number, string, array, object, Members, no_members, member, depth, members_depth}
@@ -12,7 +12,7 @@ use Rattle.json_patch_merge.specs.Merged.{IsMerged, IsMergedMember, replaces, by
 use Rattle.json_merge_diff.specs.Composed as composed
 use Rattle.json_merge_diff.specs.Composed.{IsComposed, IsComposedMember}
 use Rattle.json_merge_diff.specs.Leads.{Resets, WantsNull, under}
-use Rattle.json_diff_text.specs.Renumbered.{renumbered, renumbered_members}
+use Rattle.json_diff_text.specs.Renumbered.{renumbered}
 use Rattle.json_diff_text.proofs.Renumbering.{child_is, over}
 
 -- ---- what is seen

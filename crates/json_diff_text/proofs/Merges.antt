@@ -3,7 +3,6 @@ use Rattle.std.proofs.Common.{◌≡◌, ◌≤◌, ◌↔◌, ℕ, List, Option
 use Rattle.std.specs.Prelude.{codes, IfOk, IfSome, Result}
 use Rattle.std.specs.Bool.{Decides}
 use Rattle.std.specs.declared.alloc.AllocError.{AllocError}
-use Rattle.json.specs.Find.{as_object}
 use Rattle.json.specs.Json as json
 use Rattle.json.specs.Json.{Json}
 use Rattle.json.specs.Tree as tree
@@ -18,7 +17,7 @@ use Rattle.json_patch_merge.specs.Merged.{IsMerged}
 use Rattle.json_patch_merge.specs.MergedComputed.{members_of}
 use Rattle.json_patch_merge.proofs.Merges.{merged_exactly, one}
 use Rattle.json_merge_diff.specs.Composed.{IsComposed}
-use Rattle.json_merge_diff.specs.Leads.{DoesBoth, Resets, WantsNull}
+use Rattle.json_merge_diff.specs.Leads.{Resets, WantsNull}
 use Rattle.json_merge_diff.proofs.Composing.{does}
 use Rattle.json_merge_diff.proofs.Existing.{resets_none}
 use Rattle.json_merge_diff.proofs.Results.{wanted}

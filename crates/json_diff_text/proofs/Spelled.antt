@@ -1,5 +1,5 @@
 -- Operations whose values are written otherwise: they say the same.
-use Rattle.std.proofs.Common.{rules, ◌↔◌, Bool, true, false, ◌≡◌, ◌≤◌, ◌+◌, ℕ, suc, List, [], ◌∷◌, ◌++◌, Some, Option, None, option_map, length, map, drop, refl, sym, ap, ap₂, ◌∙◌, subst, arith}
+use Rattle.std.proofs.Common.{rules, ◌↔◌, Bool, true, false, ◌≡◌, ◌≤◌, ◌+◌, ℕ, suc, List, [], ◌∷◌, ◌++◌, Some, option_map, length, map, refl, sym, ap, ◌∙◌, subst, arith}
 use Rattle.std.specs.Prelude.{IfOk, IsTrue, MatchResult, Result, Ok, Err}
 use Rattle.std.specs.declared.alloc.AllocError.{AllocError}
 use Rattle.serde_json.specs.declared.value.Value.{Value}

@@ -1,5 +1,5 @@
 -- For private clauses: why a text isn't read.
-use Rattle.std.specs.Prelude.{◌≡◌, ◌<◌, ℕ, List, ⊤}
+use Rattle.std.specs.Prelude.{◌<◌, ℕ, List, ⊤}
 use Rattle.json.specs.Json.{Json}
 use Rattle.json_lexemes.specs.Skipped.{nesting}
 use Rattle.json_lexemes.specs.Spelled.{Says}

@@ -107,7 +107,7 @@ impl Numerals {
 }
 
 /// The place that a number stands for.
-pub(crate) fn place_in(value: &Value) -> Option<usize> {
+fn place_in(value: &Value) -> Option<usize> {
     let place = value.as_u64()?;
     usize::try_from(place).ok()
 }

@@ -4,7 +4,7 @@ use Rattle.json.specs.Value.{value_view}
 use Rattle.json_patch_operation.specs.Operation.{operations_of}
 use Rattle.json_reading.specs.Same.{SameTree}
 use Rattle.serde_json.specs.View.{view}
-use Rattle.json_diff_text.specs.Numerals.{AreNumbers, Grows}
+use Rattle.json_diff_text.specs.Numerals.{Grows}
 use Rattle.json_diff_text.specs.Tables.{numerals_in, table}
 use Rattle.json_diff_text.proofs.Between.{apart_of, are_written, edits_written, nothing_between, patch_shallow, written_shallow}
 use Rattle.json_diff_text.proofs.Coded.{grows_more, stands_grown}

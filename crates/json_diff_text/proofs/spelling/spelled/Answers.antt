@@ -1,7 +1,6 @@
-use Rattle.std.proofs.Common.{arith, ap, ◌∙◌, ◌++◌, ◌∷◌, [], drop, sym, subst, map}
-use Rattle.std.proofs.lemmas.List.{map-append}
+use Rattle.std.proofs.Common.{arith, drop}
 use Rattle.serde_json.specs.View.{view}
-use Rattle.json_patch_operation.specs.Operation.{operation_of, operations}
+use Rattle.json_patch_operation.specs.Operation.{operations}
 use Rattle.json_diff_text.proofs.Coded.{next_of}
 use Rattle.json_diff_text.proofs.Spelled.{pushed_op}
 use Rattle.json_diff_text.proofs.spelling.spelled.Goals as goal
