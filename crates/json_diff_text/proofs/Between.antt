@@ -1,5 +1,5 @@
 -- The patch between two trees, and its text.
-use Rattle.std.proofs.Common.{◌≡◌, ◌<◌, ◌≤◌, ◌+◌, ℕ, zero, suc, List, [], ◌∷◌, length, ◌↔◌, ◌⊎◌, ⊎_elim, inl, inr, Some, None, Ordering, Less, Equal, Greater, Bool, false, max, map, refl, sym, ap, ◌∙◌, subst, arith}
+use Rattle.std.proofs.Common.{◌≡◌, ◌<◌, ◌≤◌, ◌+◌, ℕ, zero, suc, List, [], ◌∷◌, length, ◌↔◌, ◌⊎◌, inl, inr, Some, None, Ordering, Less, Equal, Greater, Bool, false, max, map, refl, sym, ap, ◌∙◌, subst, arith}
 use Rattle.std.specs.Bool.{Decides}
 use Rattle.std.specs.Prelude.{codes, IsSome}
 use Rattle.std.specs.Ordering.{nat_cmp, match_ordering}
@@ -20,7 +20,7 @@ use Rattle.serde_json.specs.View.{items_of}
 use Rattle.json_patch_document.specs.Document.{IsDocument}
 use Rattle.json_patch_document.proofs.SameDocuments.{AreSame-document}
 use Rattle.json_patch_laws.specs.Inverse.{ArePlain}
-use Rattle.json_patch_laws.specs.Run.{IsAccepted}
+use Rattle.json_patch_laws.specs.Run.{Accepts, IsAccepted}
 use Rattle.json_patch_limits.specs.declared.limits.Limits.{Limits}
 use Rattle.json_patch_operation.specs.Operation.{Operation, add, remove, replace, move, copy, test, AreWhole}
 use Rattle.json_patch_operation.specs.PatchValue.{written_value, written_patch}
@@ -33,15 +33,17 @@ use Rattle.json_reading.proofs.Trees.{one_document, same_exactly}
 use Rattle.json_patch_text.specs.Patched.{AcceptsPatch}
 use Rattle.json_diff_text.specs.Differences.{IsFewBetween, IsPlainPatch, IsTextOf, IsTreePatch, SaySame}
 use Rattle.json_diff_text.specs.Numerals.{numeral, numeral_at, tree_of, tree_items, tree_members, tree_op, tree_ops, read_as, StandsFor, AreNumbers}
-use Rattle.json_patch_text.specs.Operations.{TreeOperation, tree_fields, HasFields, ReadsTrees, ReadsTreePatch, SaysOperations}
-use Rattle.json_diff_text.specs.Renumbered.{renumbered}
+use Rattle.json_patch_text.specs.Operations.{TreeOperation, all_under, tree_fields, HasFields, ReadsTrees, ReadsTreePatch, SaysOperations}
+use Rattle.json_diff_text.specs.Renumbered.{renumbered, renumbered_op}
 use Rattle.json_patch_diff.specs.Size.{values}
 use Rattle.json_patch_limits.specs.OverLimits.{AreShallow, NeverOver}
 use Rattle.json_patch_text.specs.Run.{AcceptsTree}
 use Rattle.json_patch_text.specs.Shallow.{IsNeverTooDeep}
 use Rattle.json_patch_text.proofs.Shallow.{never_too_deep, puts_within_more}
 use Rattle.json_diff_text.proofs.Levels.{all_fit_there, depth_is, depth_same, patch_fits, values_are}
-use Rattle.json_diff_text.proofs.Standing.{leads, plain_there, stands_now}
+use Rattle.json_diff_text.specs.Spellings.{AreSpellings}
+use Rattle.json_diff_text.proofs.Spelled.{as_many, fit_alike, shallow_alike}
+use Rattle.json_diff_text.proofs.Standing.{leads, plain_there, read_ops, stands_now}
 
 -- ---- a document with its numerals can be written
 
@@ -90,13 +92,17 @@ reads_all : (ts : List (List ℕ)) (ops : List Operation) → ReadsTrees (tree_i
 reads_all ts [] = tt
 reads_all ts (op ∷ ops) = (fields_are ts op, reads_all ts ops)
 
-pub written_says : (ts : List (List ℕ)) (ops : List Operation) (text : List ℕ) (j : Json) → j ≡ tree_of ts (written_patch ops) → (tree.depth j ≤ max_depth → document text ≡ Some j) → depth (written_patch ops) ≤ max_depth → IsTextOf text (tree_ops ts ops)
-written_says ts ops text j is read low =
-    let deep : tree.depth j ≡ depth (written_patch ops) = ap tree.depth is ∙ depth_is ts (written_patch ops) in
+pub value_says : (ts : List (List ℕ)) (d : Data) (text : List ℕ) (j : Json) → j ≡ tree_of ts d → (tree.depth j ≤ max_depth → document text ≡ Some j) → depth d ≤ max_depth → Says text (tree_of ts d)
+value_says ts d text j is read low =
+    let deep : tree.depth j ≡ depth d = ap tree.depth is ∙ depth_is ts d in
     let low_tree : tree.depth j ≤ max_depth = omega (arith, deep, low) in
-    let says : Says text j = Says-document text j (read low_tree) in
-    let n = nests text j says in
-    ((tree_of ts (written_patch ops), subst (Says text) is says, reads_all ts ops), omega (arith, n, low_tree))
+    subst (Says text) is (Says-document text j (read low_tree))
+
+pub patch_says : (ts : List (List ℕ)) (ops : List Operation) (text : List ℕ) → Says text (tree_of ts (written_patch ops)) → depth (written_patch ops) ≤ max_depth → IsTextOf text (tree_ops ts ops)
+patch_says ts ops text says low =
+    let deep = depth_is ts (written_patch ops) in
+    let n = nests text (tree_of ts (written_patch ops)) says in
+    ((tree_of ts (written_patch ops), says, reads_all ts ops), omega (arith, n, deep, low))
 
 -- ---- a document is no deeper than the tree for which it stands
 
@@ -127,7 +133,7 @@ mutual
   read_members_depth r json.no_members before = omega arith
   read_members_depth r (json.member k j ms) before = let h = read_depth r j in let g = read_members_depth r ms (put k (data_of r j) before) in let p = put_depth k (data_of r j) before in omega arith
 
-stands_depth : (ts : List (List ℕ)) (d : Data) (j : Json) → StandsFor ts d j → depth d ≤ tree.depth j
+pub stands_depth : (ts : List (List ℕ)) (d : Data) (j : Json) → StandsFor ts d j → depth d ≤ tree.depth j
 stands_depth ts d j h =
     let same = depth_same (read_as some_reading ts) d in
     let is : depth (renumbered (read_as some_reading ts) d) ≡ depth (data_of some_reading j) = ap depth (stands_now ts d j some_reading h) in
@@ -178,18 +184,37 @@ op_count ts (op ∷ ops) = ap suc (op_count ts ops)
 values_there : (ts : List (List ℕ)) (d : Data) (j : Json) (r : Reading) → StandsFor ts d j → values (data_of r j) ≡ values d
 values_there ts d j r h = ap values (sym (stands_now ts d j r h)) ∙ values_are (read_as r ts) d
 
-pub edits_between : (ts : List (List ℕ)) (i j : Json) (d e : Data) (ops : List Operation) (text : List ℕ) → (SameTree i j → ⊥) → StandsFor ts d i → StandsFor ts e j → IsDocument d → IsBetween d e ops
-    → IsTextOf text (tree_ops ts ops) → IsTreePatch i j text
-edits_between ts i j d e ops text apart at_i at_j hd (hv, plain, accepted, few, never) (says, low) =
-    let leads_there : AcceptsTree i (tree_ops ts ops) j = leads ts i j d e ops at_i at_j hd hv accepted.accepts in
+-- the operations are written as os, which say the same wherever the second tree's documents do
+pub record AreWritten (ts : List (List ℕ)) (j : Json) (ops os : List Operation) : Type 0 where
+  pub told : Data
+  pub written : Data
+  pub tells : StandsFor ts told j
+  pub writes : StandsFor ts written j
+  pub alike : AreSpellings told written ops os
+
+same_read : (ts : List (List ℕ)) (j : Json) (ops os : List Operation) (r : Reading) → AreWritten ts j ops os → map (renumbered_op (read_as r ts)) os ≡ map (renumbered_op (read_as r ts)) ops
+same_read ts j ops os r w = w.alike.1 (read_as r ts) (stands_now ts w.told j r w.tells ∙ sym (stands_now ts w.written j r w.writes))
+
+same_under : (ts : List (List ℕ)) (j : Json) (ops os : List Operation) (r : Reading) → AreWhole ops → AreWritten ts j ops os → all_under r (tree_ops ts os) ≡ all_under r (tree_ops ts ops)
+same_under ts j ops os r hv w = read_ops r ts os (w.alike.0 hv) ∙ same_read ts j ops os r w ∙ sym (read_ops r ts ops hv)
+
+pub written_shallow : (ts : List (List ℕ)) (j : Json) (n : ℕ) (ops os : List Operation) → AreWritten ts j ops os → AreShallow n ops → AreShallow n os
+written_shallow ts j n ops os w h = shallow_alike (read_as some_reading ts) n ops os (same_read ts j ops os some_reading w) h
+
+pub edits_between : (ts : List (List ℕ)) (i j : Json) (d e : Data) (ops os : List Operation) (text : List ℕ) → (SameTree i j → ⊥) → StandsFor ts d i → StandsFor ts e j → IsDocument d → IsBetween d e ops → AreWritten ts j ops os
+    → IsTextOf text (tree_ops ts os) → IsTreePatch i j text
+edits_between ts i j d e ops os text apart at_i at_j hd (hv, plain, accepted, few, never) w (says, low) =
+    let leads_there : AcceptsTree i (tree_ops ts os) j = λ r. subst (λ x. Accepts (data_of r i) x (data_of r j)) (sym (same_under ts j ops os r hv w)) (leads ts i j d e ops at_i at_j hd hv accepted.accepts r) in
     record {
-      ops = tree_ops ts ops;
+      ops = tree_ops ts os;
       says = says;
       leads = leads_there;
-      plain = plain_there ts i d ops at_i hd hv plain;
-      nothing = (same_of i j (tree_ops ts ops) leads_there, (λ s. absurd (apart s)));
-      few = λ r. let n = op_count ts ops in let a = values_there ts d i r at_i in let b = values_there ts e j r at_j in omega (arith, n, a, b, few);
-      shallow = all_fit_there ts (depth e) (tree.depth j) ops (stands_depth ts e j at_j) (patch_fits d e ops plain never);
+      plain = λ r. subst (ArePlain (data_of r i)) (sym (same_under ts j ops os r hv w)) (plain_there ts i d ops at_i hd hv plain r);
+      nothing = (same_of i j (tree_ops ts os) leads_there, (λ s. absurd (apart s)));
+      few = λ r.
+          let m = as_many (read_as r ts) ops os (same_read ts j ops os r w) in
+          let n = op_count ts os in let a = values_there ts d i r at_i in let b = values_there ts e j r at_j in omega (arith, m, n, a, b, few);
+      shallow = all_fit_there ts (depth e) (tree.depth j) os (stands_depth ts e j at_j) (fit_alike (read_as some_reading ts) (depth e) ops os (same_read ts j ops os some_reading w) (patch_fits d e ops plain never));
       readable = low;
     }
 
@@ -220,13 +245,13 @@ nothing_exactly from to text i j a b h = (none h.says, some h.says)
     some (p, says, reads) (k, l, c, d, same) =
         (p, says, subst (ReadsTreePatch p) (h.nothing.1 (subst (λ x. SameTree x j) (one_tree from k i c a) (subst (λ x. SameTree k x) (one_tree to l j d b) same))) reads)
 
-pub patch_never : (from to text : List ℕ) (i j : Json) → Says to j → (max_depth < nesting from → ⊥) → tree.depth j ≤ max_depth → IsTreePatch i j text → IsNeverTooDeep (max (nesting from) (nesting to)) from text
-patch_never from to text i j b shallow low h =
+pub patch_never : (from to text : List ℕ) (i j : Json) → Says from i → Says to j → tree.depth i ≤ max_depth → tree.depth j ≤ max_depth → IsTreePatch i j text → IsNeverTooDeep (max (nesting from) (nesting to)) from text
+patch_never from to text i j a b low_i low_j h =
+    let m = nests from i a in
     let n = nests to j b in
-    let m : nesting from ≤ max_depth = ⊎_elim (λ deep. absurd (shallow deep)) (λ le. le) (cases_lt max_depth (nesting from)) in
     let under : tree.depth j ≤ max (nesting from) (nesting to) = omega (arith, n) in
     let first : nesting from ≤ max (nesting from) (nesting to) = omega arith in
-    let le : max (nesting from) (nesting to) ≤ max_depth = omega (arith, n, m, low) in
+    let le : max (nesting from) (nesting to) ≤ max_depth = omega (arith, m, n, low_i, low_j) in
     never_too_deep (max (nesting from) (nesting to)) from text h.ops h.says (puts_within_more (tree.depth j) (max (nesting from) (nesting to)) h.ops under h.shallow) first le
 
 -- ---- its faults
@@ -247,8 +272,11 @@ told_shallow text levels b d off deep = false≢true (sym off ∙ d.1 deep)
 pub apart_of : (b : Bool) (P : Type 0) → Decides b P → b ≡ false → P → ⊥
 apart_of b P d off h = false≢true (sym off ∙ d.1 h)
 
-pub edits_written : (us ts : List (List ℕ)) (i j : Json) (d e : Data) (ops : List Operation) (text : List ℕ) → us ≡ ts → (SameTree i j → ⊥) → StandsFor ts d i → StandsFor ts e j → IsDocument d → IsBetween d e ops → IsTextOf text (tree_ops us ops) → IsTreePatch i j text
-edits_written us ts i j d e ops text is apart at_i at_j hd between says = edits_between ts i j d e ops text apart at_i at_j hd between (subst (λ x. IsTextOf text (tree_ops x ops)) is says)
+pub edits_written : (us ts : List (List ℕ)) (i j : Json) (d e : Data) (ops os : List Operation) (text : List ℕ) → us ≡ ts → (SameTree i j → ⊥) → StandsFor ts d i → StandsFor ts e j → IsDocument d → IsBetween d e ops → AreWritten ts j ops os → IsTextOf text (tree_ops us os) → IsTreePatch i j text
+edits_written us ts i j d e ops os text is apart at_i at_j hd between w says = edits_between ts i j d e ops os text apart at_i at_j hd between w (subst (λ x. IsTextOf text (tree_ops x os)) is says)
+
+pub are_written : (ts : List (List ℕ)) (j : Json) (told written : Data) (ops os : List Operation) → StandsFor ts told j → StandsFor ts written j → AreSpellings told written ops os → AreWritten ts j ops os
+are_written ts j told written ops os tells writes alike = record { told = told; written = written; tells = tells; writes = writes; alike = alike }
 
 pub patch_readable : (text : List ℕ) (i j : Json) → IsTreePatch i j text → nesting text ≤ max_depth
 patch_readable text i j h = h.readable

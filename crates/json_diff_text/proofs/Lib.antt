@@ -1,6 +1,9 @@
 pub mod Between
 pub mod Coded
 pub mod Levels
+pub mod Merged
+pub mod Merges
 pub mod Renumbering
 pub mod Shown
+pub mod Spelled
 pub mod Standing

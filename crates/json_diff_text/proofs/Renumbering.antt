@@ -86,7 +86,7 @@ segment_is f (string s) t = refl
 segment_is f (array ds) t = refl
 segment_is f (object ms) t = refl
 
-child_is : (f : Num → Num) (s : Segment) (d : Data) → child s (renumbered f d) ≡ option_map (renumbered f) (child s d)
+pub child_is : (f : Num → Num) (s : Segment) (d : Data) → child s (renumbered f d) ≡ option_map (renumbered f) (child s d)
 child_is f (key k) (object ms) = member_is f k ms
 child_is f (key k) null = refl
 child_is f (key k) (boolean b) = refl
@@ -134,7 +134,7 @@ through : (f : Num → Num) {A : Type 0} (F G : A → Option Data) (o : Option A
 through f F G None h = refl
 through f F G (Some a) h = h a
 
-over : (f : Num → Num) (F G : Data → Option Data) (o : Option Data) → ((c : Data) → F (renumbered f c) ≡ option_map (renumbered f) (G c)) → option_and_then F (option_map (renumbered f) o) ≡ option_map (renumbered f) (option_and_then G o)
+pub over : (f : Num → Num) (F G : Data → Option Data) (o : Option Data) → ((c : Data) → F (renumbered f c) ≡ option_map (renumbered f) (G c)) → option_and_then F (option_map (renumbered f) o) ≡ option_map (renumbered f) (option_and_then G o)
 over f F G None h = refl
 over f F G (Some c) h = h c
 

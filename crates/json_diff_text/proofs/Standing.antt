@@ -96,7 +96,7 @@ read_op r ts (move F P) h = refl
 read_op r ts (copy F P) h = refl
 read_op r ts (test P v) h = ap (test P) (read_tree r ts v h)
 
-read_ops : (r : Reading) (ts : List (List ℕ)) (ops : List Operation) → AreWhole ops → all_under r (tree_ops ts ops) ≡ map (renumbered_op (read_as r ts)) ops
+pub read_ops : (r : Reading) (ts : List (List ℕ)) (ops : List Operation) → AreWhole ops → all_under r (tree_ops ts ops) ≡ map (renumbered_op (read_as r ts)) ops
 read_ops r ts [] h = refl
 read_ops r ts (op ∷ ops) h = ap₂ (λ o os. o ∷ os) (read_op r ts op h.0) (read_ops r ts ops h.1)
 

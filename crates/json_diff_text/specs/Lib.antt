@@ -1,4 +1,7 @@
 pub mod Differences
+pub mod Faults
+pub mod Merges
 pub mod Numerals
 pub mod Renumbered
+pub mod Spellings
 pub mod Tables

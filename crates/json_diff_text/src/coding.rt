@@ -13,12 +13,23 @@ use json::Value as Tree;
 use serde_json::{Map, Number, Value};
 use std::alloc::{AllocError, Global};
 
+/// The element of an array, if it is one and has one at this place.
+fn element<'v>(value: Option<&'v Value>, place: usize) -> Option<&'v Value> {
+    value?.as_array()?.get(place)
+}
+
+/// The member of an object, if it is one and has one of this name.
+fn named<'v>(value: Option<&'v Value>, name: &str) -> Option<&'v Value> {
+    value?.as_object()?.get(name)
+}
+
 /// The document, and the numerals that aren't in the table yet put into it. Of several members of one
-/// name the last stands.
+/// name the last stands. The other value, if there is one, is what it is compared with.
 #[cycle(coding)]
 pub(crate) fn coded(
     alloc: Global,
     tree: &Tree,
+    other: Option<&Value>,
     numerals: &mut Numerals,
 ) -> Result<Value, AllocError>
     requires numbers { AreNumbers (table numerals.old) }
@@ -32,10 +43,10 @@ pub(crate) fn coded(
     match tree {
         Tree::Null => Ok(Value::Null),
         Tree::Bool(b) => Ok(Value::Bool(*b)),
-        Tree::Number(text) => Ok(Value::Number(Number::from(numerals.code(alloc, text)?))),
+        Tree::Number(text) => Ok(Value::Number(Number::from(numerals.code(alloc, text, other)?))),
         Tree::String(text) => Ok(Value::String(String::from_str(alloc, text)?)),
-        Tree::Array(items) => Ok(Value::Array(coded_items(alloc, items, numerals)?)),
-        Tree::Object(members) => Ok(Value::Object(coded_members(alloc, members, numerals)?)),
+        Tree::Array(items) => Ok(Value::Array(coded_items(alloc, items, other, numerals)?)),
+        Tree::Object(members) => Ok(Value::Object(coded_members(alloc, members, other, numerals)?)),
     }
 }
 
@@ -43,6 +54,7 @@ pub(crate) fn coded(
 fn coded_items(
     alloc: Global,
     items: &Vec<Tree>,
+    other: Option<&Value>,
     numerals: &mut Numerals,
 ) -> Result<Vec<Value>, AllocError>
     requires numbers { AreNumbers (table numerals.old) }
@@ -55,7 +67,8 @@ fn coded_items(
 {
     let mut values = Vec::with_capacity(alloc, items.len())?;
     for item in items {
-        values.push(coded(alloc, item, numerals)?)?;
+        let beside = element(other, values.len());
+        values.push(coded(alloc, item, beside, numerals)?)?;
     }
     Ok(values)
 }
@@ -64,6 +77,7 @@ fn coded_items(
 fn coded_members<'a>(
     alloc: Global,
     members: &Vec<(&'a str, Tree<'a>)>,
+    other: Option<&Value>,
     numerals: &mut Numerals,
 ) -> Result<Map<String, Value>, AllocError>
     requires numbers { AreNumbers (table numerals.old) }
@@ -76,7 +90,7 @@ fn coded_members<'a>(
 {
     let mut map = Map::new(alloc);
     for (name, member) in members {
-        let value = coded(alloc, member, numerals)?;
+        let value = coded(alloc, member, named(other, name), numerals)?;
         map.insert(String::from_str(alloc, name)?, value)?;
     }
     Ok(map)

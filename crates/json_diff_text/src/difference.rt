@@ -12,13 +12,14 @@ ghost use Rattle.json_patch_text.specs.Operations.{SaysOperations};
 ghost use Rattle.json_patch_text.specs.Shallow.{IsNeverTooDeep};
 
 use crate::coding::coded;
-use crate::fault::DiffTextFault;
+use crate::fault::{DiffTextFault, from_fault, to_fault};
 use crate::numerals::Numerals;
+use crate::reading::read;
+use crate::spelling::spelled;
 use crate::writing::written;
-use json::{Error, MAX_DEPTH, Scratch, Value};
+use json::{MAX_DEPTH, Scratch, Value};
 use json_patch_diff::diff;
 use json_reading::same_tree;
-use json_text::{TextFault, is_deeper};
 use std::alloc::{AllocError, Global};
 
 /// How many brackets of the second text may be open at once. The patch's text has two levels more, and
@@ -36,11 +37,14 @@ fn between(alloc: Global, from: &Value, to: &Value) -> Result<String, AllocError
     if same_tree(alloc, from, to)? {
         return String::from_str(alloc, "[]");
     }
-    let mut numerals = Numerals::new(alloc);
-    let new = coded(alloc, to, &mut numerals)?;
-    let old = coded(alloc, from, &mut numerals)?;
+    let mut numerals = Numerals::by_number(alloc);
+    let new = coded(alloc, to, None, &mut numerals)?;
+    let old = coded(alloc, from, None, &mut numerals)?;
     let patch = diff(alloc, &old, &new)?;
-    written(alloc, &patch, numerals.texts())
+    numerals.set_apart();
+    let as_written = coded(alloc, to, None, &mut numerals)?;
+    let spelled = spelled(alloc, &patch, &new, &as_written)?;
+    written(alloc, &spelled, numerals.texts())
 }
 
 /// The patch, as text, that leads from what one text says to what another says: `patch_text` makes of
@@ -52,7 +56,7 @@ fn between(alloc: Global, from: &Value, to: &Value) -> Result<String, AllocError
 /// // [{"op":"replace","path":"/b","value":2.5e3}]
 /// ```
 ///
-/// A number is written as the second text writes it where it first stands. Of several members of one
+/// Each number is written as it stands in the second text where its value goes. Of several members of one
 /// name the last counts.
 pub fn diff_text(alloc: Global, from: &str, to: &str) -> Result<String, DiffTextFault>
     ensures leads { IfOk result (λ patch. AcceptsPatch from.now (string_bytes patch) to.now) }
@@ -65,23 +69,15 @@ pub fn diff_text(alloc: Global, from: &str, to: &str) -> Result<String, DiffText
         from.now (string_bytes patch)) }
     ensures fault { IfErr result (IsDiffTextFault from.now to.now) }
 {
-    if is_deeper(from, MAX_DEPTH) {
-        return Err(DiffTextFault::From(TextFault::TooDeep));
-    }
-    if is_deeper(to, MOST_LEVELS) {
-        return Err(DiffTextFault::To(TextFault::TooDeep));
-    }
     let mut old = Scratch::new(alloc);
-    let start = match Value::parse(alloc, from, &mut old) {
+    let start = match read(alloc, from, MAX_DEPTH, &mut old) {
         Ok(value) => value,
-        Err(Error::Invalid) => return Err(DiffTextFault::From(TextFault::NotJson)),
-        Err(_) => return Err(DiffTextFault::Memory(AllocError)),
+        Err(fault) => return Err(from_fault(fault)),
     };
     let mut new = Scratch::new(alloc);
-    let goal = match Value::parse(alloc, to, &mut new) {
+    let goal = match read(alloc, to, MOST_LEVELS, &mut new) {
         Ok(value) => value,
-        Err(Error::Invalid) => return Err(DiffTextFault::To(TextFault::NotJson)),
-        Err(_) => return Err(DiffTextFault::Memory(AllocError)),
+        Err(fault) => return Err(to_fault(fault)),
     };
     Ok(between(alloc, &start, &goal)?)
 }

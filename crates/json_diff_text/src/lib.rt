@@ -1,18 +1,27 @@
-//! The patch between two JSON texts (RFC 6902), of any numbers: [`diff_text`].
+//! Patches made from two JSON texts, of any numbers: the patch (RFC 6902) and the merge patch (RFC 7396)
+//! between them, [`diff_text`] and [`merge_diff_text`], and of two merge patches one that does both,
+//! [`merge_both_text`].
 //!
-//! Each text is read as a document in which a whole number stands for each numeral, the same one for
-//! numerals of equal numbers. `json_patch_diff` makes the patch between the two documents, which is
-//! written with the numerals in place of the numbers. That it leads from the one text to the other
-//! rests on this: an operation that is accepted does with other numbers what it does with these.
+//! Each text is read as a document in which a whole number stands for each numeral, the same one where
+//! equal numbers are compared. `json_patch_diff` or `json_merge_diff` makes the patch of the two
+//! documents, which is written with the numerals in place of the numbers. That it leads from the one text
+//! to the other rests on this: an operation that is accepted does with other numbers what it does with
+//! these, and so does a merge.
 #![tactic(auto)]
 
 mod coding;
+mod composing;
 mod difference;
 mod fault;
 mod key;
+mod merging;
 mod numerals;
+mod reading;
 mod showing;
+mod spelling;
 mod writing;
 
+pub use composing::merge_both_text;
 pub use difference::{MOST_LEVELS, diff_text};
-pub use fault::DiffTextFault;
+pub use fault::{BothTextFault, DiffTextFault};
+pub use merging::merge_diff_text;

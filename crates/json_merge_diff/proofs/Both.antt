@@ -32,6 +32,10 @@ pub it_does : (p q : Data) (o : Option Value) → IsComposedOrNone p q o → IfS
 it_does p q None h = tt
 it_does p q (Some r) h = λ d c e hd hc he. does h.0
 
+pub it_is_composed : (p q : Data) (o : Option Value) → IsComposedOrNone p q o → IfSome o (λ r. IsComposed p q (view r))
+it_is_composed p q None h = tt
+it_is_composed p q (Some r) h = h.0
+
 pub it_never_does : (p q : Data) (o : Option Value) → IsDocument p → IsDocument q → IsComposedOrNone p q o → o ≡ None → (r : Data) → IsDocument r → DoesBoth p q r → ⊥
 it_never_does p q None hp hq h is r hr = never h.0 p q r hp hq hr h.1 h.2 h.3
 it_never_does p q (Some x) hp hq h is r hr = cc

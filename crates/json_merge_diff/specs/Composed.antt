@@ -1,4 +1,4 @@
--- For private clauses: one merge patch of two, each name by itself.
+-- One merge patch of two, each name by itself.
 use Rattle.std.specs.Prelude.{◌≡◌, ◌≢◌, ℕ, List, Option, Some, None, String}
 use Rattle.std.specs.BTreeMap.{BTreeMap}
 use Rattle.std.specs.declared.alloc.Global.{Global}
@@ -21,6 +21,8 @@ mutual
     first : {o : Option Data} → IsComposedMember o None o
     second : {q : Data} → IsComposedMember None (Some q) (Some q)
     both : {p q r : Data} → IsComposed p q r → IsComposedMember (Some p) (Some q) (Some r)
+
+-- ---- for private clauses
 
 -- the members of the one
 abbrev pub AreComposed : Members → Members → Option (BTreeMap (String Global) Value) → Type 0

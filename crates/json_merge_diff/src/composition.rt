@@ -5,7 +5,7 @@ ghost use Rattle.serde_json.specs.Data.{Data};
 ghost use Rattle.serde_json.specs.View.{members_view, view};
 ghost use Rattle.json_patch_document.specs.Document.{AreMembers, IsDocument};
 ghost use Rattle.json_merge_diff.specs.Leads.{DoesBoth, Resets};
-ghost use Rattle.json_merge_diff.specs.Composed.{AreComposed, IsComposedAt, IsComposedOrNone};
+ghost use Rattle.json_merge_diff.specs.Composed.{AreComposed, IsComposed, IsComposedAt, IsComposedOrNone};
 
 use crate::alone::first_alone;
 use serde_json::{Map, Value};
@@ -24,6 +24,8 @@ pub fn merge_both(alloc: Global, first: &Value, then: &Value) -> Result<Option<V
     ensures document { IfOk result (λ o. IfSome o (λ r. IsDocument (view r))) }
     ensures both { IfOk result
         (λ o. IfSome o (λ r. DoesBoth (view first.now) (view then.now) (view r))) }
+    ensures by_name { IfOk result
+        (λ o. IfSome o (λ r. IsComposed (view first.now) (view then.now) (view r))) }
     ensures impossible { IfOk result (λ o. o ≡ None → (r : Data) → IsDocument r
         → DoesBoth (view first.now) (view then.now) r → ⊥) }
     ensures resets { IfOk result (λ o. (o ≡ None) ↔ Resets (view first.now) (view then.now)) }

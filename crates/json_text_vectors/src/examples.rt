@@ -23,7 +23,7 @@ pub(crate) fn answer(alloc: Global, call: &str, place: Pointer) -> Result<String
         "string_of" => told(alloc, name_in_text(alloc)),
         "patch_text" | "patch_text_within" => patches::shown(alloc, call),
         "merge_text" | "merge_text_within" => merges::shown(alloc, call),
-        "diff_text" => differences::shown(alloc),
+        "diff_text" | "merge_diff_text" | "merge_both_text" => differences::shown(alloc, call),
         _ => of_checked(alloc, call, place),
     }
 }

@@ -4,6 +4,7 @@ use crate::places::found;
 use crate::rows::told;
 use json_merge_text::{MergeTextFault, merge_text, merge_text_within};
 use std::alloc::{AllocError, Global};
+use std::fmt::Display;
 
 fn example(alloc: Global) -> Result<String, MergeTextFault> {
     let text = "{\n  \"title\": \"Hello!\",\n  \"price\": 1.50\n}\n";
@@ -21,7 +22,7 @@ fn within_example(alloc: Global) -> Result<Option<String>, MergeTextFault> {
 pub(crate) fn shown(alloc: Global, call: &str) -> Result<String, AllocError> {
     match call {
         "merge_text" => told(alloc, example(alloc)),
-        _ => if_within(alloc, within_example(alloc)),
+        _ => if_made(alloc, within_example(alloc)),
     }
 }
 
@@ -32,15 +33,16 @@ pub(crate) fn within(
     patch: &str,
     copied: usize,
 ) -> Result<String, AllocError> {
-    if_within(alloc, merge_text_within(alloc, text, patch, copied))
+    if_made(alloc, merge_text_within(alloc, text, patch, copied))
 }
 
-fn if_within(
+/// The line for a text, if there is one, or for why there is no answer.
+pub(crate) fn if_made<E: Display + Drop>(
     alloc: Global,
-    answer: Result<Option<String>, MergeTextFault>,
+    answer: Result<Option<String>, E>,
 ) -> Result<String, AllocError> {
     match answer {
-        Ok(Some(new)) => told::<MergeTextFault>(alloc, Ok(new)),
+        Ok(Some(new)) => told::<E>(alloc, Ok(new)),
         Ok(None) => found(alloc, None),
         Err(fault) => told(alloc, Err(fault)),
     }

@@ -1,6 +1,7 @@
 //! What a row asks for.
 
 use crate::{examples, merges, patches, pieces, places};
+use json_diff_text::{merge_both_text, merge_diff_text};
 use json_text::{CheckedText, add, remove, replace};
 use jsonptr::Pointer;
 use serde_json::Value;
@@ -56,6 +57,8 @@ fn on_two(alloc: Global, call: &str, text: &str, second: &str) -> Result<String,
         "diff_text" => told(alloc, json_diff_text::diff_text(alloc, text, second)),
         "is_deeper" => yes_or_no(alloc, json_text::is_deeper(text, number(second))),
         "merge_text" => told(alloc, json_merge_text::merge_text(alloc, text, second)),
+        "merge_diff_text" => merges::if_made(alloc, merge_diff_text(alloc, text, second)),
+        "merge_both_text" => merges::if_made(alloc, merge_both_text(alloc, text, second)),
         "patch_text" => told(alloc, json_patch_text::patch_text(alloc, text, second)),
         "Pieces" => told(alloc, pieces::changed(alloc, text, second)),
         _ => on_place(alloc, call, text, second),
