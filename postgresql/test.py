@@ -327,7 +327,7 @@ class History(Sql):
 
     def test_columns_of_many_kinds(self):
         """Two columns in the key, odd names, an array, an identity, a generated column; a key that changes."""
-        self.tracked('number bigint GENERATED ALWAYS AS IDENTITY, part text, "odd name" text[], d jsonb, price numeric(10,2), twice numeric GENERATED ALWAYS AS (price * 2) STORED,'
+        self.tracked('number bigint GENERATED ALWAYS AS IDENTITY, part text, other int GENERATED ALWAYS AS IDENTITY, "odd name" text[], d jsonb, price numeric(10,2), twice numeric GENERATED ALWAYS AS (price * 2) STORED,'
                      ' f float8, b bytea, PRIMARY KEY (part, number)')
         first = self.rows("""INSERT INTO t (part, "odd name", d, price, f, b) VALUES ('a', '{x,"y z",NULL}', '{"n":1.50}', 1.50, 0.1, '\\x00ff') RETURNING *""")
         self.rows("""UPDATE t SET d = json_patch_apply(d, '[{"op":"remove","path":"/n"}]'), "odd name" = NULL, price = 2, f = 'NaN', b = ''""")
@@ -345,15 +345,16 @@ class History(Sql):
         self.assertEqual(self.rows("SELECT part FROM t"), [("b",)])
 
     def test_a_key_in_other_settings(self):
-        """A key that is written otherwise in another session is the same key."""
+        """A key that is written otherwise in another session is the same key; without an offset a time is one of UTC."""
         self.tracked("at timestamptz PRIMARY KEY, d jsonb")
         self.rows("SET timezone = 'Asia/Tokyo'; INSERT INTO t VALUES ('2026-01-01 09:00:00+09', '1')")
         self.rows("SET timezone = 'America/New_York'; UPDATE t SET d = '2'")
-        for key in ("2026-01-01T00:00:00+00:00", "2025-12-31T19:00:00-05:00"):
+        for key in ("2026-01-01T00:00:00+00:00", "2025-12-31T19:00:00-05:00", "2026-01-01T00:00:00"):
+            self.rows("UPDATE t SET d = '3'")
             self.assertEqual(self.one("SELECT json_patch_row_at('t', jsonb_build_object('at', %s), 1)->'d'", key), 1)
-        self.one("SELECT json_patch_undo('t', '{\"at\":\"2026-01-01T01:00:00+01:00\"}', 1)")
+            self.one("SELECT json_patch_undo('t', jsonb_build_object('at', %s), 1)", key)
+            self.assertEqual(self.rows("SELECT d FROM t"), [(1,)])
         self.rows("RESET timezone")
-        self.assertEqual(self.rows("SELECT d FROM t"), [(1,)])
 
     def test_truncate(self):
         self.tracked("id int PRIMARY KEY, d jsonb")
