@@ -148,6 +148,8 @@ DECLARE
     names constant text[] := TG_ARGV[1];
     was jsonb := 'null';
     now jsonb := 'null';
+    was_key jsonb;
+    now_key jsonb;
 BEGIN
     IF TG_OP = 'TRUNCATE' THEN
         EXECUTE pg_catalog.format(
@@ -157,17 +159,17 @@ BEGIN
     END IF;
     IF TG_OP <> 'INSERT' THEN
         was := pg_catalog.to_jsonb(OLD);
+        was_key := @extschema@.json_patch_part(was, names);
     END IF;
     IF TG_OP <> 'DELETE' THEN
         now := pg_catalog.to_jsonb(NEW);
+        now_key := @extschema@.json_patch_part(now, names);
     END IF;
-    IF TG_OP = 'UPDATE' AND @extschema@.json_patch_part(was, names) <> @extschema@.json_patch_part(now, names) THEN
+    IF was_key <> now_key THEN
         EXECUTE into_history || ' VALUES ($1, ''DELETE'', $2), ($3, ''INSERT'', $4)'
-            USING @extschema@.json_patch_part(was, names), @extschema@.json_patch_diff('null', was),
-                  @extschema@.json_patch_part(now, names), @extschema@.json_patch_diff(now, 'null');
+            USING was_key, @extschema@.json_patch_diff('null', was), now_key, @extschema@.json_patch_diff(now, 'null');
     ELSE
-        EXECUTE into_history || ' VALUES ($1, $2, $3)'
-            USING @extschema@.json_patch_part(CASE TG_OP WHEN 'DELETE' THEN was ELSE now END, names), TG_OP, @extschema@.json_patch_diff(now, was);
+        EXECUTE into_history || ' VALUES ($1, $2, $3)' USING coalesce(now_key, was_key), TG_OP, @extschema@.json_patch_diff(now, was);
     END IF;
     RETURN NULL;
 END$$;
