@@ -33,6 +33,7 @@ from model import copied, same  # noqa: E402
 ROOT = None
 CHANGES, PAIRS = 3_000, 3_000
 CLIENTS, EACH, ROWS = 8, 120, 20
+UNTIL_ENDED = 1_000_000
 APPLY, INVERSE, MERGE, DIFF = "json_patch_apply", "json_patch_inverse", "json_patch_merge", "json_patch_diff"
 NAMES = {"apply": APPLY, "record": INVERSE, "merge": MERGE, "diff": DIFF}
 # the statuses and kinds of c/json_patch.h
@@ -386,6 +387,9 @@ class History(Sql):
         self.one("SELECT json_patch_undo('t', '{\"id\":1}', 1)")
         self.rows("RESET ALL")
         self.assertEqual(self.rows("SELECT d FROM t"), [([[[1]]],)])
+        nested = "UPDATE t SET d = (repeat('[', %s) || repeat(']', %s))::jsonb"
+        self.rows(nested, 123, 123)
+        self.assertEqual(self.fails(nested, 124, 124).pgcode, "JP020")
 
     def test_what_is_refused(self):
         self.rows("CREATE TABLE keyless (a int); CREATE TABLE plain (id int PRIMARY KEY)")
@@ -423,7 +427,7 @@ class Clients(Sql):
         self.one("SELECT json_patch_keep_history('t')::text")
         self.rows("""INSERT INTO t SELECT n, '{"n":0,"price":1.50,"log":[]}' FROM generate_series(1, %s) n""", ROWS)
         self.first = self.one("SELECT max(version) FROM t_history")
-        self.done = [0] * CLIENTS
+        self.done, self.each = [0] * CLIENTS, EACH
 
     def change(self, client, run, pick):
         """One more at a row's n, as one statement, or behind a `test` of the n that was read."""
@@ -447,12 +451,13 @@ class Clients(Sql):
         pick = random.Random(number)
         try:
             with session(self.name) as run:
-                while self.done[number] < EACH:
+                while self.done[number] < self.each:
                     self.done[number] += self.change(number, run, pick)
         except (psycopg2.OperationalError, psycopg2.InterfaceError, psycopg2.errors.AdminShutdown):
             pass
 
-    def started(self):
+    def started(self, each=EACH):
+        self.each = each
         threads = [threading.Thread(target=self.client, args=(number,)) for number in range(CLIENTS)]
         for thread in threads:
             thread.start()
@@ -486,33 +491,40 @@ class Clients(Sql):
             thread.join()
         self.assertEqual(self.rows("SELECT DISTINCT json_patch_row_at('t', jsonb_build_object('id', id), %s)->>'d' FROM t", self.first), [('{"n": 0, "log": [], "price": 1.50}',)])
 
-    def running(self, but_for=()):
-        while True:
-            found = self.rows("SELECT pid FROM pg_stat_activity WHERE datname = %s AND state = 'active' AND query LIKE 'UPDATE%%'", self.name)
-            found = [pid for pid, in found if pid not in but_for]
-            if found:
-                return found[0]
+    def running(self):
+        """The process of a client that is in an UPDATE."""
+        until = time.monotonic() + 60
+        while time.monotonic() < until:
+            for pid, in self.rows("SELECT pid FROM pg_stat_activity WHERE datname = %s AND state = 'active' AND query LIKE 'UPDATE%%'", self.name):
+                return pid
+        return self.fail("no client is in an UPDATE")
 
-    def test_sessions_ended_in_mid_change(self):
-        threads = self.started()
-        for _ in range(3):
-            self.one("SELECT pg_terminate_backend(%s)", self.running())
-            time.sleep(0.05)
+    def ended(self, threads):
+        self.each = 0
         for thread in threads:
             thread.join()
-        self.assertLess(sum(self.done), CLIENTS * EACH)
+
+    def test_sessions_ended_in_mid_change(self):
+        threads = self.started(UNTIL_ENDED)
+        try:
+            for _ in range(3):
+                self.one("SELECT pg_terminate_backend(%s)", self.running())
+                time.sleep(0.05)
+        finally:
+            self.ended(threads)
         self.check_all(sum(self.done), sum(self.done) + CLIENTS)
 
     def test_a_process_killed_and_the_server_restarted(self):
         for end in ("kill", "restart"):
-            threads = self.started()
-            pid = self.running()
-            if end == "kill":
-                os.kill(pid, signal.SIGKILL)
-            else:
-                server("stop", "one", "immediate")
-            for thread in threads:
-                thread.join()
+            threads = self.started(UNTIL_ENDED)
+            try:
+                pid = self.running()
+                if end == "kill":
+                    os.kill(pid, signal.SIGKILL)
+                else:
+                    server("stop", "one", "immediate")
+            finally:
+                self.ended(threads)
             if end == "restart":
                 server("start", "one", "5432")
             type(self).connection = self.reopened()
@@ -538,11 +550,11 @@ class Memory(Sql):
         document, total = '{"a":[1,{"b":"text"},[[]]]}', 0
         with session(self.name) as run:
             run.execute("CREATE SCHEMA refusing; CREATE FUNCTION refusing.refuse(int) RETURNS int LANGUAGE c AS '$libdir/json_patch_refuse', 'pg_json_patch_refuse'")
-            for name in (APPLY, MERGE, INVERSE, DIFF, "json_patch_check"):
-                kinds, gives = ("json", "text") if name == "json_patch_check" else ("json, json", "json")
+            for name in (APPLY, MERGE, INVERSE, DIFF, "json_patch_value", "json_patch_check"):
+                kinds, gives = {"json_patch_value": ("json, text", "json"), "json_patch_check": ("json", "text")}.get(name, ("json, json", "json"))
                 run.execute(f"CREATE FUNCTION refusing.{name}({kinds}) RETURNS {gives} LANGUAGE c AS '$libdir/json_patch_refuse', 'pg_{name}'")
             for query in [f"SELECT refusing.{name}('{document}', '{patch}')::text" for name, patch in self.CALLS] + [
-                    "SELECT refusing.json_patch_check('[{\"op\":\"add\",\"path\":\"/b\",\"value\":[{}]}]')"]:
+                    f"SELECT refusing.json_patch_value('{document}', '/a/1')::text", "SELECT refusing.json_patch_check('[{\"op\":\"add\",\"path\":\"/b\",\"value\":[{}]}]')"]:
                 ample, requests = self.refusing(run, query, 0)
                 self.assertGreater(requests, 0, query)
                 for number in range(1, requests + 1):
@@ -686,11 +698,10 @@ class Texts(Sql):
 
     def test_what_the_texts_show(self):
         self.rows("CREATE TABLE documents (id int PRIMARY KEY, document jsonb); INSERT INTO documents VALUES (1, '{\"a\":1,\"b\":2}')")
-        blocks = self.shown("docs/POSTGRESQL.md")
-        self.assertGreaterEqual(len(blocks), 1)
-        for block in blocks:
+        for page, left in [("docs/POSTGRESQL.md", {"a": 1, "b": 2}), ("README.md", {"b": 2})]:
+            block, = self.shown(page)
             self.rows(block)
-        self.assertEqual(self.rows("SELECT document FROM documents"), [({"a": 1, "b": 2},)])
+            self.assertEqual(self.rows("SELECT document FROM documents"), [(left,)])
 
 
 if __name__ == "__main__":
