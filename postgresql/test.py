@@ -406,6 +406,16 @@ class History(Sql):
         self.rows("UPDATE u SET d = '2'")
         self.assertEqual(self.one("SELECT json_patch_row_at('u', '{\"id\":1}', 1)->'d'"), 1)
 
+    def test_names_that_want_quotes(self):
+        self.rows("""CREATE SCHEMA "My ""S"; CREATE TABLE "My ""S"."T'%s" ("Key ""1" int, "k, 2" text, "It's" jsonb, PRIMARY KEY ("k, 2", "Key ""1"))""")
+        table = """"My ""S"."T'%s\""""
+        self.assertEqual(self.one("SELECT json_patch_keep_history(%s)::text", table), '"My ""S"."T\'%s_history"')
+        self.rows("""INSERT INTO "My ""S"."T'%s" VALUES (1, '{"', '1'); UPDATE "My ""S"."T'%s" SET "It's" = '2'; DELETE FROM "My ""S"."T'%s" """)
+        key = json.dumps({'Key "1': 1, "k, 2": '{"'})
+        for version, left in [(2, 2), (1, 1), (3, None), (1, 1)]:
+            self.one("SELECT json_patch_undo(%s, %s, %s)", table, key, version)
+            self.assertEqual(self.rows("""SELECT "It's" FROM "My ""S"."T'%s" """), [(left,)] if left else [])
+
     def test_names_of_a_stranger_are_not_called(self):
         """Functions that fit better, in a schema that the caller's search_path has first."""
         self.tracked("id int PRIMARY KEY, d jsonb")

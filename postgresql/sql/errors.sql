@@ -48,7 +48,6 @@ SELECT told($$SELECT json_patch_merge('{ "a": 1}'::json, '{"b":2}')$$);
 RESET json_patch.max_copied;
 SHOW json_patch.max_copied;
 SET json_patch.max_depth = 125;
-SET json_patch.max_coped = 1;
 -- copies into themselves, doubled again and again: the depth is reached at 64, and 2 ^ 7 is more than 124
 SELECT told($$SELECT json_patch_apply('{"a":0}'::jsonb, (SELECT jsonb_agg(jsonb_build_object('op', 'copy', 'from', '', 'path', repeat('/a', (2 ^ n)::int)) ORDER BY n) FROM generate_series(0, 11) n))$$);
 -- what json can hold, and jsonb not
