@@ -1,7 +1,7 @@
 #!/usr/bin/env python3
 """Random JSON texts, patched in place, against a model of the bytes.
 
-    diff/texts.py [--seed S] [--cases N] --ours PROGRAM [--rust PROGRAM] [--wide] [--spoil]
+    diff/texts.py [--seed S] [--cases N] --ours PROGRAM [--rust PROGRAM] [--wide] [--spoil] [--record]
 
 PROGRAM is that of diff/texts.rt.txt, which `diff/build FOLDER json_patch_texts diff/texts.rt.txt
 json_patch_text` proves and builds. The texts have whitespace of all kinds anywhere, names and strings with
@@ -15,7 +15,8 @@ doesn't hold, and where a kind of operation was never accepted or a kind of refu
 
 With `--wide` each text has an object of some fifty members, and each patch some twenty-five operations, a
 fifth of which take a member out: so its names are looked up in an index, which is kept over them. There a
-kind of refusal needn't come. With `--spoil` a byte of each new text is changed before it is compared: then it
+kind of refusal needn't come. With `--record` the undo has to be the model's, too, and to lead back to what
+the text says (not with `--rust` or `--spoil`). With `--spoil` a byte of each new text is changed before it is compared: then it
 fails where one isn't found out, and where none is by the Rust crate's answer."""
 import argparse
 import json
@@ -27,7 +28,7 @@ from collections import Counter
 import run
 from classes import alike
 from reasons import KINDS, REFUSAL
-from texts_model import at_tokens, patched, read, tokens_of
+from texts_model import at_tokens, patched, plain, read, recorded, stretch, tokens_of
 
 NAMES = ("a", "b", "", "a/b", "m~n", "\u00e9", "\n", "\U0001f600", "-", "0", "1")
 OPERATIONS = ("add", "add", "remove", "replace", "move", "copy", "test")
@@ -215,16 +216,26 @@ def by_rust(program, batch):
     return [next(answered) if pair else None for pair in said]
 
 
-def case_of(texts, wide):
+def case_of(texts, wide, record):
     """A text and a patch, its operations, and what is wanted: None where a byte is changed or cut off."""
     text = texts.wide() if wide else texts.text(4)
     operations = texts.many_operations(text) if wide else texts.operations(text)
     patch = texts.written(operations)
-    wanted = patched(text, operations)
+    wanted = recorded(text, operations) if record else patched(text, operations)
     if texts.random.random() < 0.125:
         text, patch = (texts.broken(text), patch) if texts.random.random() < 0.5 else (text, texts.broken(patch))
         wanted = None
-    return (text, patch), operations, wanted
+    return (text, patch, *(("record",) if record else ())), operations, wanted
+
+
+def leads_back(text, new, undo):
+    """Whether the undo leads from the new text back to what the text says, up to the order of members."""
+    operations = []
+    for operation, (*_, node) in zip(json.loads(undo), read(undo).parts):
+        puts = [part[3] for part in node.parts if part[1] == "value"]
+        operations.append((operation, stretch(undo, puts[0]) if puts else None))
+    back, _ = patched(new, operations)
+    return back is not None and plain(read(back)) == plain(read(text))
 
 
 def spoilt(texts, got):
@@ -257,14 +268,18 @@ def asked_for():
     words.add_argument("--rust")
     words.add_argument("--wide", action="store_true")
     words.add_argument("--spoil", action="store_true")
-    return words.parse_args()
+    words.add_argument("--record", action="store_true")
+    asked = words.parse_args()
+    if asked.record and (asked.rust or asked.spoil):
+        words.error("--record goes with neither --rust nor --spoil")
+    return asked
 
 
 def main():
     asked = asked_for()
     texts, came, wrong, done = Texts(asked.seed), Counter(), 0, 0
     while done < asked.cases:
-        batch = [case_of(texts, asked.wide) for _ in range(min(BATCH, asked.cases - done))]
+        batch = [case_of(texts, asked.wide, asked.record) for _ in range(min(BATCH, asked.cases - done))]
         theirs = by_rust(asked.rust, batch) if asked.rust else [None] * len(batch)
         ours = answers(asked.ours, [pair for pair, *_ in batch])
         for (pair, operations, wanted), line, said in zip(batch, ours, theirs):
@@ -272,6 +287,7 @@ def main():
             if asked.spoil and wanted:
                 got = spoilt(texts, got)
             other = is_wrong(got, operations, wanted, said, came)
+            other |= asked.record and wanted is not None and got[0] is not None and not leads_back(pair[0], *got[0])
             if asked.spoil:
                 wrong += wanted is not None and wanted[0] is not None and not other
             elif other:

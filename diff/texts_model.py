@@ -245,3 +245,54 @@ def patched(text, operations):
         except Refused as refused:
             return None, f"operation '/{number}' failed at path '{operation['path']}': {refused}"
     return text, None
+
+
+# ---- the way back
+
+
+def stretch(text, node):
+    return text[node.start:node.end]
+
+
+def back_from_add(text, tokens):
+    """What takes an addition back: the operation's name, its tokens and its value's text."""
+    whole = read(text)
+    if not tokens:
+        return ("replace", tokens, stretch(text, whole))
+    parent = at_tokens(whole, tokens[:-1])
+    if parent.kind == "array":
+        return ("remove", tokens[:-1] + [str(len(parent.parts)) if tokens[-1] == "-" else tokens[-1]], None)
+    there = at_tokens(parent, tokens[-1:])
+    return ("remove", tokens, None) if there is None else ("replace", tokens, stretch(text, there))
+
+
+def back_from(text, operation):
+    """What takes an accepted operation back, in the order in which it is made."""
+    op, tokens = operation["op"], tokens_of(operation["path"])
+    if op == "test":
+        return []
+    if op in ("add", "copy"):
+        return [back_from_add(text, tokens)]
+    if op == "move":
+        source = tokens_of(operation["from"])
+        taken = stretch(text, at_tokens(read(text), source))
+        return [back_from_add(removed(text, source), tokens), ("add", source, taken)]
+    return [("add" if op == "remove" else "replace", tokens, stretch(text, at_tokens(read(text), tokens)))]
+
+
+def pointer_of(tokens):
+    return "".join("/" + token.replace("~", "~0").replace("/", "~1") for token in tokens)
+
+
+def recorded(text, operations):
+    """As `patched`, and the text of the undo."""
+    new, why = patched(text, operations)
+    if new is None:
+        return None, why
+    undo = []
+    for operation, put in operations:
+        undo = back_from(text, operation) + undo
+        text = step(text, operation, put)
+    parts = [f'{{"op":"{op}","path":{quoted(pointer_of(tokens))}' + (f',"value":{put}}}' if put is not None else "}")
+             for op, tokens, put in undo]
+    return [new, "[" + ",".join(parts) + "]"], None

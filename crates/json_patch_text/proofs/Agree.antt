@@ -165,7 +165,7 @@ nothing_taken : (l : List ℕ) (F : Pointer) (j : Json) (o : Option Json) → op
 nothing_taken l F j None h = refl
 nothing_taken l F j (Some v) h = ap (λ o. option_map (λ e. put_at F e j) (option_map (λ old. remove_child l v) o)) h
 
-removed_nowhere : (P : Pointer) (j : Json) → tree_at P j ≡ None → removed P j ≡ None
+pub removed_nowhere : (P : Pointer) (j : Json) → tree_at P j ≡ None → removed P j ≡ None
 removed_nowhere [] j e = refl
 removed_nowhere (t ∷ P) j e = nothing_taken (last_of t P) (front_of t P) j (tree_at (front_of t P) j) (sym (tree_below t P j) ∙ e)
 

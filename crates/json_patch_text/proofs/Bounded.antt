@@ -1,20 +1,29 @@
 -- A run within limits, one step at a time: each text on the way is within, up to the one that is over.
-use Rattle.std.proofs.Common.{◌≡◌, ◌⊎◌, inl, inr, Bool, false, ◌<◌, ◌≤◌, ◌+◌, ℕ, zero, suc, List, [], ◌∷◌, length, take, Option, Some, None, refl, sym, ap, ◌∙◌, subst, add-one, arith}
+use Rattle.std.proofs.Common.{◌≡◌, ◌⊎◌, inl, inr, Bool, true, false, ◌<◌, ◌≤◌, ◌+◌, ℕ, zero, suc, List, [], ◌∷◌, ◌++◌, length, take, Option, Some, None, refl, sym, ap, ◌∙◌, subst, add-one, append_assoc, append-nil, arith}
 use Rattle.std.specs.Prelude.{slice_get, MatchOption}
 use Rattle.std.specs.Bool.{Decides}
 use Rattle.std.proofs.lemmas.Bool.{cases_lt, false≢true}
+use Rattle.std.proofs.lemmas.List.{take_all}
 use Rattle.json.specs.Json.{Json, max_depth}
 use Rattle.json.specs.Tree.{depth}
 use Rattle.json_patch_limits.specs.declared.limits.LimitKind.{LimitKind}
 use Rattle.json_patch_limits.specs.declared.limits.Limits.{Limits}
-use Rattle.json_patch_text.specs.Bounded.{AreMadeUnder, IsLeftUnder, IsOverUnder, IsReachedUnder, IsUnder, OverBy, levels_of, most_of}
+use Rattle.json_patch_text.specs.Bounded.{AreMadeUnder, IsLeftUnder, IsLogUnder, IsLoggedUnder, IsOverBy, IsReachedUnder, IsRecordedBefore, IsRecordedUntil, IsRunFaultUnder, IsShort, IsStepOver, IsUnder, StepOverBy, levels_of, most_of}
+use Rattle.json_patch_text.specs.Logs.{HasLog, Logs}
+use Rattle.json_patch_text.specs.WayBack.{IsRecordOver}
+use Rattle.json_patch_text.specs.Undos.{AreTakenFrom, IsTakenFrom, undo_list}
+use Rattle.json_patch_text.specs.declared.log.Log.{Log}
+use Rattle.json_patch_text.specs.declared.undo.Undo.{Undo}
+use Rattle.json_patch_text.specs.declared.fault.TextLimitFault.TheVariants as within
+use Rattle.json_patch_limits.specs.declared.limits.LimitKind.TheVariants as limit
+use Rattle.jsonptr.specs.Text.{Pointer}
 use Rattle.json_patch_text.specs.Made.{AreMadeIn, IsLeft, IsMadeIn, IsNoDeeper, IsStopped}
 use Rattle.json_patch_text.specs.Operations.{TreeOperation}
 use Rattle.json_patch_text.specs.Reached.{IsReached}
 use Rattle.json_patch_text.specs.Run.{AcceptsText}
-use Rattle.json_patch_text.specs.Stopped.{IsRunFault, Reports}
+use Rattle.json_patch_text.specs.Stopped.{Reports}
 use Rattle.json_patch_text.specs.TextOperations.{AreWrittenAs, IsWrittenAs, place_of}
-use Rattle.json_patch_text.specs.Within.{AreMadeWithin, IsTextWithin}
+use Rattle.json_patch_text.specs.Within.{AreMadeWithin, IsTextOver, IsTextWithin}
 use Rattle.json_patch_text.specs.declared.bounds.Bounds.{Bounds}
 use Rattle.json_patch_text.specs.declared.fault.PatchTextFault.{PatchTextFault}
 use Rattle.json_patch_text.specs.declared.fault.PatchTextFault.TheVariants.{Document, Patch, Unreadable, Refused, TooDeep, Memory}
@@ -68,10 +77,29 @@ reached_under_more b text left new os k o less at r made comes under =
     let bytes = under_more b text left new os k o less at r (subst (λ n. IsReached text os n new) (add-one k) next) made under in
     (next, subst (λ n. AreMadeUnder b text (take n os) new) (sym (add-one k)) bytes)
 
--- what a look at a text tells that isn't over
-pub not_over : (b : Option Bounds) (text : List ℕ) (o : Option LimitKind) → ((kind : LimitKind) → o ≡ Some kind → ⊥) → MatchOption o (IsUnder b text) (OverBy b text) → IsUnder b text
-not_over b text None none h = h
-not_over b text (Some kind) none h = absurd (none kind refl)
+-- what a look tells where nothing is over
+pub not_over : (A : Type 0) (B : LimitKind → Type 0) (o : Option LimitKind) → ((kind : LimitKind) → o ≡ Some kind → ⊥) → MatchOption o A B → A
+not_over A B None none h = h
+not_over A B (Some kind) none h = absurd (none kind refl)
+
+-- ---- what takes the operations back
+
+taken_more : (Fits : List ℕ → Type 0) (text left new : List ℕ) (os : List TextOperation) (us vs : List Undo) (k : ℕ) (o : TextOperation) → k < length os → IsAt os k o → AreTakenFrom Fits text (take k os) left us → nesting left ≤ max_depth → IsMadeIn left o new
+    → IsTakenFrom left o vs → Fits new → AreTakenFrom Fits text (take (suc k) os) new (us ++ vs)
+taken_more Fits text left new [] us vs k o less at h low m t fits = absurd (omega arith)
+taken_more Fits text left new (x ∷ os) us vs zero o less at (here, e, none) low m t fits =
+    let one : IsMadeIn text x new = subst (λ y. IsMadeIn text y new) at (subst (λ s. IsMadeIn s o new) e m) in
+    let back : IsTakenFrom text x vs = subst (λ y. IsTakenFrom text y vs) at (subst (λ s. IsTakenFrom s o vs) e t) in
+    (here, subst (λ s. nesting s ≤ max_depth) e low, (new, vs, [], one, back, (fits, refl, refl), ap (λ l. l ++ vs) none ∙ sym (append-nil vs)))
+taken_more Fits text left new (x ∷ os) us vs (suc k) o less at (here, shallow, (next, xs, ys, made, taken, rest, e)) low m t fits =
+    (here, shallow, (next, xs, ys ++ vs, made, taken, taken_more Fits next left new os ys vs k o (omega arith) at rest low m t fits, ap (λ l. l ++ vs) e ∙ append_assoc xs ys vs))
+
+pub logged_first : (b : Option Bounds) (text new : List ℕ) (os : List TextOperation) (log : Log) → new ≡ text → HasLog log [] → IsUnder b text → (log.kept ≡ true → IsShort b []) → IsLoggedUnder b text (take 0 os) new log
+logged_first b text new os log e h under short = λ kept. ([], h, ((under, e, refl), short kept))
+
+short_log : (b : Option Bounds) (log : Log) (us : List Undo) → HasLog log us → log.kept ≡ true → IsLogUnder b log → IsShort b us
+short_log None log us h kept under = tt
+short_log (Some b) log us h kept under = let low : log.size ≤ most_of b = under kept in let size = h.1 in omega (arith, low, size)
 
 -- ---- the one that is over
 
@@ -80,17 +108,42 @@ at_get [] k o less at = absurd (omega arith)
 at_get (x ∷ os) zero o less at = ap Some (sym at)
 at_get (x ∷ os) (suc k) o less at = at_get os k o (omega arith) at
 
-pub over_reached : (b : Option Bounds) (text left new : List ℕ) (os : List TextOperation) (ops : List TreeOperation) (k : ℕ) (o : TextOperation) (kind : LimitKind) → (j : Json) × IsShallowText text j → k < length os → IsAt os k o
-    → IsReachedUnder b text os k left → IsMadeIn left o new → ((i : Json) (op : TreeOperation) → Says left i → IsWrittenAs o op → IsLeft new i op) → OverBy b new kind → AreWrittenAs os ops → IsOverUnder b text os ops k kind
-over_reached None text left new os ops k o kind a less at r made comes over w = absurd over
-over_reached (Some b) text left new os ops k o kind a less at r made comes over w = record {
+over_text : (b : Bounds) (text : List ℕ) (log : Log) (kind : LimitKind) → log.kept ≡ false → IsStepOver b text log kind → IsTextOver b.limits (most_of b) text kind
+over_text b text log limit.TooDeep off h = h
+over_text b text log limit.TooMuch off (low, inl long) = (low, long)
+over_text b text log limit.TooMuch off (low, inr (on, long)) = absurd (false≢true (sym off ∙ on))
+
+over_record : (b : Bounds) (text : List ℕ) (log : Log) (us : List Undo) (kind : LimitKind) → HasLog log us → IsStepOver b text log kind → IsRecordOver b.limits (most_of b) text (undo_list us) kind
+over_record b text log us limit.TooDeep has h = h
+over_record b text log us limit.TooMuch has (low, inl long) = (low, inl long)
+over_record b text log us limit.TooMuch has (low, inr (on, long)) = (low, inr (subst (λ n. most_of b < n) has.1 long))
+
+pub over_reached : (kept : Bool) (b : Option Bounds) (text left new : List ℕ) (os : List TextOperation) (ops : List TreeOperation) (k : ℕ) (o : TextOperation) (old log : Log) (kind : LimitKind) → (j : Json) × IsShallowText text j → k < length os → IsAt os k o → old.kept ≡ kept
+    → IsReachedUnder b text os k left → IsLoggedUnder b text (take k os) left old → IsMadeIn left o new → ((i : Json) (op : TreeOperation) → Says left i → IsWrittenAs o op → IsLeft new i op) → Logs old (IsTakenFrom left o) log → StepOverBy b new log kind → AreWrittenAs os ops
+    → IsOverBy kept b text os ops k kind
+over_reached false None text left new os ops k o old log kind a less at e r l made comes logs over w = absurd over
+over_reached true None text left new os ops k o old log kind a less at e r l made comes logs over w = absurd over
+over_reached false (Some b) text left new os ops k o old log kind a less at e r l made comes logs over w = record {
   left = left;
   before = r.1;
   new = new;
   made = (o, at_get os k o less at, made);
   accepted = subst (λ n. AcceptsText text (take n ops) new) (add-one k) (accepted_first text new os ops (k + 1) a (reached_more text left new os k o less at r.0 made comes) w);
-  over = over;
+  over = over_text b new log kind (logs.0 ∙ e) over;
 }
+over_reached true (Some b) text left new os ops k o old log kind a less at e r l made comes logs over w =
+    let (us, has, (taken, low)) = l e in
+    let (vs, more, longer) = logs.1 e in
+    record {
+      left = left;
+      us = us;
+      before = (taken, low);
+      new = new;
+      vs = vs;
+      made = (o, at_get os k o less at, made, more);
+      accepted = subst (λ n. AcceptsText text (take n ops) new) (add-one k) (accepted_first text new os ops (k + 1) a (reached_more text left new os k o less at r.0 made comes) w);
+      over = over_record b new log (us ++ vs) kind (longer us has) over;
+    }
 
 -- ---- where it isn't made
 
@@ -103,9 +156,26 @@ left_under b text left os ops k o f (Refused g) a less at r stops (is, number, p
 left_under b text left os ops k o f (TooDeep n) a less at r stops e w = absurd e
 left_under b text left os ops k o f (Memory m) a less at r stops e w = tt
 
-pub reported_under : (b : Option Bounds) (text left : List ℕ) (os : List TextOperation) (ops : List TreeOperation) (k : ℕ) (o : TextOperation) (f : StepFault) (r : PatchTextFault) → (j : Json) × IsShallowText text j → k < length os → IsAt os k o → IsReachedUnder b text os k left
-    → ((i : Json) (op : TreeOperation) → Says left i → IsWrittenAs o op → IsStopped i op f) → Reports f k (place_of o) r → AreWrittenAs os ops → IsRunFault text os ops r × IsLeftUnder b text os r
-reported_under b text left os ops k o f r a less at h stops e w = (reported_fault text left os ops k o f r a less at h.0 stops e w, left_under b text left os ops k o f r a less at h stops e w)
+recorded_here : (b : Option Bounds) (text left : List ℕ) (os : List TextOperation) (k : ℕ) (log : Log) → log.kept ≡ true → IsLoggedUnder b text (take k os) left log → IsRecordedUntil b text os k
+recorded_here b text left os k log on l = let (us, has, recorded) = l on in (left, us, recorded)
+
+recorded_before : (b : Option Bounds) (text : List ℕ) (os : List TextOperation) (k : ℕ) (f : StepFault) (P : Pointer) (r : PatchTextFault) → IsRecordedUntil b text os k → Reports f k P r → IsRecordedBefore b text os r
+recorded_before b text os k f P (Document g) l e = tt
+recorded_before b text os k f P (Patch g) l e = tt
+recorded_before b text os k f P (Unreadable g) l e = tt
+recorded_before b text os k f P (Refused g) l (is, number, path) = subst (IsRecordedUntil b text os) (sym number) l
+recorded_before b text os k f P (TooDeep n) l e = absurd e
+recorded_before b text os k f P (Memory m) l e = tt
+
+pub reported_under : (kept : Bool) (b : Option Bounds) (text left : List ℕ) (os : List TextOperation) (ops : List TreeOperation) (k : ℕ) (o : TextOperation) (f : StepFault) (r : PatchTextFault) (log : Log) → (j : Json) × IsShallowText text j → k < length os → IsAt os k o → log.kept ≡ kept
+    → IsReachedUnder b text os k left → IsLoggedUnder b text (take k os) left log → ((i : Json) (op : TreeOperation) → Says left i → IsWrittenAs o op → IsStopped i op f) → Reports f k (place_of o) r → AreWrittenAs os ops
+    → IsRunFaultUnder kept b text os ops (within.Patch r)
+reported_under kept b text left os ops k o f r log a less at on h l stops e w =
+    (reported_fault text left os ops k o f r a less at h.0 stops e w, left_under b text left os ops k o f r a less at h stops e w, λ is. recorded_before b text os k f (place_of o) r (recorded_here b text left os k log (on ∙ is) l) e)
+
+pub deep_under : (kept : Bool) (b : Option Bounds) (text left : List ℕ) (os : List TextOperation) (ops : List TreeOperation) (k : ℕ) (log : Log) → k < length os → log.kept ≡ kept → IsReachedUnder b text os k left → IsLoggedUnder b text (take k os) left log → max_depth < nesting left
+    → IsRunFaultUnder kept b text os ops (within.Patch (TooDeep k))
+deep_under kept b text left os ops k log less on h l deep = ((less, (left, h.0.made, deep)), (left, h.1, deep), λ is. recorded_here b text left os k log (on ∙ is) l)
 
 -- ---- how deep it nests
 
@@ -143,3 +213,19 @@ pub step_shallow : (b : Option Bounds) (text left new : List ℕ) (os : List Tex
 step_shallow b text left new os k levels deep deeper l r d e h f =
     let under : nesting left ≤ levels_of b = within_levels b left (last_under b text (take k os) left r.1) (not_deep deep left d e) in
     subst (λ n. nesting new ≤ n) l (h f (subst (λ n. nesting left ≤ n) (sym l) under))
+
+-- ---- what takes one more operation back
+
+pub logged_more : (b : Option Bounds) (text left new : List ℕ) (os : List TextOperation) (k : ℕ) (o : TextOperation) (old log : Log) (deep : Bool) → k < length os → IsAt os k o → IsLoggedUnder b text (take k os) left old → Decides deep (max_depth < nesting left) → deep ≡ false → IsMadeIn left o new → Logs old (IsTakenFrom left o) log → IsUnder b new → IsLogUnder b log
+    → IsLoggedUnder b text (take (k + 1) os) new log
+logged_more b text left new os k o old log deep less at h d e made logs under short = λ kept.
+    let before : old.kept ≡ true = sym logs.0 ∙ kept in
+    let (us, has, (taken, low)) = h before in
+    let (vs, more, longer) = logs.1 before in
+    let both = longer us has in
+    (us ++ vs, both, (subst (λ n. AreTakenFrom (IsUnder b) text (take n os) new (us ++ vs)) (sym (add-one k)) (taken_more (IsUnder b) text left new os us vs k o less at taken (not_deep deep left d e) made more under), short_log b log (us ++ vs) both kept short))
+
+pub logged_last : (b : Option Bounds) (text left new : List ℕ) (os : List TextOperation) (k : ℕ) (log : Log) → length os ≡ k → new ≡ left → IsLoggedUnder b text (take k os) left log → IsLoggedUnder b text os new log
+logged_last b text left new os k log end same h =
+    let all : take k os ≡ os = take_all k os (omega (arith, end)) in
+    subst (λ x. IsLoggedUnder b text os x log) (sym same) (subst (λ x. IsLoggedUnder b text x left log) all h)

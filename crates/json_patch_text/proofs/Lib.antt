@@ -2,7 +2,9 @@ pub mod Agree
 pub mod Alike
 pub mod Bounded
 pub mod Changes
+pub mod Inverses
 pub mod Limits
+pub mod Logged
 pub mod Made
 pub mod Members
 pub mod Nested
@@ -15,6 +17,10 @@ pub mod Runs
 pub mod Shallow
 pub mod Stepped
 pub mod Steps
+pub mod UndoTexts
+pub mod Undoing
+pub mod Undone
+pub mod WayBack
 pub mod Whole
 pub mod WholeNumbers
 pub mod Within

@@ -67,7 +67,7 @@ replace_stops text P i w (step.Memory m) said h = tt
 abbrev Source : List ℕ → Pointer → Json → List ℕ → Type 0
 Source text F i s = (v : Json) × (tree_at F i ≡ Some v) × IsShallowText s v × IsShallowText text i
 
-source : (text : List ℕ) (F : Pointer) (i : Json) (s : List ℕ) (a : (j : Json) × IsShallowText text j × IsWrittenAt text j F s) → Says text i → Source text F i s
+pub source : (text : List ℕ) (F : Pointer) (i : Json) (s : List ℕ) (a : (j : Json) × IsShallowText text j × IsWrittenAt text j F s) → Says text i → Source text F i s
 source text F i s (j, shallow, (before, behind, whole, (v, at, stretch))) said =
     let same = one_tree text j i shallow.0 said in
     (v, subst (λ x. tree_at F x ≡ Some v) same at, (stretch.says, part_shallow F j v at shallow.1), subst (λ x. IsShallowText text x) same shallow)

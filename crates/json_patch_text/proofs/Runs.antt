@@ -31,7 +31,7 @@ whole r (test P w) = IsDocument-data_of r w
 
 -- ---- one operation
 
-leaves : (r : Reading) (i : Json) (op : TreeOperation) (j : Json) → ComesTo i op (Ok j) → Leaves (data_of r i) (under r op) (data_of r j)
+pub leaves : (r : Reading) (i : Json) (op : TreeOperation) (j : Json) → ComesTo i op (Ok j) → Leaves (data_of r i) (under r op) (data_of r j)
 leaves r i op j h = stepped_leaves (data_of r i) (under r op) (data_of r j) (IsDocument-data_of r i) (whole r op) (comes_ok r i op j h)
 
 refuses : (i : Json) (op : TreeOperation) (kind : PatchErrorKind) → ComesTo i op (Err kind) → (r : Reading) × Refuses (data_of r i) (under r op) kind
@@ -88,14 +88,14 @@ comes_to i op each = by (comes i op)
     by (Err kind, h) = let (r, n) = refuses i op kind h in let (e, l) = each r in absurd (not_both r i op e kind l n)
 
 -- the rest of what is accepted, from the tree that the first leaves
-accepts_rest : (i m j : Json) (op : TreeOperation) (ops : List TreeOperation) → ComesTo i op (Ok m) → AcceptsTree i (op ∷ ops) j → AcceptsTree m ops j
+pub accepts_rest : (i m j : Json) (op : TreeOperation) (ops : List TreeOperation) → ComesTo i op (Ok m) → AcceptsTree i (op ∷ ops) j → AcceptsTree m ops j
 accepts_rest i m j op ops h a r = let (e, l, rest) = a r in subst (λ d. Accepts d (all_under r ops) (data_of r j)) (one_left r i op m e h l) rest
 
 refuses_rest : (r : Reading) (i m : Json) (op : TreeOperation) (ops : List TreeOperation) (k : ℕ) (kind : PatchErrorKind) → ComesTo i op (Ok m) → RefusesAt (data_of r i) (all_under r (op ∷ ops)) (suc k) kind
     → RefusesAt (data_of r m) (all_under r ops) k kind
 refuses_rest r i m op ops k kind h (e, l, rest) = subst (λ d. RefusesAt d (all_under r ops) k kind) (one_left r i op m e h l) rest
 
-first_accepted : (i j : Json) (op : TreeOperation) (ops : List TreeOperation) → AcceptsTree i (op ∷ ops) j → (m : Json) × ComesTo i op (Ok m)
+pub first_accepted : (i j : Json) (op : TreeOperation) (ops : List TreeOperation) → AcceptsTree i (op ∷ ops) j → (m : Json) × ComesTo i op (Ok m)
 first_accepted i j op ops a = comes_to i op (λ r. let (e, l, rest) = a r in (e, l))
 
 pub not_refused : (i j : Json) (ops : List TreeOperation) (k : ℕ) (kind : PatchErrorKind) (r : Reading) → AcceptsTree i ops j → RefusesAt (data_of r i) (all_under r ops) k kind → ⊥

@@ -1,14 +1,16 @@
 -- What a step leaves, from what the call for its operation does.
-use Rattle.std.proofs.Common.{◌≡◌, ℕ, List, Bool, Result, Ok, Err, IfOk, IfErr, Bor, ◌∙◌, sym, subst}
+use Rattle.std.proofs.Common.{◌≡◌, ℕ, List, [], ◌∷◌, Bool, true, false, Result, Ok, Err, IfOk, IfErr, Bor, ◌∙◌, sym, subst}
 use Rattle.json.specs.Json.{Json}
 use Rattle.jsonptr.specs.Text.{Pointer}
 use Rattle.json_patch_text.specs.Made.{IsLeft, IsNotMade, IsStepped, IsStopped}
-use Rattle.json_patch_text.specs.Operations.{TreeOperation, add, remove, replace, move, test}
+use Rattle.json_patch_text.specs.Operations.{TreeOperation, add, remove, replace, move, copy, test}
 use Rattle.json_patch_text.specs.Step.{ComesTo}
 use Rattle.json_patch_text.specs.TextOperations.{IsWrittenAs}
+use Rattle.json_patch_text.specs.Undos.{IsMovedBack, IsTakenFrom, PutsBack, TakesBack}
+use Rattle.json_patch_text.specs.declared.undo.Undo.{Undo}
 use Rattle.json_patch_text.specs.declared.fault.StepFault.{StepFault}
 use Rattle.json_patch_text.specs.declared.operation.TextOperation.{TextOperation}
-use Rattle.json_patch_text.specs.declared.operation.TextOperation.TheVariants.{Add, Remove, Replace, Move, Test}
+use Rattle.json_patch_text.specs.declared.operation.TextOperation.TheVariants.{Add, Remove, Replace, Move, Copy, Test}
 use Rattle.json_patch_text.proofs.Made.{add_comes, add_stops, remove_comes, remove_stops, replace_comes, replace_stops}
 use Rattle.json_text.specs.Added.{HasNoPlace, IsAdded}
 use Rattle.json_text.specs.Removed.{HasNothingToRemove, IsRemoved}
@@ -100,3 +102,39 @@ pub move_stepped : (text new : List ℕ) (F G P Q : Pointer) (o : TextOperation)
     → IfErr r (λ f. (j : Json) → Says text j → IsStopped j (move F P) f) → Says text i → IsWrittenAs o op → IsStepped i op new r
 move_stepped text new F G P Q o i op (Ok deeper) is f p a n said h = move_left new F G P Q o i op is f p (a i said) h
 move_stepped text new F G P Q o i op (Err g) is f p a n said h = move_stopped F G P Q o i op g is f p (n i said) h
+
+copy_left : (new : List ℕ) (F G P Q : Pointer) (o : TextOperation) (i : Json) (op : TreeOperation) → o ≡ Copy G Q → F ≡ G → P ≡ Q → IsLeft new i (copy F P) → IsWrittenAs o op → IsLeft new i op
+copy_left new F G P Q o i op is f p a h = by op (subst (λ x. IsWrittenAs x op) is h)
+  where
+    by : (op : TreeOperation) → IsWrittenAs (Copy G Q) op → IsLeft new i op
+    by (copy E R) h = subst (λ T. IsLeft new i (copy E T)) (p ∙ h.1) (subst (λ T. IsLeft new i (copy T P)) (f ∙ h.0) a)
+    by op h = absurd h
+
+copy_stopped : (F G P Q : Pointer) (o : TextOperation) (i : Json) (op : TreeOperation) (fault : StepFault) → o ≡ Copy G Q → F ≡ G → P ≡ Q → IsStopped i (copy F P) fault → IsWrittenAs o op → IsStopped i op fault
+copy_stopped F G P Q o i op fault is f p a h = by op (subst (λ x. IsWrittenAs x op) is h)
+  where
+    by : (op : TreeOperation) → IsWrittenAs (Copy G Q) op → IsStopped i op fault
+    by (copy E R) h = subst (λ T. IsStopped i (copy E T) fault) (p ∙ h.1) (subst (λ T. IsStopped i (copy T P) fault) (f ∙ h.0) a)
+    by op h = absurd h
+
+pub copy_stepped : (text new : List ℕ) (F G P Q : Pointer) (o : TextOperation) (i : Json) (op : TreeOperation) (r : Result Bool StepFault) → o ≡ Copy G Q → F ≡ G → P ≡ Q → IfOk r (λ deeper. (j : Json) → Says text j → IsLeft new j (copy F P))
+    → IfErr r (λ f. (j : Json) → Says text j → IsStopped j (copy F P) f) → Says text i → IsWrittenAs o op → IsStepped i op new r
+copy_stepped text new F G P Q o i op (Ok deeper) is f p a n said h = copy_left new F G P Q o i op is f p (a i said) h
+copy_stepped text new F G P Q o i op (Err g) is f p a n said h = copy_stopped F G P Q o i op g is f p (n i said) h
+
+-- ---- what takes it back
+
+pub taken_add : (text : List ℕ) (o : TextOperation) (P Q : Pointer) (v : Bor (List ℕ)) (us : List Undo) → o ≡ Add Q v → P ≡ Q → (u : Undo) × (us ≡ u ∷ []) × TakesBack text P u → IsTakenFrom text o us
+taken_add text o P Q v us is p (u, e, back) = subst (λ x. IsTakenFrom text x us) (sym is) (u, e, subst (λ X. TakesBack text X u) p back)
+
+pub taken_copy : (text : List ℕ) (o : TextOperation) (F P Q : Pointer) (us : List Undo) → o ≡ Copy F Q → P ≡ Q → (u : Undo) × (us ≡ u ∷ []) × TakesBack text P u → IsTakenFrom text o us
+taken_copy text o F P Q us is p (u, e, back) = subst (λ x. IsTakenFrom text x us) (sym is) (u, e, subst (λ X. TakesBack text X u) p back)
+
+pub taken_remove : (text : List ℕ) (o : TextOperation) (P Q : Pointer) (us : List Undo) → o ≡ Remove Q → P ≡ Q → PutsBack false text P us → IsTakenFrom text o us
+taken_remove text o P Q us is p back = subst (λ x. IsTakenFrom text x us) (sym is) (subst (λ X. PutsBack false text X us) p back)
+
+pub taken_replace : (text : List ℕ) (o : TextOperation) (P Q : Pointer) (v : Bor (List ℕ)) (us : List Undo) → o ≡ Replace Q v → P ≡ Q → PutsBack true text P us → IsTakenFrom text o us
+taken_replace text o P Q v us is p back = subst (λ x. IsTakenFrom text x us) (sym is) (subst (λ X. PutsBack true text X us) p back)
+
+pub taken_move : (text : List ℕ) (o : TextOperation) (F G P Q : Pointer) (us : List Undo) → o ≡ Move G Q → F ≡ G → P ≡ Q → IsMovedBack text F P us → IsTakenFrom text o us
+taken_move text o F G P Q us is f p back = subst (λ x. IsTakenFrom text x us) (sym is) (subst (λ X. IsMovedBack text G X us) p (subst (λ X. IsMovedBack text X P us) f back))

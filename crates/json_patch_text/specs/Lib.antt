@@ -1,6 +1,8 @@
 pub mod Bounded
 pub mod Changed
 pub mod Drafts
+pub mod Inverses
+pub mod Logs
 pub mod Made
 pub mod Operations
 pub mod Outline
@@ -11,4 +13,6 @@ pub mod Shallow
 pub mod Step
 pub mod Stopped
 pub mod TextOperations
+pub mod Undos
+pub mod WayBack
 pub mod Within

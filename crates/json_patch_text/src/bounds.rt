@@ -2,12 +2,13 @@
 
 ghost use Rattle.std.specs.Prelude.{◌≡◌, ◌<◌, ◌≤◌, false, IfOk, MatchOption};
 ghost use Rattle.std.specs.Bool.{Decides};
-ghost use Rattle.json_patch_text.specs.Bounded.{IsUnder, OverBy, levels_of, most_of};
+ghost use Rattle.json_patch_text.specs.Bounded.{IsLogShort, IsLogUnder, IsStepOver, IsUnder, StepOverBy, levels_of, most_of};
 ghost use Rattle.json_patch_text.specs.Drafts.{IsDraft, draft_text};
-ghost use Rattle.json_patch_text.specs.Within.{IsTextOver, IsTextWithin};
+ghost use Rattle.json_patch_text.specs.Within.{IsTextWithin};
 ghost use Rattle.json_lexemes.specs.Skipped.{nesting};
 
 use crate::draft::Draft;
+use crate::log::Log;
 use json::MAX_DEPTH;
 use json_patch_limits::limits::{LimitKind, Limits};
 use std::alloc::{AllocError, Global};
@@ -38,44 +39,50 @@ pub(crate) fn is_nested(
 }
 
 impl Bounds {
-    /// How the text is over the limits, if it is.
-    fn over(
-        self,
-        alloc: Global,
-        draft: &Draft,
-        deeper: bool,
-    ) -> Result<Option<LimitKind>, AllocError>
+    /// Whether so many bytes are more than a text may have.
+    fn is_exceeded(self, bytes: usize) -> bool
+        ensures { Decides result (most_of self < bytes) }
+    {
+        let more = bytes.saturating_sub(self.document);
+        more.saturating_sub(self.patch) > self.limits.copied
+    }
+
+    /// How the text is over the limits, or what takes it back is, if one is.
+    fn over(self, log: &Log, draft: &Draft, deeper: bool) -> Result<Option<LimitKind>, AllocError>
         requires draft { IsDraft draft.now }
         requires depth { deeper ≡ false → nesting (draft_text draft.now) ≤ self.limits.depth }
         ensures { IfOk result (λ over. MatchOption over
-            (IsTextWithin self.limits (most_of self) (draft_text draft.now))
-            (IsTextOver self.limits (most_of self) (draft_text draft.now))) }
+            (IsTextWithin self.limits (most_of self) (draft_text draft.now) × IsLogShort self log.now)
+            (IsStepOver self (draft_text draft.now) log.now)) }
     {
-        if is_nested(alloc, draft, deeper, self.limits.depth)? {
+        if is_nested(log.alloc, draft, deeper, self.limits.depth)? {
             return Ok(Some(LimitKind::TooDeep));
         }
-        let more = draft.len().saturating_sub(self.document);
-        if more.saturating_sub(self.patch) > self.limits.copied {
+        if self.is_exceeded(draft.len()) {
+            return Ok(Some(LimitKind::TooMuch));
+        }
+        if log.kept && self.is_exceeded(log.size) {
             return Ok(Some(LimitKind::TooMuch));
         }
         Ok(None)
     }
 }
 
-/// How the text is over the limits, if there are any and it is.
+/// How the text is over the limits, or what takes it back is, if there are any and one is.
 pub(crate) fn over(
-    alloc: Global,
     bounds: Option<Bounds>,
+    log: &Log,
     draft: &Draft,
     deeper: bool,
 ) -> Result<Option<LimitKind>, AllocError>
     requires draft { IsDraft draft.now }
     requires depth { deeper ≡ false → nesting (draft_text draft.now) ≤ levels_of bounds }
-    ensures { IfOk result (λ over. MatchOption over (IsUnder bounds (draft_text draft.now))
-        (OverBy bounds (draft_text draft.now))) }
+    ensures { IfOk result (λ over. MatchOption over
+        (IsUnder bounds (draft_text draft.now) × IsLogUnder bounds log.now)
+        (StepOverBy bounds (draft_text draft.now) log.now)) }
 {
     match bounds {
-        Some(bounds) => bounds.over(alloc, draft, deeper),
+        Some(bounds) => bounds.over(log, draft, deeper),
         None => Ok(None),
     }
 }

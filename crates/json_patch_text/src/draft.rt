@@ -1,16 +1,18 @@
 //! The text that operations work on: as a whole, or in pieces.
 
-ghost use Rattle.std.specs.Prelude.{◌≡◌, IfOk, MatchOption, false, true};
+ghost use Rattle.std.specs.Prelude.{◌≡◌, IfOk, MatchOption, false, option_map, true};
 ghost use Rattle.std.specs.String.{string_bytes};
 ghost use Rattle.json.specs.Json.{Json};
-ghost use Rattle.json_lexemes.specs.Spelled.{IsShallowText};
+ghost use Rattle.json_lexemes.specs.Spelled.{IsShallowText, Says};
 ghost use Rattle.jsonptr.specs.Pointers.{tokens_of};
 ghost use Rattle.json_patch_text.specs.Drafts.{IsCopyOf, whole_text};
 ghost use Rattle.json_text.specs.Checked.{text_in};
+ghost use Rattle.json_text.specs.Listing.{shape_of};
+ghost use Rattle.json_text.specs.Pointed.{tree_at};
 
 use crate::operation::TextOperation;
 use json_pieces::Pieces;
-use json_text::{CheckedText, is_deeper};
+use json_text::{CheckedText, Shape, is_deeper};
 use jsonptr::Pointer;
 use std::alloc::{AllocError, Global};
 
@@ -47,6 +49,19 @@ impl WholeText<'_> {
     {
         match self.checked().value(alloc, pointer)? {
             Some(value) => Ok(Some(String::from_str(alloc, value.as_str())?)),
+            None => Ok(None),
+        }
+    }
+
+    /// What stands where the pointer leads.
+    fn shape(&self, alloc: Global, pointer: Pointer) -> Result<Option<Shape>, AllocError>
+        requires { (j : Json) × IsShallowText (whole_text self.now) j }
+        ensures { IfOk result (λ found. (j : Json) → Says (whole_text self.now) j
+            → found ≡ option_map shape_of (tree_at (tokens_of pointer.entry) j)) }
+    {
+        let text = self.checked();
+        match text.value(alloc, pointer)? {
+            Some(value) => Ok(Some(Shape::of(value.as_str()))),
             None => Ok(None),
         }
     }
@@ -145,6 +160,25 @@ impl<'a> Draft<'a> {
         match self {
             Draft::Whole(text) => text.value(alloc, pointer),
             Draft::Pieces(pieces) => pieces.value(alloc, pointer),
+        }
+    }
+
+    /// As [`Pieces::shape`].
+    pub(crate) fn shape(
+        &mut self,
+        alloc: Global,
+        pointer: Pointer,
+    ) -> Result<Option<Shape>, AllocError>
+        requires draft { IsDraft self.old }
+        requires shallow { (j : Json) × IsShallowText (draft_text self.old) j }
+        ensures draft { IfOk result (λ found. IsDraft self.new) }
+        ensures kept { IfOk result (λ found. draft_text self.new ≡ draft_text self.old) }
+        ensures shape { IfOk result (λ found. (j : Json) → Says (draft_text self.old) j
+            → found ≡ option_map shape_of (tree_at (tokens_of pointer.entry) j)) }
+    {
+        match self {
+            Draft::Whole(text) => text.shape(alloc, pointer),
+            Draft::Pieces(pieces) => pieces.shape(alloc, pointer),
         }
     }
 

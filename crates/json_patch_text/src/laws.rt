@@ -1,12 +1,14 @@
 //! Laws of what operations leave of a tree, as the clauses of functions that do nothing.
 
-ghost use Rattle.std.specs.Prelude.{◌≡◌, ◌⊎◌, ◌↔◌, ◌∷◌, ◌≤◌, ◌<◌, [], ℕ, List, Option, Some, option_map, take};
+ghost use Rattle.std.specs.Prelude.{◌≡◌, ◌⊎◌, ◌↔◌, ◌∷◌, ◌≤◌, ◌<◌, ◌*◌, ◌++◌, [], ℕ, List, Option, Some, length, option_map, take};
 ghost use Rattle.json.specs.Json.{Json, max_depth};
 ghost use Rattle.jsonptr.specs.Text.{Pointer};
 ghost use Rattle.serde_json.specs.Data.{Data};
 ghost use Rattle.serde_json.specs.Read.{of_json};
 ghost use Rattle.json_patch_document.specs.ChangeComputed.{pointee, after_add, after_remove, after_replace};
 ghost use Rattle.json_patch_document.specs.Document.{IsDocument};
+ghost use Rattle.json_patch_edit.specs.Step.{Leaves};
+ghost use Rattle.json_patch_laws.specs.Inverse.{ArePlain};
 ghost use Rattle.json_patch_laws.specs.Run.{Accepts, RefusesAt};
 ghost use Rattle.json_patch_operation.specs.Operation.{Operation};
 ghost use Rattle.json_patch_limits.specs.declared.limits.LimitKind.{LimitKind};
@@ -17,7 +19,8 @@ ghost use Rattle.json_patch_operation.specs.declared.read_error.ReadKind.{ReadKi
 ghost use Rattle.json_patch_operation.specs.declared.error.PatchErrorKind.{PatchErrorKind};
 ghost use Rattle.json_patch_text.specs.Changed.{added, removed, replaced};
 ghost use Rattle.json_patch_text.specs.Made.{AreMadeIn};
-ghost use Rattle.json_patch_text.specs.Operations.{TreeOperation, ReadsTreePatch, SaysOperations, all_under, test};
+ghost use Rattle.json_patch_text.specs.Operations.{TreeOperation, ReadsTreePatch, SaysOperations, all_under, test, under};
+ghost use Rattle.json_patch_text.specs.Inverses.{IsTreeInverse, Undoes};
 ghost use Rattle.json_patch_text.specs.Run.{AcceptsTree, RefusesTextAt, RefusesTreeAt};
 ghost use Rattle.json_patch_text.specs.Shallow.{AllPutWithin, IsNeverTooDeep};
 ghost use Rattle.json_patch_text.specs.Within.{AreMadeWithin, IsFaultWithin, IsTextOver, IsTextOverAt, IsTextWithin};
@@ -146,4 +149,26 @@ pub fn values()
     // Of a text with no whitespace around it all is put in, byte by byte, where it is added.
     ensures as_written { (s put : List ℕ) (w : Json) → IsTight s → IsWrittenAt s w [] put
         → put ≡ s }
+{}
+
+/// What undoes operations on a tree.
+pub fn inverses()
+    // Of no operation it is none.
+    ensures first { (i : Json) → IsTreeInverse i [] [] }
+
+    // With each operation that is made, what undoes it comes in front.
+    ensures later { (i m n : Json) (ops I B : List TreeOperation) (o : TreeOperation)
+        → AcceptsTree i ops m → ((r : Reading) → Leaves (data_of r m) (under r o) (data_of r n))
+        → IsTreeInverse i ops I → Undoes m o B
+        → AcceptsTree i (ops ++ o ∷ []) n × IsTreeInverse i (ops ++ o ∷ []) (B ++ I) }
+
+    // It leads back, and has at most two operations for each.
+    ensures leads_back { (i j : Json) (ops I : List TreeOperation) → AcceptsTree i ops j
+        → IsTreeInverse i ops I → AcceptsTree j I i }
+    ensures short { (i j : Json) (ops I : List TreeOperation) → AcceptsTree i ops j
+        → IsTreeInverse i ops I → length I ≤ 2 * length ops }
+
+    // It adds, removes and replaces alone, and has no `-` for a place in an array.
+    ensures plain { (i j : Json) (ops I : List TreeOperation) → AcceptsTree i ops j
+        → IsTreeInverse i ops I → (r : Reading) → ArePlain (data_of r j) (all_under r I) }
 {}

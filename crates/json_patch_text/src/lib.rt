@@ -15,11 +15,15 @@ mod bounds;
 mod draft;
 mod fault;
 pub mod laws;
+mod log;
 mod operation;
 mod patch;
 mod reading;
+mod record;
 mod run;
 mod step;
+mod undo;
 
 pub use fault::{PatchTextFault, TextLimitFault};
 pub use patch::{check_patch, patch_text, patch_text_within};
+pub use record::{Recorded, record_text, record_text_within};

@@ -1,15 +1,19 @@
 //! A JSON text patched by the text of a patch (RFC 6902).
 
-ghost use Rattle.std.specs.Prelude.{◌≡◌, IfErr, IfOk, IfSome, List};
+ghost use Rattle.std.specs.Prelude.{◌≡◌, ◌<◌, ◌≤◌, IfErr, IfOk, IfSome, List};
 ghost use Rattle.std.specs.String.{string_bytes};
 ghost use Rattle.json_patch_text.specs.Operations.{SaysOperations, TreeOperation};
 ghost use Rattle.json_patch_text.specs.Patched.{AcceptsPatch, HasTexts, IsPatchTextFault, IsPatchedText};
 ghost use Rattle.json_patch_text.specs.Stopped.{IsNoDocument, IsUnread, as_document, as_patch};
 ghost use Rattle.json_patch_text.specs.Within.{IsPatchedWithin, IsTextLimitFault, IsTextWithin, most_bytes};
+ghost use Rattle.json_patch_text.specs.declared.fault.PatchTextFault.TheVariants.{Document};
+ghost use Rattle.json_lexemes.specs.Skipped.{nesting};
 ghost use Rattle.json_text.specs.Checked.{text_in};
+ghost use Rattle.json_text.specs.declared.fault.TextFault.TheVariants.{TooDeep};
 
 use crate::bounds::Bounds;
 use crate::fault::{PatchTextFault, TextLimitFault};
+use crate::log::Log;
 use crate::operation::TextOperation;
 use crate::reading::read;
 use crate::run::run;
@@ -41,7 +45,7 @@ fn document_fault(fault: TextFault) -> PatchTextFault
 }
 
 /// The document's text, checked here where it wasn't before.
-fn document<'a>(
+pub(crate) fn document<'a>(
     alloc: Global,
     text: &'a str,
     checked: Option<CheckedText<'a>>,
@@ -59,8 +63,25 @@ fn document<'a>(
     }
 }
 
+/// The document's text, where it is found to be within so many levels without the reader.
+pub(crate) fn document_within(
+    text: &str,
+    levels: usize,
+) -> Result<Option<CheckedText<'_>>, PatchTextFault>
+    ensures text { IfOk result (λ found. IfSome found (λ checked. text_in checked ≡ text.now)) }
+    ensures depth { IfOk result (λ found. nesting text.now ≤ levels) }
+    ensures fault { IfErr result (λ fault. (fault ≡ Document TooDeep) × (levels < nesting text.now)) }
+{
+    // One pass checks the text and how deep it nests, where nothing is wrong with it.
+    let checked = CheckedText::within(text, levels);
+    if checked.is_none() && is_deeper(text, levels) {
+        return Err(PatchTextFault::Document(TextFault::TooDeep));
+    }
+    Ok(checked)
+}
+
 /// The operations that the patch's text says.
-fn operations_in<'a>(
+pub(crate) fn operations_in<'a>(
     alloc: Global,
     patch: &'a str,
 ) -> Result<Vec<TextOperation<'a>>, PatchTextFault>
@@ -106,7 +127,8 @@ pub fn patch_text(alloc: Global, text: &str, patch: &str) -> Result<String, Patc
 {
     let operations = operations_in(alloc, patch)?;
     let document = document(alloc, text, None)?;
-    match run(alloc, document, operations.as_slice(), None) {
+    let mut log = Log::new(alloc, false);
+    match run(&mut log, document, operations.as_slice(), None) {
         Ok(new) => Ok(new),
         Err(TextLimitFault::Patch(fault)) => Err(fault),
         Err(TextLimitFault::Over(_)) => unreachable!(),
@@ -152,12 +174,7 @@ pub fn patch_text_within(
         (λ new. IsTextWithin limits (most_bytes limits text.now patch.now) (string_bytes new)) }
     ensures fault { IfErr result (IsTextLimitFault limits text.now patch.now) }
 {
-    // One pass checks the text and how deep it nests, where nothing is wrong with it.
-    let checked = CheckedText::within(text, limits.depth);
-    if checked.is_none() && is_deeper(text, limits.depth) {
-        let fault = PatchTextFault::Document(TextFault::TooDeep);
-        return Err(TextLimitFault::Patch(fault));
-    }
+    let checked = document_within(text, limits.depth)?;
     let operations = operations_in(alloc, patch)?;
     let document = document(alloc, text, checked)?;
     let bounds = Bounds {
@@ -165,5 +182,6 @@ pub fn patch_text_within(
         document: text.len(),
         patch: patch.len(),
     };
-    run(alloc, document, operations.as_slice(), Some(bounds))
+    let mut log = Log::new(alloc, false);
+    run(&mut log, document, operations.as_slice(), Some(bounds))
 }

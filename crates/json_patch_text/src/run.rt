@@ -1,8 +1,9 @@
 //! A list of operations on a text (RFC 6902, sections 3 and 5).
 
-ghost use Rattle.std.specs.Prelude.{List, IfOk, IfErr};
+ghost use Rattle.std.specs.Prelude.{◌≡◌, [], true, List, IfOk, IfErr};
 ghost use Rattle.std.specs.String.{string_bytes};
-ghost use Rattle.json_patch_text.specs.Bounded.{AreMadeUnder, IsRunFaultUnder, IsUnder};
+ghost use Rattle.json_patch_text.specs.Bounded.{AreMadeUnder, IsLoggedUnder, IsRunFaultUnder, IsShort, IsUnder};
+ghost use Rattle.json_patch_text.specs.Logs.{HasLog};
 ghost use Rattle.json_patch_text.specs.Operations.{TreeOperation};
 ghost use Rattle.json_patch_text.specs.Run.{AcceptsText};
 ghost use Rattle.json_patch_text.specs.Stopped.{Reports};
@@ -12,6 +13,7 @@ ghost use Rattle.json_text.specs.Checked.{text_in};
 use crate::bounds::{Bounds, is_nested, levels, over};
 use crate::draft::Draft;
 use crate::fault::{PatchTextFault, StepFault, TextLimitFault};
+use crate::log::Log;
 use crate::operation::TextOperation;
 use crate::step::step;
 use json::MAX_DEPTH;
@@ -43,23 +45,27 @@ fn reported(
     }
 }
 
-/// The text after the operations, one after another, within the bounds if there are any.
+/// The text after the operations, one after another, within the bounds if there are any. The log has what
+/// takes them back, if it is to have it.
 ///
 /// It is put together at the end. How deep it nests after an operation is told
 /// by the value that was put in, and by a look at the whole only where that reaches too deep.
 pub(crate) fn run(
-    alloc: Global,
+    log: &mut Log,
     text: CheckedText,
     operations: &[TextOperation],
     bounds: Option<Bounds>,
 ) -> Result<String, TextLimitFault>
-    requires under { IsUnder bounds (text_in text) }
+    requires empty { HasLog log.old [] }
+    requires under { IsUnder bounds (text_in text) × (log.old.kept ≡ true → IsShort bounds []) }
     requires written { (ops : List TreeOperation) × AreWrittenAs operations.now ops }
     ensures accepted { IfOk result (λ new. (ops : List TreeOperation)
         → AreWrittenAs operations.now ops → AcceptsText (text_in text.entry) ops (string_bytes new)) }
     ensures made { IfOk result (λ new. AreMadeUnder bounds (text_in text.entry) operations.now (string_bytes new)) }
-    ensures fault { IfErr result (λ fault. (ops : List TreeOperation)
-        → AreWrittenAs operations.now ops → IsRunFaultUnder bounds (text_in text.entry) operations.now ops fault) }
+    ensures logged { IfOk result (λ new. (log.new.kept ≡ log.old.kept)
+        × IsLoggedUnder bounds (text_in text.entry) operations.now (string_bytes new) log.new) }
+    ensures fault { IfErr result (λ fault. (ops : List TreeOperation) → AreWrittenAs operations.now ops
+        → IsRunFaultUnder log.old.kept bounds (text_in text.entry) operations.now ops fault) }
 {
     let levels = levels(bounds);
     let mut draft = Draft::new(text, operations);
@@ -70,19 +76,20 @@ pub(crate) fn run(
             return Err(TextLimitFault::Patch(fault));
         }
         let operation = &operations[number];
-        let deeper = match step(alloc, &mut draft, operation, levels) {
+        let deeper = match step(log, &mut draft, operation, levels) {
             Ok(deeper) => deeper,
             Err(fault) => {
-                return Err(TextLimitFault::Patch(reported(alloc, number, operation, fault)));
+                let fault = reported(log.alloc, number, operation, fault);
+                return Err(TextLimitFault::Patch(fault));
             }
         };
-        if let Some(kind) = over(alloc, bounds, &draft, deeper)? {
+        if let Some(kind) = over(bounds, log, &draft, deeper)? {
             return Err(TextLimitFault::Over(LimitError {
                 operation: number,
                 kind,
             }));
         }
-        deep = is_nested(alloc, &draft, deeper, MAX_DEPTH)?;
+        deep = is_nested(log.alloc, &draft, deeper, MAX_DEPTH)?;
     }
-    Ok(draft.into_text(alloc)?)
+    Ok(draft.into_text(log.alloc)?)
 }

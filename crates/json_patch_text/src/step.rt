@@ -1,14 +1,17 @@
 //! One operation on a text (RFC 6902, section 4).
 
-ghost use Rattle.std.specs.Prelude.{◌≡◌, ◌<◌, ◌+◌, ◌↔◌, length, IfOk, IfErr, IsTrue, OnOk, Ok};
+ghost use Rattle.std.specs.Prelude.{◌≡◌, ◌<◌, ◌+◌, ◌↔◌, [], ◌∷◌, false, true, length, IfOk, IfErr, IsTrue, OnOk, Ok};
 ghost use Rattle.std.specs.Bool.{Decides};
 ghost use Rattle.json.specs.Json.{Json};
 ghost use Rattle.jsonptr.specs.Pointers.{tokens_of};
 ghost use Rattle.json_patch_text.specs.Drafts.{IsDraft, draft_text};
 ghost use Rattle.json_patch_text.specs.Made.{IsCopied, IsLeft, IsMadeIn, IsMoved, IsNoDeeper, IsNotMade, IsStepped, IsStopped};
+ghost use Rattle.json_patch_text.specs.Logs.{Logs};
 ghost use Rattle.json_patch_text.specs.Operations.{TreeOperation, copy as copy_of, move as move_of, test as test_of};
 ghost use Rattle.json_patch_text.specs.Step.{ComesTo};
 ghost use Rattle.json_patch_text.specs.TextOperations.{IsWrittenAs};
+ghost use Rattle.json_patch_text.specs.Undos.{IsMovedBack, IsTakenFrom, PutsBack, TakesBack};
+ghost use Rattle.json_patch_text.specs.declared.undo.Undo.{Undo};
 ghost use Rattle.json_reading.specs.Same.{SameTree};
 ghost use Rattle.json_text.specs.Added.{HasNoPlace, IsAdded};
 ghost use Rattle.json_text.specs.Checked.{text_in};
@@ -19,6 +22,7 @@ ghost use Rattle.json_lexemes.specs.Spelled.{IsShallowText, Says};
 
 use crate::draft::Draft;
 use crate::fault::StepFault;
+use crate::log::Log;
 use crate::operation::TextOperation;
 use json::{Scratch, Value};
 use json_patch_limits::measure::count_tokens;
@@ -39,7 +43,7 @@ fn reaches(path: Pointer, value: CheckedText, levels: usize) -> bool
 
 /// A value added to the text (RFC 6902, section 4.1), and whether it may nest deeper now.
 fn added(
-    alloc: Global,
+    log: &mut Log,
     draft: &mut Draft,
     path: Pointer,
     value: CheckedText,
@@ -53,8 +57,11 @@ fn added(
     ensures depth { IfOk result (IsNoDeeper levels (draft_text draft.old) (draft_text draft.new)) }
     ensures stopped { IfErr result
         (IsNotMade (HasNoPlace (draft_text draft.old) (tokens_of path.entry))) }
+    ensures logs { IfOk result (λ deeper. Logs log.old (λ us. (u : Undo) × (us ≡ u ∷ [])
+        × TakesBack (draft_text draft.old) (tokens_of path.entry) u) log.new) }
 {
-    if draft.add(alloc, path, value)? {
+    log.added(draft, path)?;
+    if draft.add(log.alloc, path, value)? {
         Ok(reaches(path, value, levels))
     } else {
         Err(StepFault::Refused(PatchErrorKind::InvalidPointer))
@@ -62,7 +69,7 @@ fn added(
 }
 
 /// A value removed from the text (RFC 6902, section 4.2), and `false`, since it nests no deeper now.
-fn removed(alloc: Global, draft: &mut Draft, path: Pointer) -> Result<bool, StepFault>
+fn removed(log: &mut Log, draft: &mut Draft, path: Pointer) -> Result<bool, StepFault>
     requires draft { IsDraft draft.old }
     requires shallow { (j : Json) × IsShallowText (draft_text draft.old) j }
     ensures draft { IfOk result (λ deeper. IsDraft draft.new) }
@@ -70,8 +77,11 @@ fn removed(alloc: Global, draft: &mut Draft, path: Pointer) -> Result<bool, Step
         IsRemoved (draft_text draft.old) (tokens_of path.entry) (draft_text draft.new)) }
     ensures stopped { IfErr result
         (IsNotMade (HasNothingToRemove (draft_text draft.old) (tokens_of path.entry))) }
+    ensures logs { IfOk result (λ deeper.
+        Logs log.old (PutsBack false (draft_text draft.old) (tokens_of path.entry)) log.new) }
 {
-    if draft.remove(alloc, path)? {
+    log.displaced(draft, path, false)?;
+    if draft.remove(log.alloc, path)? {
         Ok(false)
     } else {
         Err(StepFault::Refused(PatchErrorKind::InvalidPointer))
@@ -80,7 +90,7 @@ fn removed(alloc: Global, draft: &mut Draft, path: Pointer) -> Result<bool, Step
 
 /// A value of the text replaced (RFC 6902, section 4.3), and whether it may nest deeper now.
 fn replaced(
-    alloc: Global,
+    log: &mut Log,
     draft: &mut Draft,
     path: Pointer,
     value: CheckedText,
@@ -94,8 +104,11 @@ fn replaced(
     ensures depth { IfOk result (IsNoDeeper levels (draft_text draft.old) (draft_text draft.new)) }
     ensures stopped { IfErr result
         (IsNotMade (LeadsNowhere (draft_text draft.old) (tokens_of path.entry))) }
+    ensures logs { IfOk result (λ deeper.
+        Logs log.old (PutsBack true (draft_text draft.old) (tokens_of path.entry)) log.new) }
 {
-    if draft.replace(alloc, path, value)? {
+    log.displaced(draft, path, true)?;
+    if draft.replace(log.alloc, path, value)? {
         Ok(reaches(path, value, levels))
     } else {
         Err(StepFault::Refused(PatchErrorKind::InvalidPointer))
@@ -166,7 +179,7 @@ fn tested(
 /// What stands at `from` put at `path` too (RFC 6902, section 4.5), and whether the text may nest deeper
 /// now.
 fn copied(
-    alloc: Global,
+    log: &mut Log,
     draft: &mut Draft,
     from: Pointer,
     path: Pointer,
@@ -182,18 +195,20 @@ fn copied(
     ensures depth { IfOk result (IsNoDeeper levels (draft_text draft.old) (draft_text draft.new)) }
     ensures stopped { IfErr result (λ fault. (i : Json) → Says (draft_text draft.old) i
         → IsStopped i (copy_of (tokens_of from.entry) (tokens_of path.entry)) fault) }
+    ensures logs { IfOk result (λ deeper. Logs log.old (λ us. (u : Undo) × (us ≡ u ∷ [])
+        × TakesBack (draft_text draft.old) (tokens_of path.entry) u) log.new) }
 {
-    let Some(copy) = draft.value(alloc, from)? else {
+    let Some(copy) = draft.value(log.alloc, from)? else {
         return Err(StepFault::Refused(PatchErrorKind::InvalidFromPointer));
     };
     let value = CheckedText::known(copy.as_str());
-    added(alloc, draft, path, value, levels)
+    added(log, draft, path, value, levels)
 }
 
 /// What stands at `from` put at `path` in its place (RFC 6902, section 4.4), and whether the text may
 /// nest deeper now.
 fn moved(
-    alloc: Global,
+    log: &mut Log,
     draft: &mut Draft,
     from: Pointer,
     path: Pointer,
@@ -209,24 +224,27 @@ fn moved(
     ensures depth { IfOk result (IsNoDeeper levels (draft_text draft.old) (draft_text draft.new)) }
     ensures stopped { IfErr result (λ fault. (i : Json) → Says (draft_text draft.old) i
         → IsStopped i (move_of (tokens_of from.entry) (tokens_of path.entry)) fault) }
+    ensures logs { IfOk result (λ deeper. Logs log.old
+        (IsMovedBack (draft_text draft.old) (tokens_of from.entry) (tokens_of path.entry)) log.new) }
 {
     if is_inside(path, from) {
         return Err(StepFault::Refused(PatchErrorKind::CannotMoveInsideItself));
     }
-    let Some(taken) = draft.value(alloc, from)? else {
+    log.displaced(draft, from, false)?;
+    let Some(taken) = draft.value(log.alloc, from)? else {
         return Err(StepFault::Refused(PatchErrorKind::InvalidFromPointer));
     };
-    if !draft.remove(alloc, from)? {
+    if !draft.remove(log.alloc, from)? {
         return Err(StepFault::Refused(PatchErrorKind::InvalidFromPointer));
     }
     let taken = CheckedText::known(taken.as_str());
-    added(alloc, draft, path, taken, levels)
+    added(log, draft, path, taken, levels)
 }
 
 /// The operation made on the text, and whether this may nest deeper than so many levels now, though it
 /// didn't before.
 pub(crate) fn step(
-    alloc: Global,
+    log: &mut Log,
     draft: &mut Draft,
     operation: &TextOperation,
     levels: usize,
@@ -240,25 +258,28 @@ pub(crate) fn step(
     ensures tree { (i : Json) (op : TreeOperation) → Says (draft_text draft.old) i
         → IsWrittenAs operation.now op → IsStepped i op (draft_text draft.new) result }
     ensures depth { IfOk result (IsNoDeeper levels (draft_text draft.old) (draft_text draft.new)) }
+    ensures logs { IfOk result (λ deeper.
+        Logs log.old (IsTakenFrom (draft_text draft.old) operation.now) log.new) }
 {
     match operation {
         TextOperation::Add(path, value) => {
             let value = CheckedText::known(value);
-            added(alloc, draft, path.as_pointer(), value, levels)
+            added(log, draft, path.as_pointer(), value, levels)
         }
-        TextOperation::Remove(path) => removed(alloc, draft, path.as_pointer()),
+        TextOperation::Remove(path) => removed(log, draft, path.as_pointer()),
         TextOperation::Replace(path, value) => {
             let value = CheckedText::known(value);
-            replaced(alloc, draft, path.as_pointer(), value, levels)
+            replaced(log, draft, path.as_pointer(), value, levels)
         }
         TextOperation::Move(from, path) => {
-            moved(alloc, draft, from.as_pointer(), path.as_pointer(), levels)
+            moved(log, draft, from.as_pointer(), path.as_pointer(), levels)
         }
         TextOperation::Copy(from, path) => {
-            copied(alloc, draft, from.as_pointer(), path.as_pointer(), levels)
+            copied(log, draft, from.as_pointer(), path.as_pointer(), levels)
         }
         TextOperation::Test(path, value) => {
-            tested(alloc, draft, path.as_pointer(), CheckedText::known(value))?;
+            let value = CheckedText::known(value);
+            tested(log.alloc, draft, path.as_pointer(), value)?;
             Ok(false)
         }
     }

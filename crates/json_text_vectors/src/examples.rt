@@ -2,7 +2,7 @@
 
 use crate::places::{found, shape_name};
 use crate::rows::told;
-use crate::{differences, merges, patches};
+use crate::{differences, merges, patches, records};
 use json_pieces::Pieces;
 use json_text::{
     ChangeFault, CheckedText, TextFault, add, child_texts, is_deeper, remove, replace, string_of,
@@ -22,6 +22,7 @@ pub(crate) fn answer(alloc: Global, call: &str, place: Pointer) -> Result<String
         "child_texts" => told(alloc, texts_in_object(alloc)),
         "string_of" => told(alloc, name_in_text(alloc)),
         "patch_text" | "patch_text_within" => patches::shown(alloc, call),
+        "record_text" | "record_text_within" => records::shown(alloc, call),
         "merge_text" | "merge_text_within" => merges::shown(alloc, call),
         "diff_text" | "merge_diff_text" | "merge_both_text" => differences::shown(alloc, call),
         _ => of_checked(alloc, call, place),

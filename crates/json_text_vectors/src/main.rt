@@ -11,6 +11,7 @@ mod merges;
 mod patches;
 mod pieces;
 mod places;
+mod records;
 mod rows;
 
 use std::io;

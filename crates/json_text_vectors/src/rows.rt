@@ -1,6 +1,6 @@
 //! What a row asks for.
 
-use crate::{examples, merges, patches, pieces, places};
+use crate::{examples, merges, patches, pieces, places, records};
 use json_diff_text::{merge_both_text, merge_diff_text};
 use json_text::{CheckedText, add, remove, replace};
 use jsonptr::Pointer;
@@ -24,16 +24,17 @@ pub(crate) fn answer(alloc: Global, line: &str) -> Result<String, AllocError> {
             place.as_str(),
             third.as_str(),
         ),
-        [_call, text, patch, depth, copied] => told(
-            alloc,
-            patches::within(
+        [call, text, patch, depth, copied] => {
+            let depth = number(depth.as_str());
+            let copied = number(copied.as_str());
+            if call.as_str() == "record_text_within" {
+                return records::within(alloc, text.as_str(), patch.as_str(), depth, copied);
+            }
+            told(
                 alloc,
-                text.as_str(),
-                patch.as_str(),
-                number(depth.as_str()),
-                number(copied.as_str()),
-            ),
-        ),
+                patches::within(alloc, text.as_str(), patch.as_str(), depth, copied),
+            )
+        }
         _ => no_row(alloc),
     }
 }
@@ -60,6 +61,7 @@ fn on_two(alloc: Global, call: &str, text: &str, second: &str) -> Result<String,
         "merge_diff_text" => merges::if_made(alloc, merge_diff_text(alloc, text, second)),
         "merge_both_text" => merges::if_made(alloc, merge_both_text(alloc, text, second)),
         "patch_text" => told(alloc, json_patch_text::patch_text(alloc, text, second)),
+        "record_text" => records::recorded(alloc, text, second),
         "Pieces" => told(alloc, pieces::changed(alloc, text, second)),
         _ => on_place(alloc, call, text, second),
     }

@@ -12,4 +12,4 @@ returns-clause-bounded c = bounded _ c.args.text.now c.as_slice.result.now c.run
 
 pub returns-clause-fault : goal.returns-clause-fault
 returns-clause-fault c =
-    run_within _ c.args.text.now c.args.patch.now c.as_slice.result.now c.run.result refl (subst (HasTexts c.args.patch.now) (sym c.as_slice.ensures.value) c.in_ok-operations.ensures.read) (rw c.in_ok-document.ensures.text at c.run.ensures.fault)
+    run_within _ c.args.text.now c.args.patch.now c.as_slice.result.now c.run.result refl (subst (HasTexts c.args.patch.now) (sym c.as_slice.ensures.value) c.in_ok-operations.ensures.read) (rw (c.in_ok-document.ensures.text, c.new-log.ensures.kept) at c.run.ensures.fault)

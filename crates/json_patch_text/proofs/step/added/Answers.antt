@@ -10,5 +10,5 @@ use Rattle.json_patch_text.proofs.step.added.Goals as goal
 pub returns-then-branch-clause-depth : goal.returns-then-branch-clause-depth
 returns-then-branch-clause-depth c = λ e under.
     let value = reaches_within c.reaches.result c.args.levels (length (tokens_of c.args.path) + nesting (text_in c.args.value)) c.reaches.ensures e in
-    let all = added_nests (draft_text c.args.draft.now) (text_in c.args.value) (draft_text c.add.new.self) (tokens_of c.args.path) (rw c.if-branch.true at c.in_ok-add.ensures.added) in
+    let all = added_nests (draft_text c.args.draft.now) (text_in c.args.value) (draft_text c.add.new.self) (tokens_of c.args.path) (rw (c.in_ok-added.ensures.same, c.if-branch.true) at c.in_ok-add.ensures.added) in
     omega arith

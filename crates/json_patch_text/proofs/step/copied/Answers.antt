@@ -21,3 +21,6 @@ pub returns-clause-stopped : goal.returns-clause-stopped
 returns-clause-stopped c =
     copied_stopped (draft_text c.args.draft.now) (string_bytes c.in-Some.copy) (tokens_of c.args.from) (tokens_of c.args.path) c.added.result (rw c.in-Some.is at c.in_ok-copy.ensures.value)
     (rw c.in_ok-copy.ensures.kept at c.added.ensures.stopped)
+
+pub returns-clause-logs : goal.returns-clause-logs
+returns-clause-logs c = rw c.in_ok-copy.ensures.kept at c.added.ensures.logs

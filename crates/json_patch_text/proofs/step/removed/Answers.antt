@@ -1,0 +1,10 @@
+use Rattle.jsonptr.specs.Pointers.{tokens_of}
+use Rattle.json_patch_text.proofs.Undone.{removed_stood}
+use Rattle.json_patch_text.specs.Drafts.{draft_text}
+use Rattle.json_patch_text.proofs.step.removed.Goals as goal
+
+pub returns-then-branch-clause-logs : goal.returns-then-branch-clause-logs
+returns-then-branch-clause-logs c =
+    let (j, shallow) = c.requires.shallow in
+    let (v, at) = removed_stood (draft_text c.args.draft.now) (draft_text c.remove.new.self) (tokens_of c.args.path) j shallow.0 (rw (c.in_ok-displaced.ensures.same, c.if-branch.true) at c.in_ok-remove.ensures.removed) in
+    c.in_ok-displaced.ensures.logs j v shallow.0 at
