@@ -8,7 +8,7 @@ use json_patch::jsonptr::Pointer;
 use json_patch::{Fault, Patch, document_from_str};
 use json_patch_editor::Editor;
 use json_patch_uses::{
-    Guarded, Message, Settings, SharedDocument, Store, depth, item, merge_all, number_or,
+    Guarded, Message, Settings, SharedDocument, Store, depth, element, merge_all, number_or,
     patch_section, receive, replace_with, send, tried, undo_newest, update_version,
 };
 use serde_json::Value;
@@ -27,8 +27,8 @@ pub(crate) fn of_pointer(alloc: Global, call: &str, text: &str) -> Result<String
     if call == "depth" {
         return format!(in alloc; "{}", depth(pointer));
     }
-    match item(pointer) {
-        Some((list, place)) => format!(in alloc; "{list} {place}"),
+    match element(pointer) {
+        Some((array, place)) => format!(in alloc; "{array} {place}"),
         None => String::from_str(alloc, "nothing"),
     }
 }

@@ -1,4 +1,4 @@
 pub mod TestedFirst
 pub mod Chains
 pub mod SharedChanges
-pub mod Items
+pub mod Elements

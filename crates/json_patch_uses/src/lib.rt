@@ -21,7 +21,7 @@ pub use example::first_example;
 pub use guarded::{GuardFault, Guarded};
 pub use layers::{merge_all, number_or};
 pub use newest::undo_newest;
-pub use pointers::{depth, item, member};
+pub use pointers::{depth, element, member};
 pub use replaced::replace_with;
 pub use section::{SectionFault, patch_section};
 pub use sending::{Message, receive, send, send_both};

@@ -25,8 +25,8 @@ pub fn member(alloc: Global, text: &str, name: &str) -> Result<PointerBuf, Point
 }
 
 /// The pointer to an array and the index in it, if `pointer` names an element.
-pub fn item(pointer: Pointer) -> Option<(Pointer, usize)>
-    ensures item { IfSome result
+pub fn element(pointer: Pointer) -> Option<(Pointer, usize)>
+    ensures element { IfSome result
         (λ x. (last : List ℕ)
         × (tokens_of pointer.entry ≡ tokens_of x.0 ++ last ∷ []) × (place_of last ≡ Some x.1)) }
     ensures none { IfNone result ((front : List (List ℕ)) (last : List ℕ) (n : ℕ)

@@ -1,7 +1,7 @@
 use Rattle.std.proofs.Common.{rules}
 use Rattle.jsonptr.specs.Pointers.{token_of, tokens_of}
-use Rattle.json_patch_uses.proofs.Items.{next_names_none}
-use Rattle.json_patch_uses.proofs.pointers.item.Goals as goal
+use Rattle.json_patch_uses.proofs.Elements.{next_names_none}
+use Rattle.json_patch_uses.proofs.pointers.element.Goals as goal
 
 pub returns-in-Ok-Next-clause-none : goal.returns-in-Ok-Next-clause-none
 returns-in-Ok-Next-clause-none c =
