@@ -1,9 +1,10 @@
 /*
  * Times the calls of json_patch.h as bench/driver.rt.txt times those of the crate: its arguments are
  * `MODE COUNT accepted`, its input is `[document,patch]`, and it prints the nanoseconds of one call, or
- * 0 where one is refused. In mode `texts` a call goes from the two texts to the new one; in mode `in_text`
- * too, and keeps the other bytes of the document's; in mode `kept` a document stays open, and a call
- * changes it by the patch's text. Mode `copied` copies the document's text, which any call at least does.
+ * 0 where one is refused. In mode `texts` a call goes from the two texts to the new one, and keeps the other
+ * bytes of the document's; in mode `anew` a document is opened, changed, written and closed; in mode `kept` it
+ * stays open, and a call changes it by the patch's text. Mode `copied` copies the document's text, which any
+ * call at least does.
  */
 #include <json_patch.h>
 
@@ -37,7 +38,7 @@ static text whole_input(void) {
 static text part(json_patch_document *pair, const char *pointer, size_t room) {
     text found = {malloc(room), 0};
     json_patch_report report;
-    if (json_patch_text_at(pair, pointer, 2, found.bytes, room, &report))
+    if (json_patch_value_at(pair, pointer, 2, found.bytes, room, &report))
         exit(1);
     found.length = report.size;
     return found;
@@ -53,24 +54,30 @@ static json_patch_status call(const char *mode, json_patch_document *kept, text 
     }
     if (strcmp(mode, "kept") == 0)
         return json_patch_update(kept, patch.bytes, patch.length, out, room, &report);
-    if (strcmp(mode, "in_text") == 0)
-        return json_patch_apply_text(document.bytes, document.length, patch.bytes, patch.length, out,
-                                     room, &report);
-    return json_patch_apply(document.bytes, document.length, patch.bytes, patch.length, out, room,
-                            &report);
+    if (strcmp(mode, "anew") != 0)
+        return json_patch_apply(document.bytes, document.length, patch.bytes, patch.length, NULL, out, room,
+                                &report);
+    json_patch_document opened = JSON_PATCH_DOCUMENT;
+    json_patch_status status = json_patch_open(&opened, document.bytes, document.length, NULL, &report);
+    if (!status)
+        status = json_patch_update(&opened, patch.bytes, patch.length, out, room, &report);
+    if (!status)
+        status = json_patch_text(&opened, out, room, &report);
+    json_patch_close(&opened);
+    return status;
 }
 
 int main(int count, char **words) {
     json_patch_document pair = JSON_PATCH_DOCUMENT, kept = JSON_PATCH_DOCUMENT;
     json_patch_report report;
     text input = whole_input();
-    if (count != 4 || json_patch_open(&pair, input.bytes, input.length, &report))
+    if (count != 4 || json_patch_open(&pair, input.bytes, input.length, NULL, &report))
         return 1;
     text document = part(&pair, "/0", input.length), patch = part(&pair, "/1", input.length);
     size_t room = 2 * input.length + 64;
     char *out = malloc(room);
     json_patch_close(&pair);
-    if (json_patch_open(&kept, document.bytes, document.length, &report))
+    if (json_patch_open(&kept, document.bytes, document.length, NULL, &report))
         return 1;
     long times = atol(words[2]);
     json_patch_status refused = 0;

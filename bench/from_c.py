@@ -4,10 +4,10 @@
     bench/from_c.py [--rounds N] [--rows WORDS..]
 
 c/build has to have built the library. A call goes from the texts of a document and a patch to the
-text of the new one; or it changes a document that is kept, by the text of a patch. The other two
-change theirs in place, which leaves a refused patch part-way. Where a text is patched in place, so that
-its other bytes are kept, the others read, patch and write; so does "written anew" here, and "the bytes
-copied" is what any call does at least. What is printed is as in bench.py."""
+text of the new one, whose other bytes are those of the document's; or it changes a document that is kept, by
+the text of a patch. The other two change theirs in place, which leaves a refused patch part-way, and read,
+patch and write where a call goes from texts to a text; so does "written anew" here, on whole numbers, and "the
+bytes copied" is what any call does at least. What is printed is as in bench.py."""
 import argparse
 import os
 import subprocess
@@ -18,22 +18,19 @@ import workloads
 
 HERE = os.path.dirname(os.path.abspath(__file__))
 BUILT = os.path.join(os.path.dirname(HERE), "c", "out")
-OTHERS = {"texts": "texts", "kept": "kept", "in_text": "texts"}
-MODES = {**OTHERS, "in_text": "in_text"}
+MODES = {"texts": "texts", "kept": "kept"}
 
 # name, mode, calls a round, document and patch
 CALLS = [
-    ("from text to text: two operations on a tiny list", "texts", 20_000, workloads.TINY),
+    ("from text to text: two operations on a tiny array", "texts", 20_000, workloads.TINY),
+    ("from text to text: one replace in 1 kB", "texts", 5_000, workloads.replace_in_the_middle(15)),
     ("from text to text: one replace in 100 kB", "texts", 100, workloads.replace_in_the_middle(1_450)),
     ("from text to text: one replace in 10 MB", "texts", 1, workloads.replace_in_the_middle(145_000)),
-    ("in a text of 1 kB: one replace", "in_text", 5_000, workloads.replace_in_the_middle(15)),
-    ("in a text of 100 kB: one replace", "in_text", 100, workloads.replace_in_the_middle(1_450)),
-    ("in a text of 10 MB: one replace", "in_text", 1, workloads.replace_in_the_middle(145_000)),
-    ("in a text of 100 kB: 100 mixed operations", "in_text", 10, (workloads.rows(1_450), workloads.MIXED)),
-    ("in a text of 10 MB: 100 mixed operations", "in_text", 1, (workloads.rows(145_000), workloads.MIXED)),
-    ("in a text of 10,000 members: 1,000 replaces", "in_text", 1,
+    ("from text to text: 100 mixed operations on 100 kB", "texts", 10, (workloads.rows(1_450), workloads.MIXED)),
+    ("from text to text: 100 mixed operations on 10 MB", "texts", 1, (workloads.rows(145_000), workloads.MIXED)),
+    ("from text to text: 1,000 replaces in 10,000 members", "texts", 1,
      (workloads.object_of(10_000), workloads.in_each_tenth("replace", 10_000, value="other text"))),
-    ("in a text of 10,000 members: 1,000 removes", "in_text", 1,
+    ("from text to text: 1,000 removes from 10,000 members", "texts", 1,
      (workloads.object_of(10_000), workloads.in_each_tenth("remove", 10_000))),
     ("one replace in a kept document of 100 kB", "kept", 20_000, workloads.replace_in_the_middle(1_450)),
     ("one replace in a kept document of 10 MB", "kept", 20_000, workloads.replace_in_the_middle(145_000)),
@@ -56,11 +53,11 @@ def sides(folder):
     ours = compiled(folder)
     return [
         bench.Side("here", [ours], MODES, None),
-        bench.Side("the bytes copied", [ours], {"in_text": "copied"}, None),
-        bench.Side("here, written anew", [ours], {"in_text": "texts"}, None),
+        bench.Side("the bytes copied", [ours], {"texts": "copied"}, None),
+        bench.Side("here, written anew", [ours], {"texts": "anew"}, None),
         bench.Side("here from Python", [bench.PYTHON, os.path.join(HERE, "python_c_peer.py")], MODES, None),
-        bench.Side("nlohmann/json", [bench.compiled(folder, os.path.join(HERE, "nlohmann.cpp"))], OTHERS, None),
-        bench.Side("jsonpatch (Python)", peer, OTHERS, None),
+        bench.Side("nlohmann/json", [bench.compiled(folder, os.path.join(HERE, "nlohmann.cpp"))], MODES, None),
+        bench.Side("jsonpatch (Python)", peer, MODES, None),
     ]
 
 

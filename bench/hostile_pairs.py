@@ -14,7 +14,7 @@ import random
 import resource
 import subprocess
 
-TABLE = 4096  # of two lists with as many items all pairs of items are looked at, and then of no others
+TABLE = 4096  # of two arrays with as many elements all pairs of elements are looked at, and then of no others
 LARGE = 100_000
 
 
@@ -41,20 +41,20 @@ def members(letter, value, count=LARGE):
 def pairs(chance):
     two = lambda count: [chance.randrange(2) for _ in range(count)]
     others = lambda count: ([*range(count)], [-1 - number for number in range(count)])
-    yield "two lists of 4,096, all different", others(TABLE)
-    yield "two lists of 4,097, all different", others(TABLE + 1)
+    yield "two arrays of 4,096, all different", others(TABLE)
+    yield "two arrays of 4,097, all different", others(TABLE + 1)
     for count in (4, 16, 64):
-        yield f"{count} times two lists of 4,096, all different", tuple({f"{n:02}": one for n in range(count)} for one in others(TABLE))
-    yield "two lists of 100,000, all different", others(LARGE)
-    yield "two lists of 100,000, equal but the last", ([*range(LARGE)], [*range(LARGE - 1), "x"])
-    yield "two lists of 4,096 of two values, shuffled", (two(TABLE), two(TABLE))
-    yield "two lists of 100,000 of two values, shuffled", (two(LARGE), two(LARGE))
-    yield "a list of 4,096 rows, reversed", (rows(range(TABLE)), rows(reversed(range(TABLE))))
+        yield f"{count} times two arrays of 4,096, all different", tuple({f"{n:02}": one for n in range(count)} for one in others(TABLE))
+    yield "two arrays of 100,000, all different", others(LARGE)
+    yield "two arrays of 100,000, equal but the last", ([*range(LARGE)], [*range(LARGE - 1), "x"])
+    yield "two arrays of 4,096 of two values, shuffled", (two(TABLE), two(TABLE))
+    yield "two arrays of 100,000 of two values, shuffled", (two(LARGE), two(LARGE))
+    yield "an array of 4,096 rows, reversed", (rows(range(TABLE)), rows(reversed(range(TABLE))))
     yield "two objects of 100,000 members, all different", (members("a", lambda i: i), members("b", lambda i: -i))
     yield "an object of 100,000 members, all renamed", tuple(members(letter, lambda i: {"number": i, "text": "x" * 10}) for letter in "ab")
     yield "two objects of 100,000 members, one more in one", (members("a", lambda i: i), members("a", lambda i: i) | {"b": 1})
     yield "120 levels of objects, of 100 members each, the bottom differs", tuple(nested_objects(120, bottom) for bottom in (1, 2))
-    yield "120 levels of lists, the bottom differs", (nested(120, [*range(10_000)]), nested(120, [*range(9_999), 1]))
+    yield "120 levels of arrays, the bottom differs", (nested(120, [*range(10_000)]), nested(120, [*range(9_999), 1]))
 
 
 def merge_pairs():
@@ -63,7 +63,7 @@ def merge_pairs():
         numbers = members("a", lambda i: i, count)
         yield f"two objects of {count:,} members, all different", (numbers, members("b", lambda i: -i, count)), "ok "
         yield f"two objects of {count:,} members, one more in one", (numbers, numbers | {"b": 1}), "ok "
-        yield f"two lists of {count:,} numbers, the last differs", ([*range(count)], [*range(count - 1), "x"]), "ok "
+        yield f"two arrays of {count:,} numbers, the last differs", ([*range(count)], [*range(count - 1), "x"]), "ok "
     for levels in (30, 60, 120):
         what = f"{levels} levels of objects, of 100 members each"
         yield f"{what}, the bottom differs", tuple(nested_objects(levels, bottom) for bottom in (1, 2)), "ok "

@@ -25,7 +25,7 @@ OBJECT = {"name": "row", "tags": ["a", "b"], "done": False}
 
 # name, mode, calls a round, object and patch
 CALLS = [
-    ("two operations on a tiny list", "again", 5_000, workloads.TINY),
+    ("two operations on a tiny array", "again", 5_000, workloads.TINY),
     ("one test in a tiny dict", "again", 5_000, ({"a": 1}, [{"op": "test", "path": "/a", "value": 1}])),
     ("one add of an object to a tiny dict", "again", 5_000, ({"a": 1}, [{"op": "add", "path": "/b", "value": OBJECT}])),
     ("one copy of an object", "again", 5_000, ({"a": OBJECT}, [{"op": "copy", "from": "/a", "path": "/b"}])),

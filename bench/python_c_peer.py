@@ -11,9 +11,6 @@ TOP = Path(__file__).resolve().parent.parent
 sys.path.append(str(TOP / "python/src"))
 os.environ.setdefault("JSON_PATCH_LIBRARY", str(TOP / "c/out/lib/libjson_patch.so"))
 import json_patch  # noqa: E402
-from json_patch._calls import called  # noqa: E402
-from json_patch._library import LIBRARY  # noqa: E402
-from json_patch.limits import DEFAULT  # noqa: E402
 
 mode, count = sys.argv[1], int(sys.argv[2])
 given = json.load(sys.stdin)
@@ -33,8 +30,6 @@ with json_patch.Document.from_string(document) as kept:
     for _ in range(count):
         if mode == "kept":
             kept.apply(patch)
-        elif mode == "in_text":
-            json_patch.apply_text(document, patch)
         else:
-            called(LIBRARY.json_patch_apply_within, document, patch, DEFAULT)
+            json_patch.apply_text(document, patch)
     print((time.perf_counter_ns() - start) // count)

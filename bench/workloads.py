@@ -57,7 +57,7 @@ def in_each_tenth(op, count, **members):
 
 
 def in_items(count):
-    """Items removed from a list and added to it, in turn, all over it."""
+    """Elements removed from an array and added to it, in turn, all over it."""
     for i in range(count):
         yield {"op": "remove", "path": f"/{i * 13 % 9_000}"}
         yield {"op": "add", "path": f"/{i * 7 % 9_000}", "value": i}
@@ -118,11 +118,11 @@ SHIFTING = list(shifting(17))[:100]
 
 # name, mode, calls a round, document and patch
 CALLS = [
-    ("two operations on a tiny list", "patch", 20_000, TINY),
+    ("two operations on a tiny array", "patch", 20_000, TINY),
     ("one replace in an object of 1,000 members", "patch", 1_000,
      (object_of(1_000), [{"op": "replace", "path": "/member 0500", "value": "other text"}])),
     ("one replace deep in 10 MB", "patch", 5, replace_in_the_middle(145_000)),
-    ("1,000 inserts into a list of 10,000", "patch", 20,
+    ("1,000 inserts into an array of 10,000", "patch", 20,
      (list(range(10_000)), [{"op": "add", "path": f"/{i * 7 % 10_000}", "value": i} for i in range(1_000)])),
     ("a merge of 100 members into 100 kB", "merge", 200,
      (object_of(3_300), {f"member {i * 33:04}": i for i in range(100)})),
@@ -137,7 +137,7 @@ LISTS = [
     ("one remove among 1,000 members", 200,
      (object_of(1_000), [{"op": "remove", "path": "/member 0500"}])),
     ("200 removes and 100 moves among 1,000 members", 20, (object_of(1_000), list(in_members(100)))),
-    ("500 removes and 500 adds in a list of 10,000", 10, (list(range(10_000)), list(in_items(500)))),
+    ("500 removes and 500 adds in an array of 10,000", 10, (list(range(10_000)), list(in_items(500)))),
     ("100 mixed operations on 100 kB", 20, (rows(1_450), MIXED)),
     ("100 mixed operations on 100 kB, with shifts", 20, (rows(1_450), SHIFTING)),
     ("100 mixed operations on 10 MB", 1, (rows(145_000), MIXED)),
@@ -161,7 +161,7 @@ APART = [
 
 # name, document and patch: read, patched and written by a whole program
 PROGRAMS = [
-    ("a tiny list, two operations", TINY),
+    ("a tiny array, two operations", TINY),
     ("50 rows, 6,000 operations", ({"last": None, "names": {}, "rows": rows(50)["rows"]}, list(log(1_000)))),
     ("10 MB, one replace", replace_in_the_middle(145_000)),
     ("10 MB, 100 mixed operations", (rows(145_000), MIXED)),
@@ -194,9 +194,9 @@ def one_changed(count, place):
 
 
 def lists_edited(count, length):
-    """So many lists of numbers, each with one to five items put in, taken out or changed."""
+    """So many arrays of numbers, each with one to five elements put in, taken out or changed."""
     roll = random.Random(1)
-    before = {f"list {i:03}": [roll.randrange(1_000) for _ in range(length)] for i in range(count)}
+    before = {f"array {i:03}": [roll.randrange(1_000) for _ in range(length)] for i in range(count)}
     after = copy.deepcopy(before)
     for items in after.values():
         for _ in range(roll.randrange(1, 6)):
@@ -240,7 +240,7 @@ DIFFERENCES = [
     ("a row inserted in the middle of 50", 1_000, with_rows(lambda items: items.insert(25, row(50)))),
     ("10 of 50 rows removed", 1_000, with_rows(lambda items: items.__delitem__(slice(20, 30)))),
     ("the first of 50 rows moved to the end", 1_000, with_rows(lambda items: items.append(items.pop(0)))),
-    ("300 lists of 60 numbers, 1 to 5 edits each", 10, lists_edited(300, 60)),
+    ("300 arrays of 60 numbers, 1 to 5 edits each", 10, lists_edited(300, 60)),
     ("10 of 1,000 members changed", 200, members_changed(1_000, 10)),
     ("100 kB, all different", 5, others(1_450)),
     ("1,000 members below 20 objects, one changed", 200, nested(20, *members_changed(1_000, 1))),

@@ -6,7 +6,8 @@ patch between two documents, as rows that C and Python read.
     c/cases.py --check   ends with 1 where the file isn't what the tables say
 
 A row is a call, its two texts, its status, the operation and the kind that are told, and what is
-written. A text that the tables don't tell is null, and then it isn't compared."""
+written: of `record` an array of the new text and of the inverse. The tables say what the documents are;
+which bytes say so, the models of diff/ do, and a row on which both differ ends this with 1."""
 import json
 import re
 import sys
@@ -14,7 +15,9 @@ from pathlib import Path
 
 HERE = Path(__file__).resolve().parent
 sys.path.append(str(HERE.parent / "diff"))
+import merges_model  # noqa: E402
 import tables  # noqa: E402
+import texts_model  # noqa: E402
 
 ROWS = HERE / "cases.json"
 READING = HERE.parent / "crates/json_patch_vectors/src/reading.rt"
@@ -35,10 +38,20 @@ def numbers():
     return {"".join(word.capitalize() for word in name.split("_")): int(number) for name, number in found}
 
 
+def agreed(written, told):
+    """A text that says what a table tells, of which None tells nothing."""
+    if told is not None and json.loads(written) != json.loads(told):
+        sys.exit(f"the models write {written}, and the tables say {told}")
+    return written
+
+
 def of_case(case, kinds):
-    texts = [case["document"], case["patch"]]
+    texts = document, patch = [case["document"], case["patch"]]
     if "merged" in case:
-        yield ["merge", *texts, OK, 0, 0, case["merged"]]
+        written = agreed(merges_model.made(document, json.loads(patch)), case["merged"])
+        if not merges_model.is_merged(document, patch, written):
+            sys.exit(f"{patch} doesn't merge {document} to {written}")
+        yield ["merge", *texts, OK, 0, 0, written]
         return
     expected = case["expected"]
     if "kind" in expected:
@@ -46,10 +59,10 @@ def of_case(case, kinds):
         yield ["apply", *texts, *told]
         yield ["record", *texts, *told]
         return
-    yield ["apply", *texts, OK, 0, 0, expected["document"]]
-    inverse = expected["inverse"]
-    both = None if inverse is None else f"[{expected['document']},{inverse}]"
-    yield ["record", *texts, OK, 0, 0, both]
+    operations = [(operation, tables.compact(operation.get("value"))) for operation in json.loads(patch)]
+    (written, inverse), _ = texts_model.recorded(document, operations)
+    yield ["apply", *texts, OK, 0, 0, agreed(written, expected["document"])]
+    yield ["record", *texts, OK, 0, 0, f"[{written},{agreed(inverse, expected['inverse'])}]"]
 
 
 def of_faults(kinds):

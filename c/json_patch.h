@@ -1,11 +1,10 @@
 /*
- * JSON Patch (RFC 6902) and JSON Merge Patch (RFC 7396), for documents whose numbers are 64-bit
- * integers, and for texts with numbers of any form, of which json_patch_apply_text and
- * json_patch_merge_text keep every byte that isn't changed. Link with -ljson_patch.
+ * JSON Patch (RFC 6902) and JSON Merge Patch (RFC 7396) on JSON texts as they are written: numbers may have
+ * any form, such as 1.50 or 1e400, and every byte is kept that isn't changed. Link with -ljson_patch.
  *
  *     char out[64];
  *     json_patch_report report;
- *     json_patch_status status = json_patch_apply(document, strlen(document), patch, strlen(patch),
+ *     json_patch_status status = json_patch_apply(document, strlen(document), patch, strlen(patch), NULL,
  *         out, sizeof out, &report);
  *     if (status == JSON_PATCH_OK)
  *         fwrite(out, 1, report.size, stdout);
@@ -29,6 +28,10 @@ extern "C" {
 /* The version of the library, such as "5.0.0": a string that stays. */
 const char *json_patch_version(void);
 
+/* What a json_patch_kind says, such as "path is invalid": a string that stays. Of a kind that isn't known
+   "is wrong". */
+const char *json_patch_kind_text(uint8_t kind);
+
 /* What came of a call. */
 typedef uint8_t json_patch_status;
 enum {
@@ -41,13 +44,15 @@ enum {
                                    JSON_PATCH_NOT_AN_OBJECT on report->operation where; or the text
                                    to which a patch is to lead says no document */
     JSON_PATCH_NO_MEMORY = 4,   /* malloc or realloc failed */
-    JSON_PATCH_NO_ROOM = 5,     /* out is too short: the text has report->size bytes */
+    JSON_PATCH_NO_ROOM = 5,     /* out is too short: the text has report->size bytes; or inverse is, of
+                                   report->inverse_size */
     JSON_PATCH_CLOSED = 6,      /* of a document that is kept: none is open */
     JSON_PATCH_NO_POINTER = 7,  /* the text is no JSON pointer (RFC 6901) */
     JSON_PATCH_NOTHING = 8,     /* the pointer leads nowhere in the document, or there is nothing to
                                    take back */
-    JSON_PATCH_OVER = 9         /* report->operation is over the limits, for report->kind; in a merge
-                                   into a text as it is written that is 0 */
+    JSON_PATCH_OVER = 9,        /* report->operation is over the limits, for report->kind; in a merge
+                                   that is 0 */
+    JSON_PATCH_BAD_LIMITS = 10  /* the size of the struct of limits isn't one that is known */
 };
 
 /* What is at fault. */
@@ -55,9 +60,12 @@ typedef uint8_t json_patch_kind;
 enum {
     JSON_PATCH_KIND_NONE = 0,
     /* of JSON_PATCH_NO_DOCUMENT and JSON_PATCH_NO_PATCH */
-    JSON_PATCH_NOT_JSON = 1,  /* no UTF-8, no JSON (RFC 8259), or a number or an escape that the reader
-                                 of JSON refuses: an unpaired surrogate, or, where documents have whole
-                                 numbers alone, a number past a float's range, such as 1e400 */
+    JSON_PATCH_NOT_JSON = 1,  /* no UTF-8, or no JSON (RFC 8259) */
+    JSON_PATCH_UNPAIRED_SURROGATE = 9,   /* it would be JSON, but for an escape such as \ud800 that is half of
+                                            a surrogate pair without the other half: JSON's grammar has it,
+                                            and it stands for no character (RFC 8259, section 8.2) */
+    /* of a document that is kept, whose numbers are 64-bit integers, and of its patches */
+    JSON_PATCH_NUMBER_OUT_OF_RANGE = 10, /* it is JSON, with a number past a float's range, such as 1e400 */
     JSON_PATCH_NOT_WHOLE = 2, /* else a number with a fraction or an exponent, minus zero, or one past
                                  64 bits; in a patch that isn't a merge patch
                                  JSON_PATCH_VALUE_NOT_WHOLE is told */
@@ -66,9 +74,8 @@ enum {
                                 nests more than 127 arrays and objects in one another; an operation
                                 would put a value deeper than the limit */
     /* of JSON_PATCH_OVER */
-    JSON_PATCH_TOO_MUCH = 8, /* the patch would copy more than the limit, with what it copied before; of
-                                a text as it is written, an operation or a merge would leave too many
-                                bytes */
+    JSON_PATCH_TOO_MUCH = 8, /* an operation or a merge would leave too many bytes; in a document that is
+                                kept the patch would copy too much, with what it copied before */
     /* of JSON_PATCH_REFUSED */
     JSON_PATCH_TEST_FAILED = 3,
     JSON_PATCH_INVALID_FROM_POINTER = 4,
@@ -94,177 +101,114 @@ enum {
    is 0. */
 typedef struct {
     size_t size;
-    size_t operation; /* counted from 0 */
+    size_t operation;    /* counted from 0 */
+    size_t inverse_size; /* of json_patch_record alone */
     json_patch_kind kind;
 } json_patch_report;
 
 /*
  * What the caller owes, at each call:
  * - document and patch point to as many bytes as their lengths say, of which no zero need be the
- *   last, and out to out_length bytes. No pointer is null, also where its length is 0, and no length
- *   is past PTRDIFF_MAX.
- * - out and report overlap nothing else that is handed in.
+ *   last, out to out_length bytes, and inverse to inverse_length. None of these pointers is null,
+ *   also where its length is 0, and no length is past PTRDIFF_MAX.
+ * - out, inverse and report overlap nothing else that is handed in.
  * - It is not called from a signal handler, nor in the forked child of a process with threads.
  * - malloc, realloc and free are of one allocator, and align a block to each power of two up to 16
  *   that divides its size.
  * - The stack has room for 192 kB, whatever is handed in.
  *
- * Where the status is no JSON_PATCH_OK, out is as it was, but for the path of JSON_PATCH_REFUSED.
- * Behind the text that a call writes, out is as it was too. Where both texts are at fault,
- * JSON_PATCH_NO_DOCUMENT is told. Of a name that stands twice the last value is read, and where a
- * document is written anew the members of an object are in byte order of their names.
+ * Where the status is no JSON_PATCH_OK, out and inverse are as they were, but for the path of
+ * JSON_PATCH_REFUSED in out. Behind a text that a call writes, they are as they were too. Where both texts
+ * are at fault, JSON_PATCH_NO_DOCUMENT is told.
+ *
+ * Numbers are compared by their values. Of a name that stands twice the last member is meant, and a removal
+ * takes all of them. JSON_PATCH_TOO_DEEP is told of a document's text in UTF-8, JSON or not, in which more
+ * arrays and objects than the limit are open at once, and of a patch's with more than 127, or as of a
+ * document's if that is a merge patch.
  */
 
 /*
- * Limits. Every call is within limits: a document has at most `depth` levels, of which 1 has none and
- * [[1]] has two, and the copies of a patch add at most `copied`, where a value counts one for each
- * value in it, itself included, and one for each byte of a string or a member's name. In a recorded
- * patch the value of each `move` counts as copied, too, since the inverse holds it; so the new document
- * and the inverse's values together are larger than the old one by no more than what the operations hold
- * and `copied`. A patch of which an operation is over them changes nothing: JSON_PATCH_OVER, before that
- * operation is made, and also where it would be refused.
+ * Limits. Every call is within limits: the caller's, or where the pointer is NULL those that
+ * JSON_PATCH_LIMITS names.
  *
- * Each one of `copied` can take 900 bytes of memory, and 1,800 where the patch is recorded: an object
- * whose one member has no name takes that. So what JSON_PATCH_MOST_COPIED lets a patch copy takes at most
- * 900,000,000 bytes.
+ *     json_patch_limits limits = JSON_PATCH_LIMITS;
+ *     limits.depth = 10;
  *
- * The calls that take no limits have JSON_PATCH_MOST_LEVELS and JSON_PATCH_MOST_COPIED, but for those on
- * a document that is kept, which have its own, and json_patch_check and json_patch_check_text, which have none. Those of
- * json_patch_..._within have the caller's, where a depth past JSON_PATCH_MOST_LEVELS counts as that. In a
- * merge and a difference of documents `depth` alone counts; of a text as it is written `copied` counts
- * bytes, in a merge too. So each text that a call writes, of a document, a patch or the array of both,
- * nests at most 127 levels. A document or a patch can be handed in again; the array of both may have more
- * levels than a document may.
+ * `size` is that of the struct, so that a later version can have more limits: JSON_PATCH_BAD_LIMITS where
+ * it isn't known. In each text that a call leaves at most `depth` arrays and objects are open at once; more
+ * than JSON_PATCH_MOST_LEVELS counts as that. What a call makes of texts has at most as many bytes as these
+ * and `bytes` together: the new text, after each operation and after a merge, and the inverse. The first
+ * operation with which this isn't so is over: JSON_PATCH_OVER, and nothing is changed. One that is refused
+ * leaves no text, and is not over.
+ *
+ * In a document that is kept `bytes` is what the copies of a patch may add, where a value counts one for each
+ * value in it, itself included, and one for each byte of a string or a member's name; of a recorded patch
+ * what it moves counts, too, since the inverse holds it. There each can take 900 bytes of memory, and 1,800
+ * where the patch is recorded, so that what JSON_PATCH_MOST_BYTES lets a patch copy takes at most
+ * 900,000,000; an operation is over before it is made, also where it would be refused.
  */
 typedef struct {
+    size_t size;
     size_t depth;
-    size_t copied;
+    size_t bytes;
 } json_patch_limits;
 #define JSON_PATCH_MOST_LEVELS 124
-#define JSON_PATCH_MOST_COPIED 500000
-
-/* Writes the document that the patch leaves. */
-json_patch_status json_patch_apply(const char *document, size_t document_length,
-                                   const char *patch, size_t patch_length, char *out,
-                                   size_t out_length, json_patch_report *report);
-json_patch_status json_patch_apply_within(const char *document, size_t document_length,
-                                          const char *patch, size_t patch_length,
-                                          const json_patch_limits *limits, char *out,
-                                          size_t out_length, json_patch_report *report);
-
-/* Writes the array of the document that the patch leaves, and the patch that leads back. */
-json_patch_status json_patch_record(const char *document, size_t document_length,
-                                    const char *patch, size_t patch_length, char *out,
-                                    size_t out_length, json_patch_report *report);
-
-json_patch_status json_patch_record_within(const char *document, size_t document_length,
-                                           const char *patch, size_t patch_length,
-                                           const json_patch_limits *limits, char *out,
-                                           size_t out_length, json_patch_report *report);
-
-/* Writes the document with the merge patch, any document, merged into it. Never
-   JSON_PATCH_REFUSED or JSON_PATCH_OVER. */
-json_patch_status json_patch_merge(const char *document, size_t document_length,
-                                   const char *patch, size_t patch_length, char *out,
-                                   size_t out_length, json_patch_report *report);
-
-json_patch_status json_patch_merge_within(const char *document, size_t document_length,
-                                          const char *patch, size_t patch_length,
-                                          const json_patch_limits *limits, char *out,
-                                          size_t out_length, json_patch_report *report);
-
-/* Writes the patch that leads from one document to another: applied to `from` by json_patch_apply,
-   within the same limits, it leaves `to`. By json_patch_apply_text it does so with a `copied` of 256 for
-   each of its operations, for the whitespace that new members and elements take over. It adds, removes
-   and replaces alone, is [] exactly where the documents are equal, and is no longer than the patch that
-   replaces the whole. JSON_PATCH_NO_DOCUMENT, where the text `from` says no document, and
-   JSON_PATCH_NO_PATCH, where `to` says none. Never JSON_PATCH_REFUSED or JSON_PATCH_OVER. */
-json_patch_status json_patch_diff(const char *from, size_t from_length, const char *to,
-                                  size_t to_length, char *out, size_t out_length,
-                                  json_patch_report *report);
-
-json_patch_status json_patch_diff_within(const char *from, size_t from_length, const char *to,
-                                         size_t to_length, const json_patch_limits *limits, char *out,
-                                         size_t out_length, json_patch_report *report);
-
-/* Reads the patch as json_patch_apply does, and does nothing else. So it refuses a value 1.5, which
-   json_patch_check_text takes. JSON_PATCH_OK, JSON_PATCH_NO_PATCH or JSON_PATCH_NO_MEMORY. */
-json_patch_status json_patch_check(const char *patch, size_t patch_length,
-                                   json_patch_report *report);
-
-/*
- * A text as it is written. Its numbers, and those of the patch, may have any form, such as 1.50 or
- * 1e400, and are compared by their values: never JSON_PATCH_NOT_WHOLE or JSON_PATCH_VALUE_NOT_WHOLE.
- * Of a name that stands twice the last member is meant, and a removal takes all of them.
- *
- * JSON_PATCH_TOO_DEEP is told of a document's text in UTF-8, JSON or not, in which more arrays and
- * objects than the limit are open at once, and of a patch's with more than 127, or as of a document's if
- * that is a merge patch.
- */
+#define JSON_PATCH_MOST_BYTES 500000
+#define JSON_PATCH_LIMITS {sizeof(json_patch_limits), JSON_PATCH_MOST_LEVELS, JSON_PATCH_MOST_BYTES}
 
 /* Writes the document's text with the patch applied: every byte is kept that no operation changes. What
    goes with a new member or element, whitespace, a comma and a colon, is as beside its neighbours. Of
-   more than 128 bytes of whitespace, or of a colon with whitespace, none is taken over.
+   more than 128 bytes of whitespace, or of a colon with whitespace, none is taken over. */
+json_patch_status json_patch_apply(const char *document, size_t document_length, const char *patch,
+                                   size_t patch_length, const json_patch_limits *limits, char *out,
+                                   size_t out_length, json_patch_report *report);
 
-   Each text that the operations leave, one after another, is within the limits: at most `depth` arrays
-   and objects are open in it at once, and it has at most as many bytes as the document's text, the
-   patch's and `copied` together. The first operation that would leave another is over: JSON_PATCH_OVER.
-   One that is refused leaves no text, and is not over. */
-json_patch_status json_patch_apply_text(const char *document, size_t document_length,
-                                        const char *patch, size_t patch_length, char *out,
-                                        size_t out_length, json_patch_report *report);
-
-json_patch_status json_patch_apply_text_within(const char *document, size_t document_length,
-                                               const char *patch, size_t patch_length,
-                                               const json_patch_limits *limits, char *out,
-                                               size_t out_length, json_patch_report *report);
-
-/* Reads the patch as json_patch_apply_text does, and does nothing else. JSON_PATCH_OK, JSON_PATCH_NO_PATCH or
-   JSON_PATCH_NO_MEMORY. */
-json_patch_status json_patch_check_text(const char *patch, size_t patch_length,
-                                        json_patch_report *report);
+/* The same, and writes to inverse the patch that leads back: the text that json_patch_apply makes by it of the
+   new text, within the same depth and with enough `bytes`, says the same as the document's, up to the order
+   of members. It adds, removes and replaces alone, and has at most two operations for each of the patch. What
+   an operation displaced has the bytes there that it had. So what a list of moves displaces again and again
+   counts each time. */
+json_patch_status json_patch_record(const char *document, size_t document_length, const char *patch,
+                                    size_t patch_length, const json_patch_limits *limits, char *out,
+                                    size_t out_length, char *inverse, size_t inverse_length,
+                                    json_patch_report *report);
 
 /* Writes the document's text with the merge patch merged into it: every byte is kept that the merge
    doesn't change, and all of them where it changes nothing. What goes with a new member is as for
-   json_patch_apply_text. JSON_PATCH_OVER, for JSON_PATCH_TOO_MUCH, where the text would have more bytes
-   than the document's text, the patch's and `copied` together. Never JSON_PATCH_REFUSED. */
-json_patch_status json_patch_merge_text(const char *document, size_t document_length,
-                                        const char *patch, size_t patch_length, char *out,
-                                        size_t out_length, json_patch_report *report);
-
-json_patch_status json_patch_merge_text_within(const char *document, size_t document_length,
-                                               const char *patch, size_t patch_length,
-                                               const json_patch_limits *limits, char *out,
-                                               size_t out_length, json_patch_report *report);
+   json_patch_apply. Never JSON_PATCH_REFUSED. */
+json_patch_status json_patch_merge(const char *document, size_t document_length, const char *patch,
+                                   size_t patch_length, const json_patch_limits *limits, char *out,
+                                   size_t out_length, json_patch_report *report);
 
 /* Writes the patch that leads from what the text `from` says to what the text `to` says: the text that
-   json_patch_apply_text makes of `from`, within the same depth, says the same as `to`. It adds, removes and
-   replaces alone, and is [] exactly where both say the same. Its numbers are written as in `to`, and the
-   members of an object that it puts are in byte order of their names. JSON_PATCH_NO_DOCUMENT, where `from`
-   is no JSON text, and JSON_PATCH_NO_PATCH, where `to` is none. Of the limits `depth` alone counts. Never
-   JSON_PATCH_REFUSED or JSON_PATCH_OVER. */
-json_patch_status json_patch_diff_text(const char *from, size_t from_length, const char *to,
-                                       size_t to_length, char *out, size_t out_length,
-                                       json_patch_report *report);
+   json_patch_apply makes of `from`, within the same depth and with enough `bytes`, says the same as `to`. It
+   adds, removes and replaces alone, and is [] exactly where both say the same. Its numbers are written as in
+   `to`, and the members of an object that it puts are in byte order of their names. JSON_PATCH_NO_DOCUMENT,
+   where `from` is no JSON text, and JSON_PATCH_NO_PATCH, where `to` is none. Of the limits `depth` alone
+   counts. Never JSON_PATCH_REFUSED or JSON_PATCH_OVER. */
+json_patch_status json_patch_diff(const char *from, size_t from_length, const char *to, size_t to_length,
+                                  const json_patch_limits *limits, char *out, size_t out_length,
+                                  json_patch_report *report);
 
-json_patch_status json_patch_diff_text_within(const char *from, size_t from_length, const char *to,
-                                              size_t to_length, const json_patch_limits *limits,
-                                              char *out, size_t out_length, json_patch_report *report);
+/* Reads the patch as json_patch_apply does, and does nothing else. JSON_PATCH_OK, JSON_PATCH_NO_PATCH or
+   JSON_PATCH_NO_MEMORY. */
+json_patch_status json_patch_check(const char *patch, size_t patch_length, json_patch_report *report);
 
 /* Writes the text of the value where the pointer leads, as it stands in the document's text, without the
-   whitespace around it. JSON_PATCH_OK, JSON_PATCH_NO_DOCUMENT, JSON_PATCH_NO_MEMORY,
-   JSON_PATCH_NO_ROOM, JSON_PATCH_NO_POINTER, and then the document isn't looked at, or
-   JSON_PATCH_NOTHING. */
-json_patch_status json_patch_value_text(const char *document, size_t document_length,
-                                        const char *pointer, size_t pointer_length, char *out,
-                                        size_t out_length, json_patch_report *report);
+   whitespace around it. Of the limits `depth` alone counts. JSON_PATCH_OK, JSON_PATCH_NO_DOCUMENT,
+   JSON_PATCH_NO_MEMORY, JSON_PATCH_NO_ROOM, JSON_PATCH_NO_POINTER, and then the document isn't looked at,
+   JSON_PATCH_NOTHING or JSON_PATCH_BAD_LIMITS. */
+json_patch_status json_patch_value(const char *document, size_t document_length, const char *pointer,
+                                   size_t pointer_length, const json_patch_limits *limits, char *out,
+                                   size_t out_length, json_patch_report *report);
 
 /*
  * A document that is kept, so that an edit takes the time that the edit wants, and not that of
- * reading and writing the whole.
+ * reading and writing the whole. Its numbers are 64-bit integers, and so are those of its patches; its text is
+ * written anew, with no whitespace and the members of an object in byte order of their names.
  *
  *     json_patch_document document = JSON_PATCH_DOCUMENT;
- *     if (json_patch_open(&document, text, strlen(text), &report) == JSON_PATCH_OK) {
+ *     if (json_patch_open(&document, text, strlen(text), NULL, &report) == JSON_PATCH_OK) {
  *         json_patch_update(&document, patch, strlen(patch), out, sizeof out, &report);
  *         json_patch_text(&document, out, sizeof out, &report);
  *     }
@@ -285,14 +229,10 @@ typedef struct {
 #define JSON_PATCH_DOCUMENT {NULL}
 
 /* Opens the document of a text, and closes the one that was open: that one stays where the status
-   is JSON_PATCH_NO_DOCUMENT or JSON_PATCH_NO_MEMORY. */
+   is no JSON_PATCH_OK. The limits hold of every change of the document too. JSON_PATCH_OK,
+   JSON_PATCH_NO_DOCUMENT, JSON_PATCH_NO_MEMORY or JSON_PATCH_BAD_LIMITS. */
 json_patch_status json_patch_open(json_patch_document *document, const char *text, size_t length,
-                                  json_patch_report *report);
-
-/* The same within the limits, which hold of every change of the document too. */
-json_patch_status json_patch_open_within(json_patch_document *document, const char *text,
-                                         size_t length, const json_patch_limits *limits,
-                                         json_patch_report *report);
+                                  const json_patch_limits *limits, json_patch_report *report);
 
 /* Changes the document as the patch says. JSON_PATCH_OK, JSON_PATCH_REFUSED, with the path in out,
    JSON_PATCH_OVER, JSON_PATCH_NO_PATCH or JSON_PATCH_NO_MEMORY. */
@@ -320,8 +260,9 @@ json_patch_status json_patch_undo(json_patch_document *document, json_patch_repo
 json_patch_status json_patch_inverse(json_patch_document *document, char *out, size_t out_length,
                                      json_patch_report *report);
 
-/* Writes the patch that leads from the document to that of the text, as json_patch_diff does, within
-   the document's limits, and leaves the document. JSON_PATCH_OK, JSON_PATCH_NO_PATCH, where the text
+/* Writes the patch that leads from the document to that of the text, within the document's limits, and leaves
+   the document. It adds, removes and replaces alone, is [] exactly where the documents are equal, and is no
+   longer than the patch that replaces the whole. JSON_PATCH_OK, JSON_PATCH_NO_PATCH, where the text
    says no document, JSON_PATCH_NO_MEMORY or JSON_PATCH_NO_ROOM. */
 json_patch_status json_patch_diff_to(json_patch_document *document, const char *text, size_t length,
                                      char *out, size_t out_length, json_patch_report *report);
@@ -332,9 +273,9 @@ json_patch_status json_patch_text(json_patch_document *document, char *out, size
 
 /* Writes what stands where the pointer leads. JSON_PATCH_OK, JSON_PATCH_NO_MEMORY,
    JSON_PATCH_NO_ROOM, JSON_PATCH_NO_POINTER or JSON_PATCH_NOTHING. */
-json_patch_status json_patch_text_at(json_patch_document *document, const char *pointer,
-                                     size_t pointer_length, char *out, size_t out_length,
-                                     json_patch_report *report);
+json_patch_status json_patch_value_at(json_patch_document *document, const char *pointer,
+                                      size_t pointer_length, char *out, size_t out_length,
+                                      json_patch_report *report);
 
 /* Gives back what the document takes. The handle may be opened again, and closed again. */
 void json_patch_close(json_patch_document *document);

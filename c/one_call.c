@@ -4,13 +4,13 @@
  *
  *     one_call CALL DOCUMENT TEXT
  *
- * CALL is apply, record, merge, diff, check, check_text, apply_text, merge_text, diff_text or value_text, or of a document that
- * is kept open, open, update, update_recorded, update_merged, undo, text, text_at, diff_to or inverse; and
- * apply, record, merge, diff, apply_text, merge_text, diff_text and open with _within behind, whose limits are those
- * of the calls that are given none. It prints what the call answers with ample memory: the status and the report, what was
- * written, and then the text of the document that is kept; and, in a last line, how many requests there
- * were. Whether a request was refused is told by the functions below that stand in for malloc and
- * realloc: so it is linked with -Wl,--wrap=malloc,--wrap=realloc,--wrap=free.
+ * CALL is apply, record, merge, diff, check or value, or of a document that is kept open, update,
+ * update_recorded, update_merged, undo, text, value_at, diff_to or inverse. It prints what the call answers with
+ * ample memory: the status and the report, what was written, the inverse behind it, and then the text of the
+ * document that is kept; and, in a last line, how many requests there were. Whether a request was refused is told
+ * by the functions below that stand in for malloc and realloc: so it is linked with
+ * -Wl,--wrap=malloc,--wrap=realloc,--wrap=free. Where all requests after one are refused, too, the limits are
+ * handed in that the call otherwise has by itself.
  *
  * It ends with status 1 and says why where a run breaks the rule: a request was refused exactly where
  * the call answers JSON_PATCH_NO_MEMORY, which writes nothing and leaves the kept document as it was;
@@ -76,67 +76,43 @@ typedef struct {
 typedef struct {
     json_patch_status status, was_open, is_open;
     json_patch_report report;
-    char out[ROOM], before[ROOM], after[ROOM];
+    char out[ROOM], inverse[ROOM], before[ROOM], after[ROOM];
 } outcome;
 
-static const json_patch_limits usual = {JSON_PATCH_MOST_LEVELS, JSON_PATCH_MOST_COPIED};
-
-static json_patch_status called(const input *it, json_patch_document *kept, char *out,
-                                json_patch_report *report) {
+static json_patch_status called(const input *it, json_patch_document *kept, const json_patch_limits *limits,
+                                outcome *came) {
     const char *name = it->name, *document = it->document, *text = it->text;
     size_t size = strlen(document), length = strlen(text);
+    char *out = came->out;
+    json_patch_report *report = &came->report;
     if (strcmp(name, "apply") == 0)
-        return json_patch_apply(document, size, text, length, out, ROOM, report);
+        return json_patch_apply(document, size, text, length, limits, out, ROOM, report);
     if (strcmp(name, "record") == 0)
-        return json_patch_record(document, size, text, length, out, ROOM, report);
+        return json_patch_record(document, size, text, length, limits, out, ROOM, came->inverse, ROOM, report);
     if (strcmp(name, "merge") == 0)
-        return json_patch_merge(document, size, text, length, out, ROOM, report);
-    if (strcmp(name, "apply_within") == 0)
-        return json_patch_apply_within(document, size, text, length, &usual, out, ROOM, report);
-    if (strcmp(name, "record_within") == 0)
-        return json_patch_record_within(document, size, text, length, &usual, out, ROOM, report);
-    if (strcmp(name, "merge_within") == 0)
-        return json_patch_merge_within(document, size, text, length, &usual, out, ROOM, report);
+        return json_patch_merge(document, size, text, length, limits, out, ROOM, report);
     if (strcmp(name, "diff") == 0)
-        return json_patch_diff(document, size, text, length, out, ROOM, report);
-    if (strcmp(name, "diff_within") == 0)
-        return json_patch_diff_within(document, size, text, length, &usual, out, ROOM, report);
-    if (strcmp(name, "apply_text") == 0)
-        return json_patch_apply_text(document, size, text, length, out, ROOM, report);
-    if (strcmp(name, "apply_text_within") == 0)
-        return json_patch_apply_text_within(document, size, text, length, &usual, out, ROOM, report);
-    if (strcmp(name, "merge_text") == 0)
-        return json_patch_merge_text(document, size, text, length, out, ROOM, report);
-    if (strcmp(name, "merge_text_within") == 0)
-        return json_patch_merge_text_within(document, size, text, length, &usual, out, ROOM, report);
-    if (strcmp(name, "diff_text") == 0)
-        return json_patch_diff_text(document, size, text, length, out, ROOM, report);
-    if (strcmp(name, "diff_text_within") == 0)
-        return json_patch_diff_text_within(document, size, text, length, &usual, out, ROOM, report);
-    if (strcmp(name, "value_text") == 0)
-        return json_patch_value_text(document, size, text, length, out, ROOM, report);
-    if (strcmp(name, "diff_to") == 0)
-        return json_patch_diff_to(kept, text, length, out, ROOM, report);
-    if (strcmp(name, "open_within") == 0)
-        return json_patch_open_within(kept, text, length, &usual, report);
-    if (strcmp(name, "undo") == 0)
-        return json_patch_undo(kept, report);
+        return json_patch_diff(document, size, text, length, limits, out, ROOM, report);
     if (strcmp(name, "check") == 0)
         return json_patch_check(text, length, report);
-    if (strcmp(name, "check_text") == 0)
-        return json_patch_check_text(text, length, report);
+    if (strcmp(name, "value") == 0)
+        return json_patch_value(document, size, text, length, limits, out, ROOM, report);
     if (strcmp(name, "open") == 0)
-        return json_patch_open(kept, text, length, report);
+        return json_patch_open(kept, text, length, limits, report);
     if (strcmp(name, "update") == 0)
         return json_patch_update(kept, text, length, out, ROOM, report);
     if (strcmp(name, "update_recorded") == 0)
         return json_patch_update_recorded(kept, text, length, out, ROOM, report);
     if (strcmp(name, "update_merged") == 0)
         return json_patch_update_merged(kept, text, length, report);
+    if (strcmp(name, "undo") == 0)
+        return json_patch_undo(kept, report);
     if (strcmp(name, "text") == 0)
         return json_patch_text(kept, out, ROOM, report);
-    if (strcmp(name, "text_at") == 0)
-        return json_patch_text_at(kept, text, length, out, ROOM, report);
+    if (strcmp(name, "value_at") == 0)
+        return json_patch_value_at(kept, text, length, out, ROOM, report);
+    if (strcmp(name, "diff_to") == 0)
+        return json_patch_diff_to(kept, text, length, out, ROOM, report);
     if (strcmp(name, "inverse") == 0)
         return json_patch_inverse(kept, out, ROOM, report);
     fprintf(stderr, "one_call: there is no call %s\n", name);
@@ -155,23 +131,25 @@ static json_patch_status kept_text(json_patch_document *kept, char *text) {
 static void prepare(const input *it, json_patch_document *kept, char *out) {
     json_patch_report told;
     int is_recorded = strcmp(it->name, "inverse") == 0 || strcmp(it->name, "undo") == 0;
-    if (json_patch_open(kept, it->document, strlen(it->document), &told) == JSON_PATCH_OK && is_recorded)
+    if (json_patch_open(kept, it->document, strlen(it->document), NULL, &told) == JSON_PATCH_OK && is_recorded)
         json_patch_update_recorded(kept, it->text, strlen(it->text), out, ROOM, &told);
 }
 
 /* Makes the call with that request refused. */
 static void make(const input *it, unsigned long number, int rest, outcome *came) {
+    static const json_patch_limits usual = JSON_PATCH_LIMITS;
     json_patch_document kept = JSON_PATCH_DOCUMENT;
     long had = blocks;
     prepare(it, &kept, came->out);
     came->was_open = kept_text(&kept, came->before);
-    came->report = (json_patch_report){77, 77, 77};
+    came->report = (json_patch_report){77, 77, 77, 77};
     memset(came->out, UNTOUCHED, ROOM);
+    memset(came->inverse, UNTOUCHED, ROOM);
     refuse_at = number;
     refuses_rest = rest;
     requests = refused = 0;
     is_within = 1;
-    came->status = called(it, &kept, came->out, &came->report);
+    came->status = called(it, &kept, rest ? &usual : NULL, came);
     is_within = 0;
     came->is_open = kept_text(&kept, came->after);
     json_patch_close(&kept);
@@ -191,20 +169,21 @@ static int is_untouched(const char *out, size_t from) {
 }
 
 static int is_same_report(json_patch_report a, json_patch_report b) {
-    return a.size == b.size && a.operation == b.operation && a.kind == b.kind;
+    return a.size == b.size && a.inverse_size == b.inverse_size && a.operation == b.operation && a.kind == b.kind;
 }
 
 /* Whether nothing is told but the status, nothing is written, and the kept document stays. */
 static int is_out_of_memory(const outcome *came) {
     return came->status == JSON_PATCH_NO_MEMORY &&
-           is_same_report(came->report, (json_patch_report){0, 0, 0}) &&
-           is_untouched(came->out, 0) && came->was_open == came->is_open &&
+           is_same_report(came->report, (json_patch_report){0, 0, 0, 0}) &&
+           is_untouched(came->out, 0) && is_untouched(came->inverse, 0) && came->was_open == came->is_open &&
            strcmp(came->before, came->after) == 0;
 }
 
 static int is_same(const outcome *came, const outcome *ample) {
     return came->status == ample->status && is_same_report(came->report, ample->report) &&
-           memcmp(came->out, ample->out, ROOM) == 0 && came->is_open == ample->is_open &&
+           memcmp(came->out, ample->out, ROOM) == 0 && memcmp(came->inverse, ample->inverse, ROOM) == 0 &&
+           came->is_open == ample->is_open &&
            strcmp(came->after, ample->after) == 0;
 }
 
@@ -227,10 +206,12 @@ int main(int count, char **words) {
     input it = {words[1], words[2], words[3]};
     make(&it, 0, 0, &ample);
     unsigned long most = requests;
-    printf("%d %zu %zu %d %.*s\n%s\n%lu\n", ample.status, ample.report.size, ample.report.operation,
-           ample.report.kind, (int)(ample.status <= JSON_PATCH_REFUSED ? ample.report.size : 0),
-           ample.out, ample.after, most);
-    if (!is_untouched(ample.out, ample.status <= JSON_PATCH_REFUSED ? ample.report.size : 0))
+    json_patch_report *told = &ample.report;
+    size_t written = ample.status <= JSON_PATCH_REFUSED ? told->size : 0;
+    size_t back = ample.status == JSON_PATCH_OK ? told->inverse_size : 0;
+    printf("%d %zu %zu %zu %d %.*s%.*s\n%s\n%lu\n", ample.status, told->size, told->inverse_size, told->operation,
+           told->kind, (int)written, ample.out, (int)back, ample.inverse, ample.after, most);
+    if (!is_untouched(ample.out, written) || !is_untouched(ample.inverse, back))
         return puts("spoilt") < 0 ? 64 : 1;
     for (unsigned long number = 1; number <= most; number++)
         for (int rest = 0; rest <= 1; rest++)

@@ -1,38 +1,24 @@
 /* The rows of cases.json, as the tests read them. */
-#include "json_patch.h"
+#include "fail.h"
 
-#include <stdarg.h>
-#include <stdio.h>
-#include <stdlib.h>
-#include <string.h>
-
-typedef json_patch_status call(const char *, size_t, const char *, size_t, char *, size_t,
-                               json_patch_report *);
+typedef enum { APPLY, RECORD, MERGE, DIFF, VALUE } call;
 
 typedef struct {
     char *bytes;
     size_t length;
 } text;
 
-/* A row of cases.json. Where written.bytes is null, what is written isn't compared. */
+/* A row of cases.json: what comes of a call with a document and a patch, or with the other text that it takes.
+   Of RECORD `written` is an array of the new text and of the inverse. */
 typedef struct {
-    call *make;
+    call call;
     text document, patch;
     json_patch_status status;
     size_t operation;
     json_patch_kind kind;
     text written;
+    const json_patch_limits *limits;
 } row;
-
-static void fail(const char *format, ...) {
-    va_list parts;
-    va_start(parts, format);
-    fputs("c: ", stderr);
-    vfprintf(stderr, format, parts);
-    fputc('\n', stderr);
-    va_end(parts);
-    exit(1);
-}
 
 /* ---- reading them: they are JSON, with one row a line */
 
@@ -69,13 +55,9 @@ static char read_character(void) {
     }
 }
 
-/* A text, with a zero after it that isn't counted, or null. */
+/* A text, with a zero after it that isn't counted. */
 static text read_text(void) {
     text read = {NULL, 0};
-    if (strncmp(at, "null", 4) == 0) {
-        at += 4;
-        return read;
-    }
     skip('"');
     read.bytes = malloc(strlen(at));
     if (!read.bytes)
@@ -93,16 +75,13 @@ static size_t read_number(void) {
     return number;
 }
 
-static call *named(const char *name) {
-    if (strcmp(name, "apply") == 0)
-        return json_patch_apply;
-    if (strcmp(name, "record") == 0)
-        return json_patch_record;
-    if (strcmp(name, "diff") == 0)
-        return json_patch_diff;
-    if (strcmp(name, "merge") != 0)
-        fail("cases.json: there is no call %s", name);
-    return json_patch_merge;
+static call named(const char *name) {
+    static const char *const names[] = {"apply", "record", "merge", "diff"};
+    for (size_t i = 0; i < sizeof names / sizeof *names; i++)
+        if (strcmp(name, names[i]) == 0)
+            return (call)i;
+    fail("cases.json: there is no call %s", name);
+    return APPLY;
 }
 
 static row read_row(void) {
@@ -110,7 +89,7 @@ static row read_row(void) {
     text name;
     skip('[');
     name = read_text();
-    read.make = named(name.bytes);
+    read.call = named(name.bytes);
     free(name.bytes);
     skip(',');
     read.document = read_text();
@@ -121,6 +100,7 @@ static row read_row(void) {
     read.operation = read_number();
     read.kind = (json_patch_kind)read_number();
     read.written = read_text();
+    read.limits = NULL;
     skip(']');
     return read;
 }

@@ -6,45 +6,9 @@
  *
  *     test_diff
  */
-#include "json_patch.h"
-
-#include <stdarg.h>
-#include <stdio.h>
-#include <stdlib.h>
-#include <string.h>
+#include "put.h"
 
 static unsigned long pairs;
-
-static void fail(const char *format, ...) {
-    va_list parts;
-    va_start(parts, format);
-    fputs("c: ", stderr);
-    vfprintf(stderr, format, parts);
-    fputc('\n', stderr);
-    va_end(parts);
-    exit(1);
-}
-
-typedef struct {
-    char *bytes;
-    size_t length, room;
-} text;
-
-static void put(text *to, const char *format, ...) {
-    va_list parts;
-    va_start(parts, format);
-    char piece[128];
-    int length = vsnprintf(piece, sizeof piece, format, parts);
-    va_end(parts);
-    if (to->length + (size_t)length + 1 > to->room) {
-        to->room = 2 * (to->room + (size_t)length + 1);
-        to->bytes = realloc(to->bytes, to->room);
-        if (!to->bytes)
-            fail("no memory");
-    }
-    memcpy(to->bytes + to->length, piece, (size_t)length + 1);
-    to->length += (size_t)length;
-}
 
 static text with_room(size_t room) {
     text made = {malloc(room), 0, room};
@@ -55,8 +19,8 @@ static text with_room(size_t room) {
 
 /* ---- documents */
 
-/* The item at this place of a list of so many. */
-typedef long item(long place, long count);
+/* The element at this place of an array of so many. */
+typedef long element(long place, long count);
 
 static long counted(long place, long count) { return place + 0 * count; }
 static long shifted(long place, long count) { return place + 1 + 0 * count; }
@@ -67,10 +31,10 @@ static long by_turns(long place, long count) { return place % 2 + 0 * count; }
 static long by_other_turns(long place, long count) { return (place + 1) % 2 + 0 * count; }
 static long scattered(long place, long count) { return (long)((unsigned long)place * 7919 % 104729) % count; }
 
-static item *const items[] = {counted, shifted, reversed, others, alike, by_turns, by_other_turns, scattered};
-enum { ITEMS = sizeof items / sizeof *items };
+static element *const elements[] = {counted, shifted, reversed, others, alike, by_turns, by_other_turns, scattered};
+enum { ELEMENTS = sizeof elements / sizeof *elements };
 
-static text list(item *of, long count) {
+static text array(element *of, long count) {
     text made = {NULL, 0, 0};
     put(&made, "[");
     for (long place = 0; place < count; place++)
@@ -79,8 +43,8 @@ static text list(item *of, long count) {
     return made;
 }
 
-/* Members in the order of their names, each a list of one item. */
-static text object(item *of, long count, long first) {
+/* Members in the order of their names, each an array of one element. */
+static text object(element *of, long count, long first) {
     text made = {NULL, 0, 0};
     put(&made, "{");
     for (long place = 0; place < count; place++)
@@ -105,12 +69,10 @@ static void expect_text(const text *wanted, const char *bytes, size_t length, co
 static void expect_kept(const text *from, const text *to, const text *patch, text *out, const char *of) {
     json_patch_document kept = JSON_PATCH_DOCUMENT;
     json_patch_report report;
-    expect(json_patch_open(&kept, from->bytes, from->length, &report), of);
-    expect(json_patch_diff_to(&kept, to->bytes, to->length, out->bytes, out->room, &report), of);
+    expect(json_patch_open(&kept, OF(*from), NULL, &report), of);
+    expect(json_patch_diff_to(&kept, OF(*to), out->bytes, out->room, &report), of);
     expect_text(patch, out->bytes, report.size, of);
-    expect(json_patch_update_recorded(&kept, patch->bytes, patch->length, out->bytes, out->room,
-                                      &report),
-           of);
+    expect(json_patch_update_recorded(&kept, OF(*patch), out->bytes, out->room, &report), of);
     expect(json_patch_text(&kept, out->bytes, out->room, &report), of);
     expect_text(to, out->bytes, report.size, of);
     if (patch->length > 2)
@@ -120,34 +82,46 @@ static void expect_kept(const text *from, const text *to, const text *patch, tex
     json_patch_close(&kept);
 }
 
+/* The text is led to the second and, by what is recorded, to one that says the first. */
+static void expect_recorded(const text *from, const text *to, const text *patch, text *out, const char *of) {
+    const json_patch_limits enough = {sizeof enough, JSON_PATCH_MOST_LEVELS, SIZE_MAX};
+    text inverse = with_room(from->length + patch->length + JSON_PATCH_MOST_BYTES), back = with_room(out->room);
+    json_patch_report report;
+    expect(json_patch_apply(OF(*from), OF(*patch), NULL, out->bytes, out->room, &report), of);
+    expect_text(to, out->bytes, report.size, of);
+    expect(json_patch_record(OF(*from), OF(*patch), NULL, out->bytes, out->room, inverse.bytes, inverse.room, &report),
+           of);
+    expect_text(to, out->bytes, report.size, of);
+    expect(json_patch_apply(OF(*to), inverse.bytes, report.inverse_size, &enough, back.bytes, back.room, &report), of);
+    expect(json_patch_diff(OF(*from), back.bytes, report.size, NULL, out->bytes, out->room, &report), of);
+    expect_text(&(const text){"[]", 2, 2}, out->bytes, report.size, of);
+    free(inverse.bytes);
+    free(back.bytes);
+}
+
 static void expect_pair(const text *from, const text *to, const char *of) {
     static const char head[] = "[{\"op\":\"replace\",\"path\":\"\",\"value\":", tail[] = "}]";
     size_t whole = sizeof head - 1 + to->length + sizeof tail - 1;
     text out = with_room(whole + from->length), patch = with_room(whole);
     json_patch_report report;
-    int is_equal = from->length == to->length && memcmp(from->bytes, to->bytes, to->length) == 0;
+    int is_equal = from->length == to->length && memcmp(from->bytes, OF(*to)) == 0;
     pairs++;
     /* there is room for the replacement of the whole, and so for each patch */
-    expect(json_patch_diff(from->bytes, from->length, to->bytes, to->length, patch.bytes, whole,
-                           &report),
-           of);
+    expect(json_patch_diff(OF(*from), OF(*to), NULL, patch.bytes, whole, &report), of);
     patch.length = report.size;
     if (is_equal != (patch.length == 2))
         fail("%.*s leads from one to the other: %s", 200, patch.bytes, of);
-    expect(json_patch_apply(from->bytes, from->length, patch.bytes, patch.length, out.bytes, out.room,
-                            &report),
-           of);
-    expect_text(to, out.bytes, report.size, of);
+    expect_recorded(from, to, &patch, &out, of);
     expect_kept(from, to, &patch, &out, of);
     free(out.bytes);
     free(patch.bytes);
 }
 
 static void expect_lists(long olds, long news) {
-    for (size_t i = 0; i < ITEMS; i++)
-        for (size_t j = 0; j < ITEMS; j++) {
+    for (size_t i = 0; i < ELEMENTS; i++)
+        for (size_t j = 0; j < ELEMENTS; j++) {
             char of[64];
-            text from = list(items[i], olds), to = list(items[j], news);
+            text from = array(elements[i], olds), to = array(elements[j], news);
             snprintf(of, sizeof of, "lists %zu and %zu of %ld and %ld", i, j, olds, news);
             expect_pair(&from, &to, of);
             free(from.bytes);
@@ -156,8 +130,8 @@ static void expect_lists(long olds, long news) {
 }
 
 static void expect_objects(long olds, long news, long first) {
-    for (size_t i = 0; i < ITEMS; i += 2) {
-        text from = object(counted, olds, 0), to = object(items[i], news, first);
+    for (size_t i = 0; i < ELEMENTS; i += 2) {
+        text from = object(counted, olds, 0), to = object(elements[i], news, first);
         expect_pair(&from, &to, "objects");
         free(from.bytes);
         free(to.bytes);
@@ -169,7 +143,7 @@ int main(void) {
     for (size_t i = 0; i < sizeof counts / sizeof *counts; i++)
         for (size_t j = 0; j < sizeof counts / sizeof *counts; j++)
             expect_lists(counts[i], counts[j]);
-    /* 3,000,000 pairs of items, and more than the 16,777,216 of which each is looked at */
+    /* 3,000,000 pairs of elements, and more than the 16,777,216 of which each is looked at */
     expect_lists(1500, 2000);
     expect_lists(6000, 5000);
     expect_objects(0, 1000, 0);

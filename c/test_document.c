@@ -16,9 +16,10 @@ static unsigned long updates;
 static const char *written(json_patch_status call(json_patch_document *, char *, size_t,
                                                   json_patch_report *),
                            json_patch_document *document) {
-    static char texts[3][ROOM];
+    enum { TEXTS = 8 };
+    static char texts[TEXTS][ROOM];
     static int turn;
-    char *out = texts[turn++ % 3];
+    char *out = texts[turn++ % TEXTS];
     json_patch_report report;
     if (call(document, out, ROOM - 1, &report) != JSON_PATCH_OK)
         fail("no text");
@@ -26,9 +27,20 @@ static const char *written(json_patch_status call(json_patch_document *, char *,
     return out;
 }
 
+/* What is kept of a text, written anew. */
+static const char *anew(const text *it) {
+    json_patch_document document = JSON_PATCH_DOCUMENT;
+    json_patch_report report;
+    if (json_patch_open(&document, it->bytes, it->length, NULL, &report))
+        fail("%s isn't opened", it->bytes);
+    const char *out = written(json_patch_text, &document);
+    json_patch_close(&document);
+    return out;
+}
+
 static void expect_told(const json_patch_report *report, size_t size, size_t operation,
                         json_patch_kind kind) {
-    if (report->size != size || report->operation != operation || report->kind != kind)
+    if (report->size != size || report->operation != operation || report->kind != kind || report->inverse_size != 0)
         fail("size %zu, operation %zu and kind %d, not %zu, %zu and %d", report->size,
              report->operation, report->kind, size, operation, kind);
 }
@@ -36,9 +48,9 @@ static void expect_told(const json_patch_report *report, size_t size, size_t ope
 static json_patch_status updated(const row *row, json_patch_document *document, char *out,
                                  json_patch_report *report) {
     updates++;
-    if (row->make == json_patch_merge)
+    if (row->call == MERGE)
         return json_patch_update_merged(document, row->patch.bytes, row->patch.length, report);
-    if (row->make == json_patch_record)
+    if (row->call == RECORD)
         return json_patch_update_recorded(document, row->patch.bytes, row->patch.length, out, ROOM,
                                           report);
     return json_patch_update(document, row->patch.bytes, row->patch.length, out, ROOM, report);
@@ -51,9 +63,9 @@ static void expect_changed(const row *row, json_patch_document *document, const 
     json_patch_report report;
     const char *now = written(json_patch_text, document);
     const char *inverse = written(json_patch_inverse, document);
-    int is_recorded = row->make == json_patch_record;
+    int is_recorded = row->call == RECORD;
     snprintf(both, sizeof both, is_recorded ? "[%s,%s]" : "%s", now, inverse);
-    if (row->written.bytes && strcmp(both, row->written.bytes) != 0)
+    if (strcmp(both, anew(&row->written)) != 0)
         fail("%s and not %s for %s", both, row->written.bytes, row->patch.bytes);
     if (!is_recorded && strcmp(inverse, "[]") != 0)
         fail("%s is kept, and nothing was recorded", inverse);
@@ -66,12 +78,12 @@ static void expect_changed(const row *row, json_patch_document *document, const 
 /* The patch that leads from what is kept to the second text is what the row tells, and leads there. */
 static void expect_difference(const row *row) {
     json_patch_document document = JSON_PATCH_DOCUMENT;
-    json_patch_report report = {77, 77, 77};
+    json_patch_report report = {77, 77, 77, 77};
     char out[ROOM], path[ROOM];
     const char *to = row->patch.bytes;
-    if (json_patch_open(&document, row->document.bytes, row->document.length, &report))
+    if (json_patch_open(&document, row->document.bytes, row->document.length, NULL, &report))
         fail("%s isn't opened", row->document.bytes);
-    report = (json_patch_report){77, 77, 77};
+    report = (json_patch_report){77, 77, 77, 77};
     if (json_patch_diff_to(&document, to, row->patch.length, out, ROOM, &report))
         fail("no patch leads to %s", to);
     expect_told(&report, row->written.length, 0, 0);
@@ -88,18 +100,18 @@ static void expect_difference(const row *row) {
 }
 
 static void expect_on_kept(const row *row) {
-    if (row->make == json_patch_diff) {
+    if (row->call == DIFF) {
         expect_difference(row);
         return;
     }
     json_patch_document document = JSON_PATCH_DOCUMENT;
-    json_patch_report report = {77, 77, 77};
+    json_patch_report report = {77, 77, 77, 77};
     char out[ROOM];
-    if (json_patch_open(&document, row->document.bytes, row->document.length, &report))
+    if (json_patch_open(&document, row->document.bytes, row->document.length, NULL, &report))
         fail("%s isn't opened", row->document.bytes);
     expect_told(&report, 0, 0, 0);
     const char *before = written(json_patch_text, &document);
-    report = (json_patch_report){77, 77, 77};
+    report = (json_patch_report){77, 77, 77, 77};
     json_patch_status status = updated(row, &document, out, &report);
     if (status != row->status)
         fail("status %d for %s", status, row->patch.bytes);
@@ -126,7 +138,7 @@ static void expect(json_patch_status status, json_patch_status wanted, const cha
 
 /* The call answers this status, and tells nothing but the kind. */
 #define EXPECT_TOLD(call, wanted, kind) \
-    (r = (json_patch_report){77, 77, 77}, EXPECT(call, wanted), expect_told(&r, 0, 0, kind))
+    (r = (json_patch_report){77, 77, 77, 77}, EXPECT(call, wanted), expect_told(&r, 0, 0, kind))
 
 static void expect_closed(void) {
     json_patch_document closed = JSON_PATCH_DOCUMENT;
@@ -138,8 +150,8 @@ static void expect_closed(void) {
     EXPECT_TOLD(json_patch_inverse(&closed, out, 8, &r), JSON_PATCH_CLOSED, 0);
     EXPECT_TOLD(json_patch_diff_to(&closed, TEXT("{"), out, 8, &r), JSON_PATCH_CLOSED, 0);
     EXPECT_TOLD(json_patch_text(&closed, out, 8, &r), JSON_PATCH_CLOSED, 0);
-    EXPECT_TOLD(json_patch_text_at(&closed, TEXT("x"), out, 8, &r), JSON_PATCH_CLOSED, 0);
-    EXPECT_TOLD(json_patch_open(&closed, TEXT("{"), &r), JSON_PATCH_NO_DOCUMENT,
+    EXPECT_TOLD(json_patch_value_at(&closed, TEXT("x"), out, 8, &r), JSON_PATCH_CLOSED, 0);
+    EXPECT_TOLD(json_patch_open(&closed, TEXT("{"), NULL, &r), JSON_PATCH_NO_DOCUMENT,
                 JSON_PATCH_NOT_JSON);
     EXPECT(json_patch_text(&closed, out, 8, &r), JSON_PATCH_CLOSED);
     json_patch_close(&closed);
@@ -149,13 +161,23 @@ static void expect_closed(void) {
 static void expect_opened(void) {
     json_patch_document document = JSON_PATCH_DOCUMENT;
     json_patch_report r;
-    EXPECT(json_patch_open(&document, TEXT("{\"a\":1}"), &r), JSON_PATCH_OK);
-    EXPECT(json_patch_open(&document, TEXT("[1.5]"), &r), JSON_PATCH_NO_DOCUMENT);
+    char out[8];
+    EXPECT(json_patch_open(&document, TEXT("{\"a\":1}"), NULL, &r), JSON_PATCH_OK);
+    EXPECT(json_patch_open(&document, TEXT("[1.5]"), NULL, &r), JSON_PATCH_NO_DOCUMENT);
     if (r.kind != JSON_PATCH_NOT_WHOLE || strcmp(written(json_patch_text, &document), "{\"a\":1}"))
         fail("a text that is refused closes the document");
-    EXPECT(json_patch_open(&document, TEXT(" [ ] "), &r), JSON_PATCH_OK);
+    EXPECT(json_patch_open(&document, TEXT(" [ ] "), NULL, &r), JSON_PATCH_OK);
     if (strcmp(written(json_patch_text, &document), "[]") != 0)
         fail("the other document isn't open");
+    const json_patch_limits later = {sizeof later + 8, 1, 1};
+    EXPECT_TOLD(json_patch_open(&document, TEXT("1"), &later, &r), JSON_PATCH_BAD_LIMITS, 0);
+    if (strcmp(written(json_patch_text, &document), "[]") != 0)
+        fail("limits of another size close the document");
+    EXPECT(json_patch_open(&document, TEXT(" {\"b\":[1 ,2],\"a\":0,\"a\":-7} "), NULL, &r), JSON_PATCH_OK);
+    if (strcmp(written(json_patch_text, &document), "{\"a\":-7,\"b\":[1,2]}") != 0)
+        fail("%s is written", written(json_patch_text, &document));
+    EXPECT(json_patch_diff_to(&document, TEXT("{\"b\":[1,2],\"a\":-7}"), out, sizeof out, &r), JSON_PATCH_OK);
+    expect_told(&r, 2, 0, 0);
     json_patch_close(&document);
 }
 
@@ -163,7 +185,7 @@ static void expect_unreadable(void) {
     json_patch_document document = JSON_PATCH_DOCUMENT;
     json_patch_report r;
     char out[8];
-    EXPECT(json_patch_open(&document, TEXT("{\"a\":1}"), &r), JSON_PATCH_OK);
+    EXPECT(json_patch_open(&document, TEXT("{\"a\":1}"), NULL, &r), JSON_PATCH_OK);
     EXPECT_TOLD(json_patch_update(&document, TEXT("["), out, 8, &r), JSON_PATCH_NO_PATCH,
                 JSON_PATCH_NOT_JSON);
     EXPECT_TOLD(json_patch_update_recorded(&document, TEXT("[\xff]"), out, 8, &r),
@@ -184,12 +206,14 @@ static void expect_values(void) {
     json_patch_document document = JSON_PATCH_DOCUMENT;
     json_patch_report r;
     char out[8];
-    EXPECT(json_patch_open(&document, TEXT("{}"), &r), JSON_PATCH_OK);
+    EXPECT(json_patch_open(&document, TEXT("{}"), NULL, &r), JSON_PATCH_OK);
     for (size_t i = 0; i < VALUES; i++) {
         text patch = adding(i);
-        EXPECT_TOLD(json_patch_open(&document, values[i].bytes, values[i].length, &r),
+        EXPECT_TOLD(json_patch_open(&document, values[i].bytes, values[i].length, NULL, &r),
                     JSON_PATCH_NO_DOCUMENT, values[i].kind);
         EXPECT_TOLD(json_patch_update(&document, patch.bytes, patch.length, out, 8, &r),
+                    JSON_PATCH_NO_PATCH, kind_in_patch(i));
+        EXPECT_TOLD(json_patch_update_recorded(&document, patch.bytes, patch.length, out, 8, &r),
                     JSON_PATCH_NO_PATCH, kind_in_patch(i));
         EXPECT_TOLD(json_patch_update_merged(&document, values[i].bytes, values[i].length, &r),
                     JSON_PATCH_NO_PATCH, values[i].kind);
@@ -216,7 +240,7 @@ static void expect_rooms(void) {
     json_patch_document document = JSON_PATCH_DOCUMENT;
     json_patch_report r;
     char out[64];
-    EXPECT(json_patch_open(&document, TEXT("{}"), &r), JSON_PATCH_OK);
+    EXPECT(json_patch_open(&document, TEXT("{}"), NULL, &r), JSON_PATCH_OK);
     EXPECT(json_patch_update_recorded(&document, TEXT(patch), out, 0, &r), JSON_PATCH_OK);
     for (size_t room = 0; room < 63; room++) {
         memset(out, '-', sizeof out);
@@ -225,7 +249,7 @@ static void expect_rooms(void) {
         if (r.size != strlen(text) || !is_alone(out, room, r.size))
             fail("a text in %zu bytes", room);
         memset(out, '-', sizeof out);
-        EXPECT(json_patch_text_at(&document, TEXT("/a/1"), out, room, &r),
+        EXPECT(json_patch_value_at(&document, TEXT("/a/1"), out, room, &r),
                room < strlen(found) ? JSON_PATCH_NO_ROOM : JSON_PATCH_OK);
         if (r.size != strlen(found) || !is_alone(out, room, r.size))
             fail("what stands at a pointer in %zu bytes", room);
@@ -250,7 +274,7 @@ static void expect_paths(void) {
     json_patch_document document = JSON_PATCH_DOCUMENT;
     json_patch_report r;
     char out[16];
-    EXPECT(json_patch_open(&document, TEXT("{}"), &r), JSON_PATCH_OK);
+    EXPECT(json_patch_open(&document, TEXT("{}"), NULL, &r), JSON_PATCH_OK);
     for (size_t room = 0; room < 15; room++)
         for (int is_recorded = 0; is_recorded < 2; is_recorded++) {
             memset(out, '-', sizeof out);
@@ -268,8 +292,8 @@ static void expect_found(const char *pointer, json_patch_status wanted, const ch
     json_patch_document document = JSON_PATCH_DOCUMENT;
     json_patch_report r;
     char out[64];
-    EXPECT(json_patch_open(&document, TEXT("{\"a/b\":[1,{\"m~n\":null}]}"), &r), JSON_PATCH_OK);
-    expect(json_patch_text_at(&document, TEXT(pointer), out, sizeof out, &r), wanted, pointer);
+    EXPECT(json_patch_open(&document, TEXT("{\"a/b\":[1,{\"m~n\":null}]}"), NULL, &r), JSON_PATCH_OK);
+    expect(json_patch_value_at(&document, TEXT(pointer), out, sizeof out, &r), wanted, pointer);
     if (r.size != strlen(text) || memcmp(out, text, r.size) != 0)
         fail("%.*s and not %s stands at %s", (int)r.size, out, text, pointer);
     json_patch_close(&document);

@@ -6,53 +6,18 @@
  *
  *     test_limits [STACK]     the stack's bytes (196608)
  */
-#include "json_patch.h"
+#include "put.h"
 
 #include <pthread.h>
-#include <stdarg.h>
-#include <stdio.h>
-#include <stdlib.h>
-#include <string.h>
 #include <sys/wait.h>
 #include <unistd.h>
 
-enum { ROOM = 1 << 16, MOST = JSON_PATCH_MOST_LEVELS, LONGEST = 1 << 20 };
+enum { ROOM = 1 << 21, MOST = JSON_PATCH_MOST_LEVELS, LONGEST = 1 << 20 };
 
 static unsigned long calls;
-static char *out;
-
-static void fail(const char *format, ...) {
-    va_list parts;
-    va_start(parts, format);
-    fputs("c: ", stderr);
-    vfprintf(stderr, format, parts);
-    fputc('\n', stderr);
-    va_end(parts);
-    exit(1);
-}
+static char *out, *inverse, *other;
 
 /* ---- texts */
-
-typedef struct {
-    char *bytes;
-    size_t length, room;
-} text;
-
-static void put(text *to, const char *format, ...) {
-    va_list parts;
-    va_start(parts, format);
-    char piece[128];
-    int length = vsnprintf(piece, sizeof piece, format, parts);
-    va_end(parts);
-    if (to->length + (size_t)length + 1 > to->room) {
-        to->room = 2 * (to->room + (size_t)length + 1);
-        to->bytes = realloc(to->bytes, to->room);
-        if (!to->bytes)
-            fail("no memory");
-    }
-    memcpy(to->bytes + to->length, piece, (size_t)length + 1);
-    to->length += (size_t)length;
-}
 
 static void put_times(text *to, const char *piece, size_t times) {
     while (times--)
@@ -97,60 +62,74 @@ static void expect(json_patch_status status, const json_patch_report *report,
              report->operation, report->kind, wanted, operation, kind, of);
 }
 
-/* The patch in each call that takes one, with the same outcome; a kept document is as it was. */
-static void expect_each(const text *document, const text *patch, const json_patch_limits *limits,
-                        json_patch_status wanted, size_t operation, json_patch_kind kind,
-                        const char *of) {
+static void expect_text(const char *wanted, size_t length, const char *found, size_t size, const char *of) {
+    if (size != length || memcmp(wanted, found, size) != 0)
+        fail("%.*s is left: %s", (int)size, found, of);
+}
+
+static json_patch_limits limits_of(size_t depth, size_t bytes) {
+    return (json_patch_limits){sizeof(json_patch_limits), depth, bytes};
+}
+
+/* ---- a patch in each call that takes one */
+
+/* A document that is kept is as it was, where the status isn't JSON_PATCH_OK, and after json_patch_undo. */
+static void expect_kept(const text *document, const text *patch, const json_patch_limits *limits, int is_recorded,
+                        json_patch_status wanted, size_t operation, json_patch_kind kind, const char *of) {
     json_patch_report report;
     json_patch_document kept = JSON_PATCH_DOCUMENT;
-    const char *d = document->bytes, *p = patch->bytes;
-    size_t n = document->length, m = patch->length;
-    expect(json_patch_apply_within(d, n, p, m, limits, out, ROOM, &report), &report, wanted,
-           operation, kind, of);
-    expect(json_patch_record_within(d, n, p, m, limits, out, ROOM, &report), &report, wanted,
-           operation, kind, of);
-    expect(json_patch_open_within(&kept, d, n, limits, &report), &report, JSON_PATCH_OK, 0, 0, of);
-    expect(json_patch_update_recorded(&kept, p, m, out, ROOM, &report), &report, wanted, operation,
-           kind, of);
-    if (wanted == JSON_PATCH_OK)
+    expect(json_patch_open(&kept, OF(*document), limits, &report), &report, JSON_PATCH_OK, 0, 0, of);
+    expect((is_recorded ? json_patch_update_recorded : json_patch_update)(&kept, OF(*patch), out, ROOM, &report), &report,
+           wanted, operation, kind, of);
+    if (is_recorded && wanted == JSON_PATCH_OK)
         expect(json_patch_undo(&kept, &report), &report, JSON_PATCH_OK, 0, 0, of);
-    else
-        expect(json_patch_update(&kept, p, m, out, ROOM, &report), &report, wanted, operation, kind,
-               of);
-    expect(json_patch_text(&kept, out, ROOM, &report), &report, JSON_PATCH_OK, 0, 0, of);
-    if (report.size != n || memcmp(out, d, n) != 0)
-        fail("%.*s is left: %s", (int)report.size, out, of);
+    if (is_recorded || wanted != JSON_PATCH_OK) {
+        expect(json_patch_text(&kept, out, ROOM, &report), &report, JSON_PATCH_OK, 0, 0, of);
+        expect_text(OF(*document), out, report.size, of);
+    }
     json_patch_close(&kept);
 }
 
-/* A patch that copies too much at that operation where it is recorded, and nothing where it isn't. */
-static void expect_over_where_recorded(const text *document, const text *patch,
-                                       const json_patch_limits *limits, size_t operation, const char *of) {
+/* On the document's text. */
+static size_t expect_applied(const text *document, const text *patch, const json_patch_limits *limits,
+                             json_patch_status wanted, size_t operation, json_patch_kind kind, const char *of) {
     json_patch_report report;
-    json_patch_document kept = JSON_PATCH_DOCUMENT;
-    const char *d = document->bytes, *p = patch->bytes;
-    size_t n = document->length, m = patch->length;
-    expect(json_patch_apply_within(d, n, p, m, limits, out, ROOM, &report), &report, JSON_PATCH_OK, 0, 0, of);
-    expect(json_patch_record_within(d, n, p, m, limits, out, ROOM, &report), &report, JSON_PATCH_OVER,
-           operation, JSON_PATCH_TOO_MUCH, of);
-    expect(json_patch_open_within(&kept, d, n, limits, &report), &report, JSON_PATCH_OK, 0, 0, of);
-    expect(json_patch_update_recorded(&kept, p, m, out, ROOM, &report), &report, JSON_PATCH_OVER,
-           operation, JSON_PATCH_TOO_MUCH, of);
-    expect(json_patch_text(&kept, out, ROOM, &report), &report, JSON_PATCH_OK, 0, 0, of);
-    if (report.size != n || memcmp(out, d, n) != 0)
-        fail("%.*s is left: %s", (int)report.size, out, of);
-    expect(json_patch_update(&kept, p, m, out, ROOM, &report), &report, JSON_PATCH_OK, 0, 0, of);
-    json_patch_close(&kept);
+    expect(json_patch_apply(OF(*document), OF(*patch), limits, out, ROOM, &report), &report, wanted, operation, kind,
+           of);
+    return report.size;
 }
 
-/* The patch in the call on the document's text as it is written. */
+/* The text that is recorded is that which is made, and the inverse leads back to what says the same. */
+static void expect_recorded(const text *document, const text *patch, const json_patch_limits *limits,
+                            json_patch_status wanted, size_t operation, json_patch_kind kind, const char *of) {
+    const json_patch_limits enough = limits_of(limits->depth, SIZE_MAX);
+    json_patch_report report;
+    expect(json_patch_record(OF(*document), OF(*patch), limits, other, ROOM, inverse, ROOM, &report), &report, wanted,
+           operation, kind, of);
+    if (wanted != JSON_PATCH_OK)
+        return;
+    size_t size = report.size, inverse_size = report.inverse_size;
+    expect_text(out, expect_applied(document, patch, limits, JSON_PATCH_OK, 0, 0, of), other, size, of);
+    expect(json_patch_apply(other, size, inverse, inverse_size, &enough, out, ROOM, &report), &report, JSON_PATCH_OK, 0,
+           0, of);
+    expect(json_patch_diff(OF(*document), out, report.size, limits, other, ROOM, &report), &report, JSON_PATCH_OK, 0, 0,
+           of);
+    expect_text("[]", 2, other, report.size, of);
+}
+
+/* On the text, and the same where it is recorded. */
 static void expect_in_text(const text *document, const text *patch, const json_patch_limits *limits,
-                           json_patch_status wanted, size_t operation, json_patch_kind kind,
-                           const char *of) {
-    json_patch_report report;
-    expect(json_patch_apply_text_within(document->bytes, document->length, patch->bytes, patch->length,
-                                        limits, out, ROOM, &report),
-           &report, wanted, operation, kind, of);
+                           json_patch_status wanted, size_t operation, json_patch_kind kind, const char *of) {
+    expect_applied(document, patch, limits, wanted, operation, kind, of);
+    expect_recorded(document, patch, limits, wanted, operation, kind, of);
+}
+
+/* In all of them, with the same outcome. */
+static void expect_each(const text *document, const text *patch, const json_patch_limits *limits,
+                        json_patch_status wanted, size_t operation, json_patch_kind kind, const char *of) {
+    for (int is_recorded = 0; is_recorded <= 1; is_recorded++)
+        expect_kept(document, patch, limits, is_recorded, wanted, operation, kind, of);
+    expect_in_text(document, patch, limits, wanted, operation, kind, of);
 }
 
 /* ---- patches that nest */
@@ -173,9 +152,6 @@ static void expect_doubling(const nest *by, size_t longest, const json_patch_lim
         expect_each(&document, &patch, limits, JSON_PATCH_OK, 0, 0, by->token);
     else
         expect_each(&document, &patch, limits, JSON_PATCH_OVER, over, JSON_PATCH_TOO_DEEP, by->token);
-    expect_in_text(&document, &patch, limits, over == SIZE_MAX ? JSON_PATCH_OK : JSON_PATCH_OVER,
-                   over == SIZE_MAX ? 0 : over,
-                   over == SIZE_MAX ? JSON_PATCH_KIND_NONE : JSON_PATCH_TOO_DEEP, by->token);
     free(document.bytes);
     free(patch.bytes);
 }
@@ -199,7 +175,6 @@ static void expect_moves(size_t turns, const json_patch_limits *limits) {
     size_t over = fits ? 0 : limits->depth - 2;
     json_patch_kind kind = fits ? JSON_PATCH_KIND_NONE : JSON_PATCH_TOO_DEEP;
     expect_each(&document, &patch, limits, wanted, over, kind, "moves");
-    expect_in_text(&document, &patch, limits, wanted, over, kind, "moves in a text");
     free(document.bytes);
     free(patch.bytes);
 }
@@ -226,7 +201,6 @@ static void expect_values(size_t levels, const json_patch_limits *limits) {
                                    : wanted == JSON_PATCH_REFUSED ? JSON_PATCH_TEST_FAILED
                                                                   : JSON_PATCH_TOO_DEEP;
             expect_each(&document, &patch, limits, wanted, 0, kind, names[i]);
-            expect_in_text(&document, &patch, limits, wanted, 0, kind, names[i]);
             free(patch.bytes);
         }
     }
@@ -236,124 +210,120 @@ static void expect_values(size_t levels, const json_patch_limits *limits) {
 /* ---- texts that nest */
 
 /* What stands innermost in a text of so many turns. */
-static void expect_deep_value(const text *deep, const char *token, size_t turns, int fits) {
+static void expect_deep_value(const text *deep, const char *token, size_t turns, size_t levels,
+                              const json_patch_limits *limits) {
     text pointer = {NULL, 0, 0};
     json_patch_report report;
+    int fits = levels <= (limits ? limits->depth : MOST) && levels <= MOST;
     put(&pointer, "%s", "");
     put_times(&pointer, token, turns);
-    expect(json_patch_value_text(deep->bytes, deep->length, pointer.bytes, pointer.length, out, ROOM, &report),
-           &report, fits ? JSON_PATCH_OK : JSON_PATCH_NO_DOCUMENT, 0,
-           fits ? JSON_PATCH_KIND_NONE : JSON_PATCH_TOO_DEEP, "a deep pointer into a text");
-    if (fits && (report.size != 1 || *out != '0'))
-        fail("%.*s stands %zu turns deep", (int)report.size, out, turns);
+    expect(json_patch_value(OF(*deep), OF(pointer), limits, out, ROOM, &report), &report,
+           fits ? JSON_PATCH_OK : JSON_PATCH_NO_DOCUMENT, 0, fits ? JSON_PATCH_KIND_NONE : JSON_PATCH_TOO_DEEP,
+           "a deep pointer into a text");
+    if (fits)
+        expect_text("0", 1, out, report.size, "a deep pointer into a text");
     free(pointer.bytes);
 }
 
 /* A text of so many turns, as a document, a merge patch and a patch. */
-static void expect_text(const nest *by, size_t turns, const json_patch_limits *limits) {
-    text deep = nested(by, turns);
+static void expect_deep(const nest *by, size_t turns, const json_patch_limits *limits) {
+    text deep = nested(by, turns), none = {"[]", 2, 0};
     size_t levels = turns * levels_of(by);
     int fits = levels <= limits->depth && levels <= MOST;
+    json_patch_status of_document = fits ? JSON_PATCH_OK : JSON_PATCH_NO_DOCUMENT;
+    json_patch_status of_patch = fits ? JSON_PATCH_OK : JSON_PATCH_NO_PATCH;
+    json_patch_kind kind = fits ? JSON_PATCH_KIND_NONE : JSON_PATCH_TOO_DEEP;
     json_patch_report report;
     json_patch_document kept = JSON_PATCH_DOCUMENT;
-    expect(json_patch_apply_within(deep.bytes, deep.length, "[]", 2, limits, out, ROOM, &report),
-           &report, fits ? JSON_PATCH_OK : JSON_PATCH_NO_DOCUMENT, 0,
-           fits ? JSON_PATCH_KIND_NONE : JSON_PATCH_TOO_DEEP, "a deep document");
-    expect(json_patch_apply_text_within(deep.bytes, deep.length, "[]", 2, limits, out, ROOM, &report),
-           &report, fits ? JSON_PATCH_OK : JSON_PATCH_NO_DOCUMENT, 0,
-           fits ? JSON_PATCH_KIND_NONE : JSON_PATCH_TOO_DEEP, "a deep document's text");
-    expect(json_patch_merge_within("{}", 2, deep.bytes, deep.length, limits, out, ROOM, &report),
-           &report, fits ? JSON_PATCH_OK : JSON_PATCH_NO_PATCH, 0,
-           fits ? JSON_PATCH_KIND_NONE : JSON_PATCH_TOO_DEEP, "a deep merge patch");
-    expect(json_patch_merge_text_within("{}", 2, deep.bytes, deep.length, limits, out, ROOM, &report),
-           &report, fits ? JSON_PATCH_OK : JSON_PATCH_NO_PATCH, 0,
-           fits ? JSON_PATCH_KIND_NONE : JSON_PATCH_TOO_DEEP, "a deep merge patch into a text");
-    expect(json_patch_merge_text_within(deep.bytes, deep.length, deep.bytes, deep.length, limits, out, ROOM,
-                                        &report),
-           &report, fits ? JSON_PATCH_OK : JSON_PATCH_NO_DOCUMENT, 0,
-           fits ? JSON_PATCH_KIND_NONE : JSON_PATCH_TOO_DEEP, "a deep merge into a deep text");
-    expect(json_patch_check(deep.bytes, deep.length, &report), &report, JSON_PATCH_NO_PATCH, 0,
+    expect_in_text(&deep, &none, limits, of_document, 0, kind, "a deep document");
+    expect(json_patch_merge("{}", 2, OF(deep), limits, out, ROOM, &report), &report, of_patch, 0, kind,
+           "a deep merge patch");
+    expect(json_patch_merge(OF(deep), OF(deep), limits, out, ROOM, &report), &report, of_document, 0, kind,
+           "a deep merge into a deep text");
+    expect(json_patch_check(OF(deep), &report), &report, JSON_PATCH_NO_PATCH, 0,
            levels > 127                            ? JSON_PATCH_TOO_DEEP
            : levels == 0 || by->open[0] != '[' ? JSON_PATCH_NOT_A_LIST
                                                    : JSON_PATCH_NOT_AN_OBJECT,
            "a deep patch");
-    expect(json_patch_open_within(&kept, deep.bytes, deep.length, limits, &report), &report,
-           fits ? JSON_PATCH_OK : JSON_PATCH_NO_DOCUMENT, 0,
-           fits ? JSON_PATCH_KIND_NONE : JSON_PATCH_TOO_DEEP, "a deep document that is opened");
+    expect(json_patch_open(&kept, OF(deep), limits, &report), &report, of_document, 0, kind,
+           "a deep document that is opened");
     if (fits) {
         text pointer = {NULL, 0, 0};
         put_times(&pointer, by->token, turns);
-        expect(json_patch_text_at(&kept, turns ? pointer.bytes : "", pointer.length, out, ROOM,
-                                  &report),
-               &report, JSON_PATCH_OK, 0, 0, "a deep pointer");
-        expect(json_patch_update_merged(&kept, deep.bytes, deep.length, &report), &report,
-               JSON_PATCH_OK, 0, 0, "a deep merge into a deep document");
+        expect(json_patch_value_at(&kept, turns ? pointer.bytes : "", pointer.length, out, ROOM, &report), &report,
+               JSON_PATCH_OK, 0, 0, "a deep pointer");
+        expect(json_patch_update_merged(&kept, OF(deep), &report), &report, JSON_PATCH_OK, 0, 0,
+               "a deep merge into a deep document");
         free(pointer.bytes);
     }
     json_patch_close(&kept);
-    expect_deep_value(&deep, by->token, turns, levels <= MOST);
+    expect_deep_value(&deep, by->token, turns, levels, limits);
+    expect_deep_value(&deep, by->token, turns, levels, NULL);
     free(deep.bytes);
 }
 
-/* Documents that differ in what stands innermost, and nowhere else: within limits the patch leads from the
-   one to the other, and is read again, though the documents are as deep as one may be. Each level has a
-   member beside it, so long that no level is replaced whole. */
-static void expect_difference(size_t turns, const json_patch_limits *limits) {
-    static char patch[ROOM];
-    text from = {NULL, 0, 0}, to = {NULL, 0, 0};
-    size_t levels = turns, length;
-    int fits = levels <= limits->depth && levels <= MOST;
+/* Two documents that differ in what stands innermost. Each level has a member beside it, so long that no level
+   is replaced whole. */
+static text made_of(size_t turns, int goal) {
+    text made = {NULL, 0, 0};
+    put_times(&made, "{\"a\":", turns);
+    put(&made, "%d", goal);
+    for (size_t i = 0; i < turns; i++)
+        put(&made, ",\"b\":\"%0100d\"}", 0);
+    return made;
+}
+
+/* The patch that leads on from a text and from what is kept of it is the same, for free; it is read again, though
+   the documents are as deep as one may be. */
+static text expect_led(const char *from, size_t length, const text *to, const json_patch_limits *limits) {
     json_patch_report report;
     json_patch_document kept = JSON_PATCH_DOCUMENT;
-    for (int goal = 0; goal <= 1; goal++) {
-        text *made = goal ? &to : &from;
-        put_times(made, "{\"a\":", turns);
-        put(made, "%d", goal);
-        for (size_t i = 0; i < turns; i++)
-            put(made, ",\"b\":\"%0100d\"}", 0);
-    }
-    expect(json_patch_diff_within(from.bytes, from.length, to.bytes, to.length, limits, out, ROOM,
-                                  &report),
-           &report, fits ? JSON_PATCH_OK : JSON_PATCH_NO_DOCUMENT, 0,
-           fits ? JSON_PATCH_KIND_NONE : JSON_PATCH_TOO_DEEP, "a deep difference");
-    expect(json_patch_diff_text_within(from.bytes, from.length, to.bytes, to.length, limits, patch, ROOM,
-                                       &report),
-           &report, fits ? JSON_PATCH_OK : JSON_PATCH_NO_DOCUMENT, 0,
-           fits ? JSON_PATCH_KIND_NONE : JSON_PATCH_TOO_DEEP, "a deep difference of texts");
-    if (fits && memcmp(out, patch, report.size) != 0)
-        fail("the difference of texts is %.*s", (int)report.size, patch);
-    json_patch_open_within(&kept, "{}", 2, limits, &report);
-    expect(json_patch_diff_to(&kept, to.bytes, to.length, patch, ROOM, &report), &report,
-           fits ? JSON_PATCH_OK : JSON_PATCH_NO_PATCH, 0,
-           fits ? JSON_PATCH_KIND_NONE : JSON_PATCH_TOO_DEEP, "a deep goal");
-    if (fits) {
-        json_patch_open_within(&kept, from.bytes, from.length, limits, &report);
-        expect(json_patch_diff_to(&kept, to.bytes, to.length, patch, ROOM, &report), &report,
-               JSON_PATCH_OK, 0, 0, "a deep difference of what is kept");
-        length = report.size;
-        if (memcmp(out, patch, length) != 0 || (turns && length > 300 + 2 * turns))
-            fail("%.*s leads on %zu levels", (int)length, patch, turns);
-        expect(json_patch_apply_within(from.bytes, from.length, patch, length, limits, out, ROOM,
-                                       &report),
-               &report, JSON_PATCH_OK, 0, 0, "a deep difference as a patch");
-        if (report.size != to.length || memcmp(out, to.bytes, to.length) != 0)
-            fail("a deep difference leads to %.*s", (int)report.size, out);
-        /* and the whole, in one operation */
-        expect(json_patch_diff_within("7", 1, to.bytes, to.length, limits, patch, ROOM, &report),
-               &report, JSON_PATCH_OK, 0, 0, "a deep whole");
-        length = report.size;
-        expect(json_patch_diff_text_within("7.5", 3, to.bytes, to.length, limits, out, ROOM, &report),
-               &report, JSON_PATCH_OK, 0, 0, "a deep whole text");
-        if (report.size != length || memcmp(out, patch, length) != 0)
-            fail("a deep whole text is put by %.*s", (int)report.size, out);
-        expect(json_patch_apply_text_within("7.5", 3, patch, length, limits, out, ROOM, &report), &report,
-               JSON_PATCH_OK, 0, 0, "a deep whole as a patch of a text");
-        expect(json_patch_apply_within("7", 1, patch, length, limits, out, ROOM, &report), &report,
-               JSON_PATCH_OK, 0, 0, "a deep whole as a patch");
-        if (report.size != to.length || memcmp(out, to.bytes, to.length) != 0)
-            fail("a deep whole leads to %.*s", (int)report.size, out);
-    }
+    text patch = {malloc(ROOM), 0, ROOM};
+    if (!patch.bytes)
+        fail("no memory");
+    expect(json_patch_open(&kept, from, length, limits, &report), &report, JSON_PATCH_OK, 0, 0, "a deep document");
+    expect(json_patch_diff_to(&kept, OF(*to), patch.bytes, ROOM, &report), &report, JSON_PATCH_OK, 0, 0,
+           "a deep difference of what is kept");
+    patch.length = report.size;
+    expect(json_patch_diff(from, length, OF(*to), limits, out, ROOM, &report), &report, JSON_PATCH_OK, 0, 0,
+           "a deep difference");
+    expect_text(OF(patch), out, report.size, "a deep difference");
+    expect(json_patch_update(&kept, OF(patch), out, ROOM, &report), &report, JSON_PATCH_OK, 0, 0, "a deep difference");
+    json_patch_text(&kept, out, ROOM, &report);
+    expect_text(OF(*to), out, report.size, "a deep difference");
+    expect(json_patch_apply(from, length, OF(patch), limits, out, ROOM, &report), &report, JSON_PATCH_OK, 0, 0,
+           "a deep difference as a patch");
+    expect_text(OF(*to), out, report.size, "a deep difference as a patch");
     json_patch_close(&kept);
+    return patch;
+}
+
+static void expect_difference(size_t levels, const json_patch_limits *limits) {
+    text from = made_of(levels, 0), to = made_of(levels, 1);
+    int fits = levels <= limits->depth && levels <= MOST;
+    json_patch_kind kind = fits ? JSON_PATCH_KIND_NONE : JSON_PATCH_TOO_DEEP;
+    json_patch_status of_goal = fits ? JSON_PATCH_OK : JSON_PATCH_NO_PATCH;
+    json_patch_report report;
+    json_patch_document kept = JSON_PATCH_DOCUMENT;
+    expect(json_patch_diff(OF(from), OF(to), limits, out, ROOM, &report), &report,
+           fits ? JSON_PATCH_OK : JSON_PATCH_NO_DOCUMENT, 0, kind, "a deep difference");
+    expect(json_patch_diff("7.5", 3, OF(to), limits, out, ROOM, &report), &report, of_goal, 0, kind, "a deep goal");
+    json_patch_open(&kept, "{}", 2, limits, &report);
+    expect(json_patch_diff_to(&kept, OF(to), out, ROOM, &report), &report, of_goal, 0, kind,
+           "a deep goal of what is kept");
+    json_patch_close(&kept);
+    if (fits) {
+        text patch = expect_led(OF(from), &to, limits);
+        if (levels && patch.length > 300 + 2 * levels)
+            fail("%.*s leads on %zu levels", (int)patch.length, patch.bytes, levels);
+        /* and the whole, in one operation */
+        text whole = expect_led("7", 1, &to, limits);
+        expect(json_patch_diff("7.5", 3, OF(to), limits, out, ROOM, &report), &report, JSON_PATCH_OK, 0, 0,
+               "a deep whole");
+        expect_text(OF(whole), out, report.size, "a deep whole");
+        free(patch.bytes);
+        free(whole.bytes);
+    }
     free(from.bytes);
     free(to.bytes);
 }
@@ -377,69 +347,89 @@ static void expect_names(size_t turns) {
         put(&patch, "/\\u00e9%d\",\"value\":1}", i);
     }
     put(&patch, "]");
-    expect(json_patch_merge_text(from.bytes, from.length, to.bytes, to.length, out, ROOM, &report), &report,
-           JSON_PATCH_OK, 0, 0, "a merge of many names");
-    if (report.size != to.length || memcmp(out, to.bytes, to.length) != 0)
-        fail("a merge of many names leaves %.*s", (int)report.size, out);
-    expect(json_patch_apply_text(from.bytes, from.length, patch.bytes, patch.length, out, ROOM, &report),
-           &report, JSON_PATCH_OK, 0, 0, "a patch of many names");
-    if (report.size != to.length || memcmp(out, to.bytes, to.length) != 0)
-        fail("a patch of many names leaves %.*s", (int)report.size, out);
+    const json_patch_limits limits = JSON_PATCH_LIMITS;
+    expect(json_patch_merge(OF(from), OF(to), NULL, out, ROOM, &report), &report, JSON_PATCH_OK, 0, 0,
+           "a merge of many names");
+    expect_text(OF(to), out, report.size, "a merge of many names");
+    expect_recorded(&from, &patch, &limits, JSON_PATCH_OK, 0, 0, "a patch of many names");
+    expect_text(OF(to), out, expect_applied(&from, &patch, NULL, JSON_PATCH_OK, 0, 0, "a patch of many names"),
+                "a patch of many names");
     free(from.bytes);
     free(to.bytes);
     free(patch.bytes);
 }
 
+/* Brackets that never close: so many in a text and, where one is opened, in what is kept. */
+static void expect_open_brackets(text open, size_t count, json_patch_kind kind, json_patch_kind kind_where_kept) {
+    json_patch_document kept = JSON_PATCH_DOCUMENT;
+    json_patch_report report;
+    open.length = count;
+    expect_in_text(&open, &(const text){"[]", 2, 0}, &(const json_patch_limits)JSON_PATCH_LIMITS,
+                   JSON_PATCH_NO_DOCUMENT, 0, kind, "brackets that never close");
+    expect(json_patch_value(OF(open), "/0", 2, NULL, out, ROOM, &report), &report, JSON_PATCH_NO_DOCUMENT, 0, kind,
+           "brackets that never close, and a pointer");
+    expect(json_patch_open(&kept, OF(open), NULL, &report), &report, JSON_PATCH_NO_DOCUMENT, 0, kind_where_kept,
+           "brackets that never close, opened");
+    expect(json_patch_check(OF(open), &report), &report, JSON_PATCH_NO_PATCH, 0, kind_where_kept,
+           "brackets of a patch that never close");
+}
+
 /* Brackets that never close, that are in a string, and that no document has. */
 static void expect_brackets(void) {
+    const json_patch_limits limits = JSON_PATCH_LIMITS;
     json_patch_report report;
-    text open = {NULL, 0, 0}, quoted = {NULL, 0, 0};
+    json_patch_document kept = JSON_PATCH_DOCUMENT;
+    text open = {NULL, 0, 0}, quoted = {NULL, 0, 0}, none = {"[]", 2, 0};
     put_times(&open, "[", LONGEST);
-    expect(json_patch_apply(open.bytes, open.length, "[]", 2, out, ROOM, &report), &report,
-           JSON_PATCH_NO_DOCUMENT, 0, JSON_PATCH_TOO_DEEP, "a million brackets");
-    expect(json_patch_apply(open.bytes, 127, "[]", 2, out, ROOM, &report), &report,
-           JSON_PATCH_NO_DOCUMENT, 0, JSON_PATCH_NOT_JSON, "127 brackets that never close");
-    expect(json_patch_apply(open.bytes, 128, "[]", 2, out, ROOM, &report), &report,
-           JSON_PATCH_NO_DOCUMENT, 0, JSON_PATCH_TOO_DEEP, "128 brackets");
-    expect(json_patch_apply_text(open.bytes, MOST, "[]", 2, out, ROOM, &report), &report,
-           JSON_PATCH_NO_DOCUMENT, 0, JSON_PATCH_NOT_JSON, "124 brackets of a text that never close");
-    expect(json_patch_apply_text(open.bytes, open.length, "[]", 2, out, ROOM, &report), &report,
-           JSON_PATCH_NO_DOCUMENT, 0, JSON_PATCH_TOO_DEEP, "a million brackets of a text");
-    expect(json_patch_apply_text("[]", 2, open.bytes, open.length, out, ROOM, &report), &report,
-           JSON_PATCH_NO_PATCH, 0, JSON_PATCH_TOO_DEEP, "a million brackets of a patch");
-    expect(json_patch_value_text(open.bytes, open.length, "/0", 2, out, ROOM, &report), &report,
-           JSON_PATCH_NO_DOCUMENT, 0, JSON_PATCH_TOO_DEEP, "a million brackets and a pointer");
+    expect_open_brackets(open, MOST, JSON_PATCH_NOT_JSON, JSON_PATCH_NOT_JSON);
+    expect_open_brackets(open, MOST + 1, JSON_PATCH_TOO_DEEP, JSON_PATCH_NOT_JSON);
+    expect_open_brackets(open, 127, JSON_PATCH_TOO_DEEP, JSON_PATCH_NOT_JSON);
+    expect_open_brackets(open, 128, JSON_PATCH_TOO_DEEP, JSON_PATCH_TOO_DEEP);
+    expect_open_brackets(open, LONGEST, JSON_PATCH_TOO_DEEP, JSON_PATCH_TOO_DEEP);
     put(&quoted, "[\"\\\"");
     put_times(&quoted, "[{", 200);
     put(&quoted, "\\\\\",1");
-    expect(json_patch_apply(quoted.bytes, quoted.length, "[]", 2, out, ROOM, &report), &report,
-           JSON_PATCH_NO_DOCUMENT, 0, JSON_PATCH_NOT_JSON, "brackets in a string");
+    expect_in_text(&quoted, &none, &limits, JSON_PATCH_NO_DOCUMENT, 0, JSON_PATCH_NOT_JSON, "brackets in a string");
+    expect(json_patch_open(&kept, OF(quoted), NULL, &report), &report, JSON_PATCH_NO_DOCUMENT, 0, JSON_PATCH_NOT_JSON,
+           "brackets in a string");
     put(&quoted, "]");
-    expect(json_patch_apply(quoted.bytes, quoted.length, "[]", 2, out, ROOM, &report), &report,
-           JSON_PATCH_OK, 0, 0, "brackets in a string of a document");
-    expect(json_patch_apply_text(quoted.bytes, quoted.length, "[]", 2, out, ROOM, &report), &report,
-           JSON_PATCH_OK, 0, 0, "brackets in a string of a text");
+    expect_in_text(&quoted, &none, &limits, JSON_PATCH_OK, 0, 0, "brackets in a string of a text");
+    expect(json_patch_open(&kept, OF(quoted), NULL, &report), &report, JSON_PATCH_OK, 0, 0,
+           "brackets in a string of a document");
+    json_patch_close(&kept);
     free(open.bytes);
     free(quoted.bytes);
 }
 
 /* ---- copies */
 
-/* Copies of a string of so many bytes, one after another: each counts one and its bytes. */
+/* A document of one string of so many bytes. */
+static text of_bytes(const char *open, size_t bytes, const char *close) {
+    text made = {NULL, 0, 0};
+    put(&made, "%s\"", open);
+    put_times(&made, "x", bytes);
+    put(&made, "\"%s", close);
+    return made;
+}
+
+/* Two operations by turns, so many together. */
+static text by_turns(size_t count, const char *one, const char *two) {
+    text made = {NULL, 0, 0};
+    for (size_t i = 0; i < count; i++)
+        put(&made, "%c%s", i ? ',' : '[', i % 2 ? two : one);
+    put(&made, "]");
+    return made;
+}
+
+/* Copies of a string of so many bytes, one after another, in what is kept: each counts one and its bytes. */
 static void expect_copies(size_t bytes, size_t copies, const json_patch_limits *limits) {
-    text document = {NULL, 0, 0}, patch = {NULL, 0, 0};
-    put(&document, "{\"a\":\"");
-    put_times(&document, "x", bytes);
-    put(&document, "\"}");
-    put(&patch, "[");
-    for (size_t i = 0; i < copies; i++)
-        put(&patch, "%s{\"op\":\"copy\",\"from\":\"/a\",\"path\":\"/b\"}", i ? "," : "");
-    put(&patch, "]");
-    size_t most = limits->copied / (bytes + 1);
-    if (copies <= most)
-        expect_each(&document, &patch, limits, JSON_PATCH_OK, 0, 0, "copies");
-    else
-        expect_each(&document, &patch, limits, JSON_PATCH_OVER, most, JSON_PATCH_TOO_MUCH, "copies");
+    static const char copy[] = "{\"op\":\"copy\",\"from\":\"/a\",\"path\":\"/b\"}";
+    text document = of_bytes("{\"a\":", bytes, "}"), patch = by_turns(copies, copy, copy);
+    size_t most = limits->bytes / (bytes + 1);
+    int fits = copies <= most;
+    for (int is_recorded = 0; is_recorded <= 1; is_recorded++)
+        expect_kept(&document, &patch, limits, is_recorded, fits ? JSON_PATCH_OK : JSON_PATCH_OVER, fits ? 0 : most,
+                    fits ? JSON_PATCH_KIND_NONE : JSON_PATCH_TOO_MUCH, "copies");
     free(document.bytes);
     free(patch.bytes);
 }
@@ -447,21 +437,12 @@ static void expect_copies(size_t bytes, size_t copies, const json_patch_limits *
 /* The same in a text, of n + 4 bytes, where each copy adds a comma, two marks and the bytes: the texts'
    own bytes count too. */
 static void expect_copies_in_text(size_t bytes, size_t copies, const json_patch_limits *limits) {
-    text document = {NULL, 0, 0}, patch = {NULL, 0, 0};
-    put(&document, "[\"");
-    put_times(&document, "x", bytes);
-    put(&document, "\"]");
-    put(&patch, "[");
-    for (size_t i = 0; i < copies; i++)
-        put(&patch, "%s{\"op\":\"copy\",\"from\":\"/0\",\"path\":\"/-\"}", i ? "," : "");
-    put(&patch, "]");
-    size_t most = (patch.length + limits->copied) / (bytes + 3);
+    static const char copy[] = "{\"op\":\"copy\",\"from\":\"/0\",\"path\":\"/-\"}";
+    text document = of_bytes("[", bytes, "]"), patch = by_turns(copies, copy, copy);
+    size_t most = (patch.length + limits->bytes) / (bytes + 3);
     int fits = copies <= most;
-    expect_in_text(&document, &patch, limits,
-                   !fits                                         ? JSON_PATCH_OVER
-                   : bytes + 4 + copies * (bytes + 3) <= ROOM ? JSON_PATCH_OK
-                                                                 : JSON_PATCH_NO_ROOM,
-                   fits ? 0 : most, fits ? JSON_PATCH_KIND_NONE : JSON_PATCH_TOO_MUCH, "copies in a text");
+    expect_in_text(&document, &patch, limits, fits ? JSON_PATCH_OK : JSON_PATCH_OVER, fits ? 0 : most,
+                   fits ? JSON_PATCH_KIND_NONE : JSON_PATCH_TOO_MUCH, "copies in a text");
     free(document.bytes);
     free(patch.bytes);
 }
@@ -469,15 +450,9 @@ static void expect_copies_in_text(size_t bytes, size_t copies, const json_patch_
 /* Copies of a list into itself, each of which doubles it, with a comma between: too much long before
    it is too deep. */
 static void expect_growth(size_t bytes, size_t copies, const json_patch_limits *limits) {
-    text document = {NULL, 0, 0}, patch = {NULL, 0, 0};
-    put(&document, "{\"a\":[\"");
-    put_times(&document, "x", bytes);
-    put(&document, "\"]}");
-    put(&patch, "[");
-    for (size_t i = 0; i < copies; i++)
-        put(&patch, "%s{\"op\":\"copy\",\"from\":\"/a\",\"path\":\"/a/-\"}", i ? "," : "");
-    put(&patch, "]");
-    size_t over = 0, list = bytes + 4, most = document.length + patch.length + limits->copied;
+    static const char copy[] = "{\"op\":\"copy\",\"from\":\"/a\",\"path\":\"/a/-\"}";
+    text document = of_bytes("{\"a\":[", bytes, "]}"), patch = by_turns(copies, copy, copy);
+    size_t over = 0, list = bytes + 4, most = document.length + patch.length + limits->bytes;
     while (6 + 2 * list + 1 <= most && over < copies) {
         list = 2 * list + 1;
         over++;
@@ -489,38 +464,41 @@ static void expect_growth(size_t bytes, size_t copies, const json_patch_limits *
     free(patch.bytes);
 }
 
-/* Moves of a string of so many bytes, there and back. In a recorded run each counts one and its bytes,
-   which the inverse holds; otherwise none counts. */
+/* Moves of a string of n bytes, there and back. Where they are recorded each counts one and its bytes in what is
+   kept, and its operations' bytes in a text, all of which the inverse holds; otherwise none counts. */
 static void expect_moves_back(size_t bytes, size_t moves, const json_patch_limits *limits) {
-    text document = {NULL, 0, 0}, patch = {NULL, 0, 0};
-    put(&document, "{\"a\":\"");
-    put_times(&document, "x", bytes);
-    put(&document, "\"}");
-    put(&patch, "[");
-    for (size_t i = 0; i < moves; i++)
-        put(&patch, "%s{\"op\":\"move\",\"from\":\"/%s\",\"path\":\"/%s\"}", i ? "," : "", i % 2 ? "b" : "a",
-            i % 2 ? "a" : "b");
-    put(&patch, "]");
-    size_t most = limits->copied / (bytes + 1);
-    if (moves <= most)
-        expect_each(&document, &patch, limits, JSON_PATCH_OK, 0, 0, "moves back");
-    else
-        expect_over_where_recorded(&document, &patch, limits, most, "moves back");
+    text document = of_bytes("{\"a\":", bytes, "}");
+    text patch = by_turns(moves, "{\"op\":\"move\",\"from\":\"/a\",\"path\":\"/b\"}",
+                          "{\"op\":\"move\",\"from\":\"/b\",\"path\":\"/a\"}");
+    /* {"op":"remove","path":"/b"} has 27 bytes, {"op":"add","path":"/a","value":"..."} n + 35, and there are two
+       commas for each move but the first, and two brackets */
+    size_t most = limits->bytes / (bytes + 1);
+    size_t most_in_text = (document.length + patch.length + limits->bytes - 1) / (27 + bytes + 35 + 2);
+    int fits = moves <= most, fits_in_text = moves <= most_in_text;
+    expect_kept(&document, &patch, limits, 0, JSON_PATCH_OK, 0, 0, "moves back");
+    expect_kept(&document, &patch, limits, 1, fits ? JSON_PATCH_OK : JSON_PATCH_OVER, fits ? 0 : most,
+                fits ? JSON_PATCH_KIND_NONE : JSON_PATCH_TOO_MUCH, "recorded moves back");
+    expect_applied(&document, &patch, limits, JSON_PATCH_OK, 0, 0, "moves back in a text");
+    expect_recorded(&document, &patch, limits, fits_in_text ? JSON_PATCH_OK : JSON_PATCH_OVER,
+                    fits_in_text ? 0 : most_in_text, fits_in_text ? JSON_PATCH_KIND_NONE : JSON_PATCH_TOO_MUCH,
+                    "recorded moves back in a text");
     free(document.bytes);
     free(patch.bytes);
 }
 
-/* A name counts its bytes too, and so does each value: {"ab":[1,2]} counts 6. */
+/* In what is kept a name counts its bytes too, and so does each value: {"ab":[1,2]} counts 6. */
 static void expect_sizes(void) {
-    const char *document = "{\"x\":{\"ab\":[1,2]}}", *patch = "[{\"op\":\"copy\",\"from\":\"/x\",\"path\":\"/y\"}]";
-    json_patch_report report;
-    for (size_t copied = 5; copied <= 6; copied++) {
-        json_patch_limits limits = {MOST, copied};
-        expect(json_patch_apply_within(document, strlen(document), patch, strlen(patch), &limits, out,
-                                       ROOM, &report),
-               &report, copied < 6 ? JSON_PATCH_OVER : JSON_PATCH_OK, 0,
-               copied < 6 ? JSON_PATCH_TOO_MUCH : JSON_PATCH_KIND_NONE, "the size of a value");
+    text document = {NULL, 0, 0}, patch = {NULL, 0, 0};
+    put(&document, "{\"x\":{\"ab\":[1,2]}}");
+    put(&patch, "[{\"op\":\"copy\",\"from\":\"/x\",\"path\":\"/y\"}]");
+    for (size_t bytes = 5; bytes <= 6; bytes++) {
+        const json_patch_limits limits = limits_of(MOST, bytes);
+        for (int is_recorded = 0; is_recorded <= 1; is_recorded++)
+            expect_kept(&document, &patch, &limits, is_recorded, bytes < 6 ? JSON_PATCH_OVER : JSON_PATCH_OK, 0,
+                        bytes < 6 ? JSON_PATCH_TOO_MUCH : JSON_PATCH_KIND_NONE, "the size of a value");
     }
+    free(document.bytes);
+    free(patch.bytes);
 }
 
 /* ---- taking back */
@@ -530,28 +508,24 @@ static void expect_undo(void) {
     json_patch_report report;
     text deep = nested(&nests[0], MOST), patch = {NULL, 0, 0};
     expect(json_patch_undo(&kept, &report), &report, JSON_PATCH_CLOSED, 0, 0, "nothing is open");
-    json_patch_open(&kept, deep.bytes, deep.length, &report);
+    json_patch_open(&kept, OF(deep), NULL, &report);
     expect(json_patch_undo(&kept, &report), &report, JSON_PATCH_NOTHING, 0, 0, "nothing is recorded");
     put(&patch, "[{\"op\":\"replace\",\"path\":\"\",\"value\":1}]");
-    json_patch_update_recorded(&kept, patch.bytes, patch.length, out, ROOM, &report);
-    expect(json_patch_inverse(&kept, out, ROOM, &report), &report, JSON_PATCH_OK, 0, 0, "the inverse");
+    json_patch_update_recorded(&kept, OF(patch), out, ROOM, &report);
+    expect(json_patch_inverse(&kept, inverse, ROOM, &report), &report, JSON_PATCH_OK, 0, 0, "the inverse");
     /* its text is read again, though the document is as deep as one may be */
-    static char inverse[ROOM];
-    memcpy(inverse, out, report.size);
     size_t length = report.size;
     expect(json_patch_check(inverse, length, &report), &report, JSON_PATCH_OK, 0, 0, "the inverse");
     expect(json_patch_undo(&kept, &report), &report, JSON_PATCH_OK, 0, 0, "what is recorded");
     json_patch_text(&kept, out, ROOM, &report);
-    if (report.size != deep.length || memcmp(out, deep.bytes, deep.length) != 0)
-        fail("%.*s is left by json_patch_undo", (int)report.size, out);
+    expect_text(OF(deep), out, report.size, "json_patch_undo");
     expect(json_patch_undo(&kept, &report), &report, JSON_PATCH_NOTHING, 0, 0, "it is used up");
-    json_patch_update(&kept, patch.bytes, patch.length, out, ROOM, &report);
+    json_patch_update(&kept, OF(patch), out, ROOM, &report);
     expect(json_patch_undo(&kept, &report), &report, JSON_PATCH_NOTHING, 0, 0, "no inverse is kept");
     expect(json_patch_update(&kept, inverse, length, out, ROOM, &report), &report, JSON_PATCH_OK, 0, 0,
            "the inverse as a patch");
     json_patch_text(&kept, out, ROOM, &report);
-    if (report.size != deep.length || memcmp(out, deep.bytes, deep.length) != 0)
-        fail("%.*s is left by the inverse", (int)report.size, out);
+    expect_text(OF(deep), out, report.size, "the inverse");
     json_patch_close(&kept);
     free(deep.bytes);
     free(patch.bytes);
@@ -578,7 +552,7 @@ static size_t held_at_most(void) {
 /* Copies or moves of a chain of objects of one member with no name, which take the most for each that
    is copied: as many as the default limits let through. */
 static text chains(int moved) {
-    size_t count = JSON_PATCH_MOST_COPIED / (CHAIN + 1);
+    size_t count = JSON_PATCH_MOST_BYTES / (CHAIN + 1);
     text patch = {NULL, 0, 0};
     put(&patch, "[");
     for (size_t i = 0; i < count; i++) {
@@ -592,24 +566,20 @@ static text chains(int moved) {
     return patch;
 }
 
-/* A text that a call made is too large for `out`. */
-static int is_made(int recorded, int kept, const text *document, const text *patch) {
+/* What is kept, or the inverse, is a text that is too large for `out`. */
+static int is_made(int recorded, const text *document, const text *patch) {
     json_patch_document held = JSON_PATCH_DOCUMENT;
     json_patch_report report;
-    const char *d = document->bytes, *p = patch->bytes;
-    size_t n = document->length, m = patch->length;
-    if (!kept)
-        return (recorded ? json_patch_record : json_patch_apply)(d, n, p, m, out, ROOM, &report) ==
-               JSON_PATCH_NO_ROOM;
-    return json_patch_open(&held, d, n, &report) == JSON_PATCH_OK &&
-           json_patch_update_recorded(&held, p, m, out, ROOM, &report) == JSON_PATCH_OK &&
-           json_patch_inverse(&held, out, ROOM, &report) == JSON_PATCH_NO_ROOM;
+    return json_patch_open(&held, OF(*document), NULL, &report) == JSON_PATCH_OK &&
+           (recorded ? json_patch_update_recorded : json_patch_update)(&held, OF(*patch), out, 0, &report) ==
+               JSON_PATCH_OK &&
+           (recorded ? json_patch_inverse : json_patch_text)(&held, out, 0, &report) == JSON_PATCH_NO_ROOM;
 }
 
 /* The call in a process of its own, which holds no more than the header says. */
-static void expect_held(int moved, int recorded, int kept, const char *of) {
+static void expect_held(int moved, int recorded, const char *of) {
     text document = {NULL, 0, 0}, patch = chains(moved);
-    size_t most = (size_t)JSON_PATCH_MOST_COPIED * (recorded ? RECORDED : PLAIN) + MORE;
+    size_t most = (size_t)JSON_PATCH_MOST_BYTES * (recorded ? RECORDED : PLAIN) + MORE;
     put(&document, "{\"a\":");
     put_times(&document, "{\"\":", CHAIN);
     put(&document, "0");
@@ -618,7 +588,7 @@ static void expect_held(int moved, int recorded, int kept, const char *of) {
     pid_t child = fork();
     int status = 1;
     if (child == 0) {
-        if (!is_made(recorded, kept, &document, &patch))
+        if (!is_made(recorded, &document, &patch))
             fail("%s: not made", of);
         size_t held = held_at_most();
         if (held > most)
@@ -633,10 +603,9 @@ static void expect_held(int moved, int recorded, int kept, const char *of) {
 }
 
 static void expect_memory(void) {
-    expect_held(0, 0, 0, "memory of copies");
-    expect_held(0, 1, 0, "memory of recorded copies");
-    expect_held(1, 1, 0, "memory of recorded moves");
-    expect_held(1, 1, 1, "memory of moves of a kept document");
+    expect_held(0, 0, "memory of copies");
+    expect_held(0, 1, "memory of recorded copies");
+    expect_held(1, 1, "memory of recorded moves");
 }
 
 /* ---- all of it, on a thread */
@@ -645,7 +614,7 @@ static void *made(void *unused) {
     static const size_t depths[] = {1, 2, 3, 7, 60, 123, 124, 125, 127, 1000};
     static const size_t lengths[] = {100, 300, 3000, 70000, LONGEST};
     for (size_t i = 0; i < sizeof depths / sizeof *depths; i++) {
-        json_patch_limits given = {depths[i], JSON_PATCH_MOST_COPIED};
+        json_patch_limits given = limits_of(depths[i], JSON_PATCH_MOST_BYTES);
         json_patch_limits limits = given;
         if (limits.depth > MOST)
             limits.depth = MOST;
@@ -654,7 +623,7 @@ static void *made(void *unused) {
                 for (size_t k = 0; k < sizeof lengths / sizeof *lengths; k++)
                     expect_doubling(&nests[j], lengths[k], &limits);
             for (size_t turns = 0; turns <= 130; turns++)
-                expect_text(&nests[j], turns, given.depth > MOST ? &given : &limits);
+                expect_deep(&nests[j], turns, given.depth > MOST ? &given : &limits);
         }
         if (limits.depth >= 2) {
             expect_moves(1, &limits);
@@ -666,7 +635,7 @@ static void *made(void *unused) {
         for (size_t levels = 0; levels <= 130; levels++)
             expect_difference(levels, given.depth > MOST ? &given : &limits);
     }
-    const json_patch_limits usual = {MOST, JSON_PATCH_MOST_COPIED}, small = {MOST, 1000}, larger = {MOST, 200000};
+    const json_patch_limits usual = JSON_PATCH_LIMITS, small = limits_of(MOST, 1000), larger = limits_of(MOST, 200000);
     expect_copies(50000, 1400, &usual);
     expect_copies(9, 100, &small);
     expect_copies(9, 101, &small);
@@ -679,6 +648,11 @@ static void *made(void *unused) {
     expect_moves_back(9, 100, &small);
     expect_moves_back(9, 101, &small);
     expect_moves_back(1000, 500, &usual);
+    /* a text's inverse has as many bytes as it may, and one more */
+    expect_moves_back(956, 2, &small);
+    expect_moves_back(957, 2, &small);
+    expect_moves_back(9, 29, &small);
+    expect_moves_back(9, 30, &small);
     expect_growth(10, 100, &small);
     expect_growth(1000, 100, &usual);
     expect_sizes();
@@ -693,8 +667,8 @@ int main(int count, char **words) {
     size_t stack = count > 1 ? strtoul(words[1], NULL, 10) : 196608;
     pthread_attr_t attributes;
     pthread_t thread;
-    out = malloc(ROOM);
-    if (!out || pthread_attr_init(&attributes) || pthread_attr_setstacksize(&attributes, stack) ||
+    out = malloc(ROOM), inverse = malloc(ROOM), other = malloc(ROOM);
+    if (!out || !inverse || !other || pthread_attr_init(&attributes) || pthread_attr_setstacksize(&attributes, stack) ||
         pthread_create(&thread, &attributes, made, NULL) || pthread_join(thread, NULL))
         fail("no thread with a stack of %zu bytes", stack);
     /* the sanitizers take more */
@@ -705,5 +679,7 @@ int main(int count, char **words) {
 #endif
     printf("c: %lu calls within limits, on a stack of %zu bytes\n", calls, stack);
     free(out);
+    free(inverse);
+    free(other);
     return 0;
 }

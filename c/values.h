@@ -1,6 +1,4 @@
-/* Texts that are no document, and the kind that is told of each: a number past a float's range and
-   an unpaired surrogate are no JSON, and another number that is no whole one of 64 bits isn't
-   whole. */
+/* Texts that are no document, and the kind that is told of each. */
 #define TEN_ZEROS "0000000000"
 #define HUNDRED_ZEROS                                                                              \
     TEN_ZEROS TEN_ZEROS TEN_ZEROS TEN_ZEROS TEN_ZEROS TEN_ZEROS TEN_ZEROS TEN_ZEROS TEN_ZEROS      \
@@ -14,13 +12,20 @@ static const struct {
     size_t length;
     json_patch_kind kind;
 } values[] = {
-    VALUE("1e400", JSON_PATCH_NOT_JSON),
-    VALUE("-1e400", JSON_PATCH_NOT_JSON),
-    VALUE("1" ZEROS "0", JSON_PATCH_NOT_JSON),
-    VALUE("-1" ZEROS "0", JSON_PATCH_NOT_JSON),
-    VALUE("1" ZEROS HUNDRED_ZEROS, JSON_PATCH_NOT_JSON),
-    VALUE("\"\\ud800\"", JSON_PATCH_NOT_JSON),
-    VALUE("\"\\udc00\\ud800\"", JSON_PATCH_NOT_JSON),
+    VALUE("1e400", JSON_PATCH_NUMBER_OUT_OF_RANGE),
+    VALUE("-1e400", JSON_PATCH_NUMBER_OUT_OF_RANGE),
+    VALUE("1" ZEROS "0", JSON_PATCH_NUMBER_OUT_OF_RANGE),
+    VALUE("-1" ZEROS "0", JSON_PATCH_NUMBER_OUT_OF_RANGE),
+    VALUE("1" ZEROS HUNDRED_ZEROS, JSON_PATCH_NUMBER_OUT_OF_RANGE),
+    VALUE("\"\\ud800\"", JSON_PATCH_UNPAIRED_SURROGATE),
+    VALUE("\"\\udc00\\ud800\"", JSON_PATCH_UNPAIRED_SURROGATE),
+    VALUE("\"\\uD83D\\uDE00\\\\\\ud83d\\n\"", JSON_PATCH_UNPAIRED_SURROGATE),
+    VALUE("\"\\uDBFF\\u0041\"", JSON_PATCH_UNPAIRED_SURROGATE),
+    /* a pair, a backslash before ud800, and what is no JSON beside a half */
+    VALUE("\"\\ud83d\\ude00", JSON_PATCH_NOT_JSON),
+    VALUE("[\"\\\\ud800\",]", JSON_PATCH_NOT_JSON),
+    VALUE("\"\\ud800", JSON_PATCH_NOT_JSON),
+    VALUE("\"\\ud80\"", JSON_PATCH_NOT_JSON),
     VALUE("\"\xed\xa0\x80\"", JSON_PATCH_NOT_JSON),
     VALUE("\xef\xbb\xbf[]", JSON_PATCH_NOT_JSON),
     VALUE("[\0]\0", JSON_PATCH_NOT_JSON),
@@ -53,5 +58,5 @@ static text adding(size_t value) {
 /* What is told where it is the value of an operation. */
 static inline json_patch_kind kind_in_patch(size_t value) {
     return values[value].kind == JSON_PATCH_NOT_WHOLE ? JSON_PATCH_VALUE_NOT_WHOLE
-                                                      : JSON_PATCH_NOT_JSON;
+                                                      : values[value].kind;
 }

@@ -10,14 +10,15 @@
 enum { IS_RIGHT, SWALLOWS, IS_ALWAYS_SHORT, CHANGES, WRITES, TELLS, LEAKS, CLOSES };
 
 static json_patch_status told(json_patch_report *report, json_patch_status status, size_t size) {
-    *report = (json_patch_report){size, 0, 0};
+    *report = (json_patch_report){size, 0, 0, 0};
     return status;
 }
 
 /* A document that is kept is a block with one character. */
 json_patch_status json_patch_open(json_patch_document *document, const char *text, size_t length,
-                                  json_patch_report *report) {
+                                  const json_patch_limits *limits, json_patch_report *report) {
     char *block = malloc(1);
+    (void)limits;
     if (!block)
         return told(report, JSON_PATCH_NO_MEMORY, 0);
     *block = length ? *text : '-';
@@ -66,30 +67,29 @@ json_patch_status json_patch_update(json_patch_document *document, const char *p
 
 #define UNUSED_TEXTS(name)                                                                          \
     json_patch_status name(const char *document, size_t document_length, const char *patch,         \
-                           size_t patch_length, char *out, size_t out_length,                       \
-                           json_patch_report *report) {                                             \
-        (void)document, (void)document_length, (void)patch, (void)patch_length, (void)out;          \
+                           size_t patch_length, const json_patch_limits *limits, char *out,         \
+                           size_t out_length, json_patch_report *report) {                          \
+        (void)document, (void)document_length, (void)patch, (void)patch_length, (void)limits, (void)out; \
         return told(report, JSON_PATCH_CLOSED, out_length);                                         \
     }
 
 UNUSED_TEXTS(json_patch_apply)
-UNUSED_TEXTS(json_patch_record)
 UNUSED_TEXTS(json_patch_merge)
 UNUSED_TEXTS(json_patch_diff)
-UNUSED_TEXTS(json_patch_apply_text)
-UNUSED_TEXTS(json_patch_merge_text)
-UNUSED_TEXTS(json_patch_diff_text)
-UNUSED_TEXTS(json_patch_value_text)
+UNUSED_TEXTS(json_patch_value)
+
+json_patch_status json_patch_record(const char *document, size_t document_length, const char *patch,
+                                    size_t patch_length, const json_patch_limits *limits, char *out,
+                                    size_t out_length, char *inverse, size_t inverse_length,
+                                    json_patch_report *report) {
+    (void)inverse, (void)inverse_length;
+    return json_patch_apply(document, document_length, patch, patch_length, limits, out, out_length, report);
+}
 
 json_patch_status json_patch_check(const char *patch, size_t patch_length,
                                    json_patch_report *report) {
     (void)patch;
     return told(report, JSON_PATCH_CLOSED, patch_length);
-}
-
-json_patch_status json_patch_check_text(const char *patch, size_t patch_length,
-                                        json_patch_report *report) {
-    return json_patch_check(patch, patch_length, report);
 }
 
 json_patch_status json_patch_update_recorded(json_patch_document *document, const char *patch,
@@ -114,37 +114,11 @@ json_patch_status json_patch_diff_to(json_patch_document *document, const char *
     return json_patch_update(document, text, length, out, out_length, report);
 }
 
-json_patch_status json_patch_text_at(json_patch_document *document, const char *pointer,
-                                     size_t pointer_length, char *out, size_t out_length,
-                                     json_patch_report *report) {
+json_patch_status json_patch_value_at(json_patch_document *document, const char *pointer,
+                                      size_t pointer_length, char *out, size_t out_length,
+                                      json_patch_report *report) {
     return *pointer && pointer_length ? json_patch_text(document, out, out_length, report)
                                       : told(report, JSON_PATCH_NOTHING, 0);
-}
-
-/* ---- calls within limits, which are the others here */
-
-#define WITHIN(name)                                                                               \
-    json_patch_status name##_within(const char *document, size_t document_length,                  \
-                                    const char *patch, size_t patch_length,                        \
-                                    const json_patch_limits *limits, char *out, size_t out_length, \
-                                    json_patch_report *report) {                                   \
-        (void)limits;                                                                              \
-        return name(document, document_length, patch, patch_length, out, out_length, report);      \
-    }
-
-WITHIN(json_patch_apply)
-WITHIN(json_patch_record)
-WITHIN(json_patch_merge)
-WITHIN(json_patch_diff)
-WITHIN(json_patch_apply_text)
-WITHIN(json_patch_merge_text)
-WITHIN(json_patch_diff_text)
-
-json_patch_status json_patch_open_within(json_patch_document *document, const char *text,
-                                         size_t length, const json_patch_limits *limits,
-                                         json_patch_report *report) {
-    (void)limits;
-    return json_patch_open(document, text, length, report);
 }
 
 json_patch_status json_patch_undo(json_patch_document *document, json_patch_report *report) {

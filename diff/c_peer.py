@@ -14,23 +14,21 @@ TOP = Path(__file__).resolve().parent.parent
 sys.path.append(str(TOP / "python/src"))
 os.environ.setdefault("JSON_PATCH_LIBRARY", str(TOP / "c/out/lib/libjson_patch.so"))
 import json_patch  # noqa: E402
-from json_patch._calls import called  # noqa: E402
-from json_patch._library import LIBRARY  # noqa: E402
+from json_patch._calls import applied, merged, recorded  # noqa: E402
 from json_patch.limits import DEFAULT  # noqa: E402
 
-CALLS = {
-    "patch": LIBRARY.json_patch_apply_within,
-    "record": LIBRARY.json_patch_record_within,
-    "merge": LIBRARY.json_patch_merge_within,
-}
+CALLS = {"patch": applied, "record": recorded, "merge": merged}
 
 
 def text(value):
-    return json.dumps(value, ensure_ascii=False, separators=(",", ":"))
+    """A text in which the members are in one order: that which the calls on texts keep isn't that of a document that is
+    kept, and no part of what an answer says."""
+    return json.dumps(value, ensure_ascii=False, separators=(",", ":"), sort_keys=True)
 
 
 def from_texts(mode, document, patch):
-    return json.loads(called(CALLS[mode], document.encode(), patch.encode(), DEFAULT))
+    made = CALLS[mode](document.encode(), patch.encode(), DEFAULT)
+    return list(map(json.loads, made)) if mode == "record" else json.loads(made)
 
 
 def changed(mode, kept, patch):

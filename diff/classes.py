@@ -110,7 +110,7 @@ CLASSES = [
      lambda at: at.panicked() and at.moved_over_member()),
     (NLOHMANN, "adds to an atom: a failed assertion, undefined where assertions are off",
      lambda at: at.raised("assertion") and at.op in ("add", "copy", "move")),
-    (NLOHMANN, "a null on the way of an add becomes an object or a list",
+    (NLOHMANN, "a null on the way of an add becomes an object or an array",
      lambda at: at.only_here_refused() and at.op in ("add", "copy", "move") and at.parents()[0] is None),
     (NLOHMANN, "removes nothing from an atom, and accepts that",
      lambda at: at.only_here_refused() and at.op == "remove" and is_atom(at.parents()[0])),
@@ -134,7 +134,7 @@ CLASSES = [
      lambda at: at.only_here_refused() and at.leads_into_text()),
     (PYTHON, "takes true for 1 and false for 0 in a test",
      lambda at: at.op == "test" and at.ours[3:4] == ("TestFailed",) and at.only_here_refused()),
-    (PYTHON, "moves an item of a list inside itself",
+    (PYTHON, "moves an element of an array inside itself",
      lambda at: at.only_here_refused() and at.ours[3] == "CannotMoveInsideItself"),
 ]
 

@@ -26,7 +26,7 @@ from run import BATCH, HERE, answers, meaning, text
 
 PYTHON = ["/usr/bin/python3", f"{HERE}/python_peer.py"]
 SIDES = ("patch here", "the Rust crate", "jsonpatch")
-KINDS = ("two of their own", "a few places changed", "rows moved about", "lists of few items", "members renamed")
+KINDS = ("two of their own", "a few places changed", "rows moved about", "arrays of few elements", "members renamed")
 
 
 class Pairs:
@@ -95,7 +95,7 @@ class Pairs:
         return value
 
     def few(self):
-        """Two lists of items of which most come again and again."""
+        """Two arrays of elements of which most come again and again."""
         atoms = self.random.sample([None, 0, 1, "", "a", [], {}, [0], {"": 0}], 3)
         return [[copied(self.random.choice(atoms)) for _ in range(self.random.randrange(12))] for _ in range(2)]
 

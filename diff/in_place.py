@@ -4,22 +4,20 @@
     diff/in_place.py [--seed S] [--cases N]
 
 c/build has to have built the library, which is called in this process. Of four cases three have the random
-small limits of diff/limits.py, and one has numbers of any kind and is held against the call on texts. What the
-library leaves has to be what stands in the object afterwards, which is the same one; it has to have its members
-in their order, where the patch adds no name that it removed, and to share no list or dict with the patch. What the
-library refuses has to be refused with the same exception, and each list and dict of the object has to hold
-what it held, in the same order. The run fails where one of this doesn't hold, and where a kind of case never
-came."""
+small limits of diff/limits.py, and are held against a document that is kept, and one has numbers of any kind and is
+held against the call on texts. What the library leaves has to be what stands in the object afterwards, which is the
+same one; it has to have its members in their order, as the text has them, where the patch adds no name that it
+removed, and to share no list or dict with the patch. What the library refuses has to be refused with the same
+exception, and each list and dict of the object has to hold what it held, in the same order. The run fails where one
+of this doesn't hold, and where a kind of case never came."""
 import argparse
 import json
 import sys
 from collections import Counter
-from unittest import mock
 
 from cases import Cases
-from limits import LimitedCases, json_patch, text
+from limits import LimitedCases, json_patch, kept, text
 from model import copied, tokens_of
-from json_patch import _in_place  # which limits makes known
 
 KINDS = ("made", "made in order", "refused", "over TooDeep", "over TooMuch", "deep document", "numbers made", "numbers refused")
 # Those of a line are one number, as json.dumps writes them, and those of two lines aren't: as a double, 2**63 is
@@ -119,7 +117,7 @@ def faults(document, operations, wanted, wanted_error, call):
 def of_limits(case, counts):
     """Compares within limits. The text's answer tells the order."""
     document, operations, limits = case
-    wanted, error = outcome(lambda: json_patch.apply_patch(document, operations, limits=limits))
+    wanted, error = outcome(lambda: kept(text(document), operations, limits))
     if isinstance(error, json_patch.TooDeep):
         counts["deep document"] += 1
         return
@@ -128,18 +126,19 @@ def of_limits(case, counts):
     yield from faults(document, operations, wanted, error, call)
     if not error and not adds_again(operations):
         counts["made in order"] += 1
-        in_order, made = json.loads(json_patch.apply_text(text(document), operations)), json_patch.apply_patch(copied(document), operations, True)
+        in_order, made = json_patch.apply_patch(document, operations), in_place(copied(document), operations)
         if isinstance(made, dict) == isinstance(document, dict) and json.dumps(made) != json.dumps(in_order):
             yield f"in the order of {json.dumps(made)}, and not {json.dumps(in_order)}"
 
 
 def of_numbers(case, counts):
-    """Compares with the call on texts. That a JsonPatch takes whole numbers alone is left out."""
+    """Compares with the call from object to object. Of a text the values are new, and their numbers its own."""
     document, operations = case
-    wanted, error = outcome(lambda: json.loads(json_patch.apply_text(text(document), text(operations))))
+    wanted, error = outcome(lambda: json_patch.apply_patch(document, operations))
     counts["numbers refused" if error else "numbers made"] += 1
-    with mock.patch.object(_in_place, "expect_patch", len):
-        yield from faults(document, operations, wanted, error, in_place)
+    for patch in (operations, json_patch.JsonPatch(operations), json.dumps(operations)):
+        call = lambda obj, operations: in_place(obj, operations if patch is operations else patch)
+        yield from faults(document, operations, wanted, error, call)
 
 
 def in_place(obj, patch):

@@ -4,12 +4,12 @@
     diff/limits.py [--seed S] [--cases N]
 
 c/build has to have built the library, which is called in this process. The limits of a case lie about
-where one of its operations would be over, mostly. Each is made from texts and on a document that is
-kept, recorded and not: all have to answer as the model does. A list that isn't accepted has to leave
-the document that is kept, and one that is recorded to be led back from, by its inverse and by
-json_patch_undo; the values of its inverse and the new document together are no larger than the old
-one, with what the operations hold and may copy. Beside each list a merge patch is made within the same levels. The run fails where an
-answer is another, and where a kind of answer never came."""
+where one of its operations would be over, mostly. Each is made on a document that is kept, recorded and not:
+both have to answer as the model does (diff/text_limits.py is of the calls on texts). A list that isn't accepted
+has to leave the document, and one that is recorded to be led back from, by its inverse and by json_patch_undo; the
+values of its inverse and the new document together are no larger than the old one, with what the operations
+hold and may copy. Beside each list a merge patch is made within the same levels. The run fails where an answer is
+another, and where a kind of answer never came."""
 import argparse
 import json
 import os
@@ -27,8 +27,6 @@ TOP = Path(__file__).resolve().parent.parent
 sys.path.append(str(TOP / "python/src"))
 os.environ.setdefault("JSON_PATCH_LIBRARY", str(TOP / "c/out/lib/libjson_patch.so"))
 import json_patch  # noqa: E402
-from json_patch._calls import called  # noqa: E402
-from json_patch._library import LIBRARY  # noqa: E402
 
 KINDS = ("ok", "refused", "over TooDeep", "over TooMuch", "over where recorded", "deep document", "deep merge patch", "merged")
 LARGE = 10_000
@@ -51,7 +49,7 @@ class LimitedCases:
         reached, much = self.profile(document, operations, self.random.random() < 0.5)
         least = levels(document)
         depth = self.about([max(least, reach) for reach in (0, *reached)], 124)
-        return document, operations, json_patch.Limits(depth, self.about(much, json_patch.Limits().copied))
+        return document, operations, json_patch.Limits(depth, self.about(much, json_patch.Limits().bytes))
 
     def nesting_case(self):
         """A list of copies and moves from places near the root to any, until the document is large."""
@@ -84,7 +82,7 @@ class LimitedCases:
 def expected(model, document, operations, limits, recorded):
     if levels(document) > limits.depth:
         return ("deep document",)
-    return model.answer(document, operations, limits.depth, limits.copied, recorded)
+    return model.answer(document, operations, limits.depth, limits.bytes, recorded)
 
 
 def held(operations):
@@ -95,7 +93,7 @@ def held(operations):
 def most(document, operations, limits):
     """How large the document and the inverse's values may become, together."""
     names = sum(len(token.encode()) for operation in operations for token in tokens_of(operation["path"]))
-    return size(document) + held(operations) + names + limits.copied
+    return size(document) + held(operations) + names + limits.bytes
 
 
 def merged(model, document, changes, limits):
@@ -117,18 +115,6 @@ def answer(call):
         return ("refused", error.operation, error.path, error.kind)
 
 
-def from_texts(document, patch, limits):
-    return json.loads(called(LIBRARY.json_patch_apply_within, document, patch, limits))
-
-
-def recorded(document, patch, limits):
-    made, inverse = json.loads(called(LIBRARY.json_patch_record_within, document, patch, limits))
-    if size(made) + held(inverse) > most(json.loads(document), json.loads(patch), limits):
-        raise ValueError(f"the inverse is too large: {inverse}")
-    expect_same(from_texts(text(made), text(inverse), json_patch.Limits()), json.loads(document), "the inverse")
-    return made
-
-
 def kept(document, patch, limits):
     with json_patch.Document.from_string(document, limits=limits) as it:
         before = it.get()
@@ -140,19 +126,30 @@ def kept(document, patch, limits):
         return it.get()
 
 
-def kept_recorded(document, patch, limits):
+def recorded(document, patch, limits):
     with json_patch.Document.from_string(document, limits=limits) as it:
         before = it.get()
         try:
-            it.record(patch)
+            inverse = it.record(patch).patch
             made = it.get()
             it.undo()
-            return made
         finally:
             expect_same(it.get(), before, "what is kept")
+    if size(made) + held(inverse) > most(before, json.loads(patch), limits):
+        raise ValueError(f"the inverse is too large: {inverse}")
+    with json_patch.Document(made) as it:
+        it.apply(inverse)
+        expect_same(it.get(), before, "the inverse")
+    return made
 
 
-CALLS = (from_texts, recorded, kept, kept_recorded)
+def kept_merged(document, patch, limits):
+    with json_patch.Document.from_string(document, limits=limits) as it:
+        it.merge(patch)
+        return it.get()
+
+
+CALLS = (kept, recorded)
 
 
 def expect_same(found, wanted, told):
@@ -171,16 +168,17 @@ def main():
         right, right_recorded = (expected(model, document, operations, limits, is_recorded) for is_recorded in (False, True))
         counts["over " + right[2] if right[0] == "over" else right[0]] += 1
         counts["over where recorded"] += right != right_recorded
-        for call, wanted in zip(CALLS, (right, right_recorded) * 2):
+        for call, wanted in zip(CALLS, (right, right_recorded)):
             told = answer(lambda: call(text(document), text(operations), limits))
             if not is_same(told, wanted):
                 wrong.append(f"{call.__name__}: {text([document, operations])} {limits}: {told}, not {wanted}")
         changes = cases.cases.value()
         right = merged(model, document, changes, limits)
         counts["merged" if right[0] == "ok" else right[0]] += 1
-        told = answer(lambda: json.loads(called(LIBRARY.json_patch_merge_within, text(document), text(changes), limits)))
-        if not is_same(told, right):
-            wrong.append(f"merge: {text([document, changes])} {limits}: {told}, not {right}")
+        merges = lambda: kept_merged(text(document), changes, limits), lambda: json_patch.merge_patch(document, changes, limits=limits)
+        for told in map(answer, merges):
+            if not is_same(told, right):
+                wrong.append(f"merge: {text([document, changes])} {limits}: {told}, not {right}")
     wrong += [f"no case is {kind}" for kind in KINDS if not counts[kind]]
     for line in sorted(wrong, key=len)[:5]:
         print(f"WRONG: {line}")

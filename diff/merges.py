@@ -25,7 +25,7 @@ TOP = Path(__file__).resolve().parent.parent
 sys.path.append(str(TOP / "python/src"))
 os.environ.setdefault("JSON_PATCH_LIBRARY", str(TOP / "c/out/lib/libjson_patch.so"))
 import json_patch  # noqa: E402
-from json_patch.texts import _merged  # noqa: E402
+from json_patch._calls import merged  # noqa: E402
 
 KINDS = ("removed", "removed nothing", "merged into", "put in for an object", "put in for another", "same", "replaced", "new", "new object",
          "no object", "broken text", "broken patch", "changed, and still JSON", "unchanged")
@@ -91,7 +91,7 @@ class Merges(Texts):
 def answer(text, patch):
     """The new text, or which text is at fault."""
     try:
-        return _merged(text.encode(), patch.encode(), json_patch.Limits()).decode()
+        return merged(text.encode(), patch.encode(), json_patch.Limits()).decode()
     except json_patch.InvalidJsonPatch:
         return "broken patch", None
     except json_patch.JsonPatchException:

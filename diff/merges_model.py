@@ -8,7 +8,7 @@ from decimal import Decimal
 import json
 import re
 
-from texts_model import STRING, WHITESPACE, Node, read
+from texts_model import STRING, WHITESPACE, Node, added, at_tokens, plain, read, removed, replaced
 
 # RFC 7396, appendix A: the document, the merge patch, and the result
 EXAMPLES = [
@@ -196,3 +196,25 @@ def is_merged(text, patch, new):
     """Whether the new text is what the patch leaves of the text."""
     pieces, value = merged(text, patch)
     return fits(pieces, new) and value_of(new) == value
+
+
+# ---- all bytes, where a merge patch is written with no whitespace
+
+
+def compact(value):
+    return json.dumps(value, ensure_ascii=False, separators=(",", ":"))
+
+
+def made(text, changes, tokens=()):
+    """A text with the value of a merge patch merged into what stands at the tokens, by the changes of
+    `texts_model`: what goes with a new member is as there."""
+    there, value = at_tokens(read(text), tokens), compact(merged_value(None, changes))
+    if not isinstance(changes, dict) or there.kind != "object":
+        return text if plain(there) == plain(read(value)) else replaced(text, there, value)
+    for name, change in changes.items():
+        place = [*tokens, name]
+        if at_tokens(read(text), place):
+            text = removed(text, place) if change is None else made(text, change, place)
+        elif change is not None:
+            text = added(text, place, compact(merged_value(None, change)))
+    return text

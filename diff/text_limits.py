@@ -1,30 +1,27 @@
 #!/usr/bin/env python3
-"""Random JSON texts, patched in place within random small limits, through the library for C.
+"""Random JSON texts, patched, recorded and merged within random small limits, through the library for C.
 
     diff/text_limits.py [--seed S] [--cases N]
 
 c/build has to have built the library, which is called in this process. Texts and patches are those of
 diff/texts.py, with more copies and moves, and the model is that of the bytes (`texts_model`): after each
-operation it counts how deep the new text nests and how many bytes it has. The limits of a case lie about
-where one of its operations would be over, mostly. The answer has to be the model's, byte by byte, or name
-the operation that is refused or over, and why. The run fails where it is another, and where a kind of
-answer never came."""
+operation it counts how deep the new text nests, and how many bytes it has and the inverse. The limits of a case
+lie about where one of its operations would be over, mostly. The answer has to be the model's, byte by byte, or
+name the operation that is refused or over, and why; and an inverse has to lead back to a text that says the same.
+A merge of another text into each, which diff/merges.py makes without limits, has to come to the same within
+them, or to be over where it is longer. The run fails where an answer is another, and where a kind of answer
+never came."""
 import argparse
-import os
 import sys
 from collections import Counter
-from pathlib import Path
 
+import library
+from library import MOST_BYTES, MOST_LEVELS, TOO_DEEP, TOO_MUCH
 from texts import Texts
-from texts_model import Refused, read, step
+from texts_model import Refused, plain, read, recorded, step
 
-TOP = Path(__file__).resolve().parent.parent
-sys.path.append(str(TOP / "python/src"))
-os.environ.setdefault("JSON_PATCH_LIBRARY", str(TOP / "c/out/lib/libjson_patch.so"))
-import json_patch  # noqa: E402
-
-KINDS = ("ok", "refused", "over TooDeep", "over TooMuch", "deep document")
-MOST_LEVELS, MOST_COPIED = 124, 500_000
+KINDS = ("ok", "refused", f"over: {TOO_DEEP}", f"over: {TOO_MUCH}", "over where recorded", "document", "merge: ok", "merge: over",
+         "merge: document", "merge: patch")
 LARGE = 5_000
 
 
@@ -72,9 +69,10 @@ class LimitedTexts(Texts):
                 now = step(now, operation, put)
             except Refused:
                 break
-            spare.append(max(0, size(now) - size(text) - size(patch)))
+            back = recorded(text, operations[: len(deep)])[0][1]
+            spare += [max(0, size(made) - size(text) - size(patch)) for made in (now, back)]
             deep.append(levels(read(now)))
-        return text, operations, patch, self.about(deep, MOST_LEVELS), self.about(spare, MOST_COPIED)
+        return text, operations, patch, self.about(deep, MOST_LEVELS), self.about(spare, MOST_BYTES)
 
     def about(self, counts, most):
         """One of the counts, or one more or less; or the largest limit."""
@@ -83,36 +81,40 @@ class LimitedTexts(Texts):
         return min(most, max(0, self.random.choice((self.random.choice(counts), max(counts))) + self.random.choice((-1, -1, 0, 1))))
 
 
-def expected(text, operations, patch, depth, copied):
+def expected(name, text, operations, patch, depth, spare):
     if levels(read(text)) > depth:
-        return ("deep document",)
-    most = size(text) + size(patch) + copied
+        return ("document", TOO_DEEP)
+    most, now = size(text) + size(patch) + spare, text
     for number, (operation, put) in enumerate(operations):
         try:
-            text = step(text, operation, put)
+            now = step(now, operation, put)
         except Refused as refused:
             return ("refused", number, operation["path"], str(refused))
-        if levels(read(text)) > depth:
-            return ("over TooDeep", number, operation["path"])
-        if size(text) > most:
-            return ("over TooMuch", number, operation["path"])
-    return ("ok", text)
+        if levels(read(now)) > depth:
+            return ("over", number, TOO_DEEP)
+        made = recorded(text, operations[: number + 1])[0][: 1 + (name == "record")]
+        if any(size(it) > most for it in made):
+            return ("over", number, TOO_MUCH)
+    return ("ok", *recorded(text, operations)[0][: 1 + (name == "record")])
 
 
-WORDS = {"TestFailed": "value did not match", "InvalidPointer": "path is invalid", "InvalidFromPointer": '"from" path is invalid',
-         "CannotMoveInsideItself": "cannot move the value inside itself"}
+def merged(texts, text, depth):
+    """A merge patch, the one of some that leaves the most bytes, limits, and what the merge comes to within them, by
+    what it comes to without."""
+    made = {patch: library.answer("merge", text, patch) for patch in (texts.text(3) for _ in range(4))}
+    mores = {patch: max(0, size(left[1]) - size(text) - size(patch)) for patch, left in made.items()}
+    patch = max(made, key=mores.get)
+    limits = depth, texts.about([mores[patch]], MOST_BYTES)
+    for named, it in (("document", text), ("patch", patch)):
+        if levels(read(it)) > depth:
+            return patch, limits, (named, TOO_DEEP)
+    return patch, limits, ("over", 0, TOO_MUCH) if mores[patch] > limits[1] else made[patch]
 
 
-def answer(text, patch, depth, copied):
-    """What the package answers, as the model says it."""
-    try:
-        return ("ok", json_patch.apply_text(text, patch, limits=json_patch.Limits(depth, copied)))
-    except json_patch.OverLimit as error:
-        return (f"over {error.kind}", error.operation, error.path)
-    except json_patch.TooDeep as error:
-        return ("deep patch" if isinstance(error, json_patch.InvalidJsonPatch) else "deep document",)
-    except (json_patch.JsonPatchConflict, json_patch.JsonPatchTestFailed) as error:
-        return ("refused", error.operation, error.path, WORDS[error.kind])
+def is_led_back(text, new, inverse, depth):
+    """Whether the inverse leads to a text that says the same, within the same depth."""
+    back = library.answer("apply", new, inverse, depth, sys.maxsize)
+    return back[0] == "ok" and plain(read(back[1])) == plain(read(text))
 
 
 def main():
@@ -120,17 +122,25 @@ def main():
     words.add_argument("--seed", type=int, default=1)
     words.add_argument("--cases", type=int, default=10_000)
     asked = words.parse_args()
-    texts, came, wrong = LimitedTexts(asked.seed), Counter(), 0
+    texts, came, wrong = LimitedTexts(asked.seed), Counter(), []
     for _ in range(asked.cases):
-        text, operations, patch, depth, copied = texts.next()
-        wanted, got = expected(text, operations, patch, depth, copied), answer(text, patch, depth, copied)
-        came[wanted[0]] += 1
-        if got != wanted:
-            wrong += 1
-            if wrong <= 5:
-                print(f"WRONG: {text!r} {patch!r} within {depth} and {copied}\n  wanted {wanted}\n  got    {got}")
+        text, operations, patch, *limits = texts.next()
+        cases = {name: (patch, limits, expected(name, text, operations, patch, *limits)) for name in ("apply", "record")}
+        cases["merge"] = merged(texts, text, limits[0])
+        answers = [right for *_, right in cases.values()]
+        came.update(f"over: {it[2]}" if it[0] == "over" else it[0] for it in answers[:2])
+        came["over where recorded"] += answers[0][0] == "ok" and answers[1][0] == "over"
+        came[f"merge: {answers[2][0]}"] += 1
+        for name, (given, within, right) in cases.items():
+            got = library.answer(name, text, given, *within)
+            if got != right:
+                wrong.append(f"{name} {text!r} {given!r} within {within}\n  wanted {right}\n  got    {got}")
+            elif name == "record" and got[0] == "ok" and not is_led_back(text, *got[1:], within[0]):
+                wrong.append(f"{name} {text!r} {given!r}: {got} doesn't lead back")
+    for line in sorted(wrong, key=len)[:5]:
+        print(f"WRONG: {line}")
     missing = [kind for kind in KINDS if not came[kind]]
-    print(f"{asked.cases} texts within limits, seed {asked.seed}: {wrong} wrong")
+    print(f"{asked.cases} texts within limits, seed {asked.seed}: {len(wrong)} wrong")
     print(", ".join(f"{count} {kind}" for kind, count in sorted(came.items())))
     if missing:
         print("never: " + ", ".join(missing))

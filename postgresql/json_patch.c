@@ -49,11 +49,11 @@ PG_MODULE_MAGIC;
 enum { SPARE_ROOM = 64 };
 
 /* The longest text that a value of json holds, with a zero behind it. */
-#define MOST_BYTES (MaxAllocSize - VARHDRSZ - 1)
+#define LONGEST_TEXT (MaxAllocSize - VARHDRSZ - 1)
 
 /* The settings of a session. */
 static int max_depth = JSON_PATCH_MOST_LEVELS;
-static int max_copied = JSON_PATCH_MOST_COPIED;
+static int max_bytes = JSON_PATCH_MOST_BYTES;
 
 typedef struct {
     const char *bytes;
@@ -71,7 +71,12 @@ typedef struct {
     size_t size;
 } text_written;
 
-typedef json_patch_status writer(const arguments *given, char *out, size_t room,
+/* What a function writes: one text, and beside it the inverse where a patch is recorded. */
+typedef struct {
+    text_written text, inverse;
+} texts_written;
+
+typedef json_patch_status writer(const arguments *given, const texts_written *to,
                                  json_patch_report *report);
 
 /* A writer, and what its arguments are called in messages. */
@@ -80,50 +85,58 @@ typedef struct {
     writer *write;
 } function;
 
+static char *bytes_of(const text_written *text)
+{
+    return text->block + VARHDRSZ;
+}
+
 /* ---- the library: what is called of it is called here */
 
-static json_patch_status write_applied(const arguments *given, char *out, size_t room,
+static json_patch_status write_applied(const arguments *given, const texts_written *to,
                                        json_patch_report *report)
 {
-    return json_patch_apply_text_within(given->first.bytes, given->first.length, given->second.bytes,
-                                        given->second.length, &given->limits, out, room, report);
+    return json_patch_apply(given->first.bytes, given->first.length, given->second.bytes,
+                            given->second.length, &given->limits, bytes_of(&to->text), to->text.size,
+                            report);
 }
 
-static json_patch_status write_merged(const arguments *given, char *out, size_t room,
+static json_patch_status write_merged(const arguments *given, const texts_written *to,
                                       json_patch_report *report)
 {
-    return json_patch_merge_text_within(given->first.bytes, given->first.length, given->second.bytes,
-                                        given->second.length, &given->limits, out, room, report);
+    return json_patch_merge(given->first.bytes, given->first.length, given->second.bytes,
+                            given->second.length, &given->limits, bytes_of(&to->text), to->text.size,
+                            report);
 }
 
-static json_patch_status write_difference(const arguments *given, char *out, size_t room,
+static json_patch_status write_difference(const arguments *given, const texts_written *to,
                                           json_patch_report *report)
 {
-    return json_patch_diff_text_within(given->first.bytes, given->first.length, given->second.bytes,
-                                       given->second.length, &given->limits, out, room, report);
+    return json_patch_diff(given->first.bytes, given->first.length, given->second.bytes,
+                           given->second.length, &given->limits, bytes_of(&to->text), to->text.size,
+                           report);
 }
 
-/* Writes the array of the document and the inverse. */
-static json_patch_status write_record(const arguments *given, char *out, size_t room,
+static json_patch_status write_record(const arguments *given, const texts_written *to,
                                       json_patch_report *report)
 {
-    return json_patch_record_within(given->first.bytes, given->first.length, given->second.bytes,
-                                    given->second.length, &given->limits, out, room, report);
+    return json_patch_record(given->first.bytes, given->first.length, given->second.bytes,
+                             given->second.length, &given->limits, bytes_of(&to->text), to->text.size,
+                             bytes_of(&to->inverse), to->inverse.size, report);
 }
 
-static json_patch_status write_value(const arguments *given, char *out, size_t room,
+static json_patch_status write_value(const arguments *given, const texts_written *to,
                                      json_patch_report *report)
 {
-    return json_patch_value_text(given->first.bytes, given->first.length, given->second.bytes,
-                                 given->second.length, out, room, report);
+    return json_patch_value(given->first.bytes, given->first.length, given->second.bytes,
+                            given->second.length, &given->limits, bytes_of(&to->text), to->text.size,
+                            report);
 }
 
-static json_patch_status write_nothing(const arguments *given, char *out, size_t room,
+static json_patch_status write_nothing(const arguments *given, const texts_written *to,
                                        json_patch_report *report)
 {
-    (void)out;
-    (void)room;
-    return json_patch_check_text(given->first.bytes, given->first.length, report);
+    (void)to;
+    return json_patch_check(given->first.bytes, given->first.length, report);
 }
 
 static const function APPLY = {"document", "patch", write_applied};
@@ -189,7 +202,7 @@ static int append_escape(StringInfo to, const unsigned char *from)
    is written as an escape. */
 static text_written in_server(text_written text)
 {
-    const unsigned char *from = (const unsigned char *)text.block + VARHDRSZ;
+    const unsigned char *from = (const unsigned char *)bytes_of(&text);
     size_t left = text.size;
     Oid conversion;
     StringInfoData to;
@@ -251,38 +264,10 @@ static const char *quoted(const char *path, size_t size)
     text.block = to.data;
     text.size = to.len - VARHDRSZ;
     text = in_server(text);
-    return pnstrdup(text.block + VARHDRSZ, text.size);
+    return pnstrdup(bytes_of(&text), text.size);
 }
 
 /* ---- what is wrong */
-
-static const char *kind_text(json_patch_kind kind)
-{
-    switch (kind) {
-    case JSON_PATCH_NOT_JSON: return "is not JSON";
-    case JSON_PATCH_NOT_WHOLE: return "holds a number that is not whole";
-    case JSON_PATCH_TEST_FAILED: return "value did not match";
-    case JSON_PATCH_INVALID_FROM_POINTER: return "\"from\" path is invalid";
-    case JSON_PATCH_INVALID_POINTER: return "path is invalid";
-    case JSON_PATCH_CANNOT_MOVE_INSIDE_ITSELF: return "cannot move the value inside itself";
-    case JSON_PATCH_TOO_DEEP: return "nests too deep";
-    case JSON_PATCH_TOO_MUCH: return "copies too much";
-    case JSON_PATCH_NOT_A_LIST: return "is not a list";
-    case JSON_PATCH_NOT_AN_OBJECT: return "is not an object";
-    case JSON_PATCH_MISSING_OP: return "member \"op\" is missing";
-    case JSON_PATCH_OP_NOT_TEXT: return "member \"op\" is not a text";
-    case JSON_PATCH_UNKNOWN_OP: return "member \"op\" is unknown";
-    case JSON_PATCH_MISSING_FROM: return "member \"from\" is missing";
-    case JSON_PATCH_FROM_NOT_TEXT: return "member \"from\" is not a text";
-    case JSON_PATCH_BAD_FROM: return "member \"from\" is not a pointer";
-    case JSON_PATCH_MISSING_PATH: return "member \"path\" is missing";
-    case JSON_PATCH_PATH_NOT_TEXT: return "member \"path\" is not a text";
-    case JSON_PATCH_BAD_PATH: return "member \"path\" is not a pointer";
-    case JSON_PATCH_MISSING_VALUE: return "member \"value\" is missing";
-    case JSON_PATCH_VALUE_NOT_WHOLE: return "member \"value\" holds a number that is not whole";
-    default: return "is wrong";
-    }
-}
 
 /* Whether the fault is of one operation of the patch, and not of the whole. */
 static bool is_of_an_operation(json_patch_kind kind)
@@ -293,8 +278,9 @@ static bool is_of_an_operation(json_patch_kind kind)
 static char *fault_of_text(const char *which, const json_patch_report *report)
 {
     if (is_of_an_operation(report->kind))
-        return psprintf("%s: operation %zu: %s", which, report->operation, kind_text(report->kind));
-    return psprintf("%s %s", which, kind_text(report->kind));
+        return psprintf("%s: operation %zu: %s", which, report->operation,
+                        json_patch_kind_text(report->kind));
+    return psprintf("%s %s", which, json_patch_kind_text(report->kind));
 }
 
 static int refusal_code(json_patch_kind kind)
@@ -328,12 +314,9 @@ static int hint_of_text(json_patch_kind kind)
         return errhint("Limit json_patch.max_depth is %d, and at most %d.", max_depth,
                        JSON_PATCH_MOST_LEVELS);
     case JSON_PATCH_TOO_MUCH:
-        return errhint("Limit json_patch.max_copied is %d bytes.", max_copied);
-    case JSON_PATCH_NOT_JSON:
-        return errhint("It has an unpaired surrogate, such as \"\\ud800\", or for an inverse a number past a float's range.");
-    case JSON_PATCH_NOT_WHOLE:
-    case JSON_PATCH_VALUE_NOT_WHOLE:
-        return errhint("For an inverse numbers have to be 64-bit integers: json_patch_diff of the new document and the old one takes any.");
+        return errhint("Limit json_patch.max_bytes is %d bytes.", max_bytes);
+    case JSON_PATCH_UNPAIRED_SURROGATE:
+        return errhint("Half of a surrogate pair, such as \"\\ud800\", is no character.");
     default:
         return 0;
     }
@@ -343,7 +326,7 @@ static void refuse_patch(const char *path, const json_patch_report *report)
 {
     ereport(ERROR,
             (errcode(refusal_code(report->kind)),
-             errmsg("patch is refused: %s", kind_text(report->kind)),
+             errmsg("patch is refused: %s", json_patch_kind_text(report->kind)),
              errdetail("Operation %zu, path %s.", report->operation, quoted(path, report->size)),
              refusal_hint(report->kind)));
 }
@@ -352,7 +335,7 @@ static void refuse_size(const char *which, bool is_merge, const json_patch_repor
 {
     ereport(ERROR,
             (errcode(report->kind == JSON_PATCH_TOO_DEEP ? TOO_DEEP : TOO_MUCH),
-             errmsg("%s is over the limits: it %s", which, kind_text(report->kind)),
+             errmsg("%s is over the limits: it %s", which, json_patch_kind_text(report->kind)),
              is_merge ? 0 : errdetail("Operation %zu.", report->operation),
              hint_of_text(report->kind)));
 }
@@ -413,72 +396,52 @@ static text_written room_for(size_t size)
 
 static void refuse_long(size_t size)
 {
-    if (size > MOST_BYTES)
+    if (size > LONGEST_TEXT)
         ereport(ERROR,
                 (errcode(ERRCODE_PROGRAM_LIMIT_EXCEEDED),
                  errmsg("the text would have %zu bytes, more than a value holds", size)));
 }
 
-/* Writes the text, whose memory is asked for before the library is called. How much it takes is known
-   once it is made; mostly what is asked for at first suffices. False where a pointer leads nowhere. */
-static bool is_written(const function *of, const arguments *given, text_written *text)
+/* Another block, where this one is for less than is wanted. */
+static void grow(text_written *text, size_t wanted)
 {
+    refuse_long(wanted);
+    if (wanted <= text->size)
+        return;
+    pfree(text->block);
+    *text = room_for(wanted);
+}
+
+/* Writes the texts, whose memory is asked for before the library is called. How much they take is known
+   once they are made; mostly what is asked for at first suffices. False where a pointer leads nowhere. */
+static bool is_written(const function *of, const arguments *given, texts_written *to)
+{
+    size_t room = given->first.length + given->second.length + SPARE_ROOM;
     json_patch_report report;
     json_patch_status status;
 
     /* behind what this allows the server keeps 512 kB free; the library wants 192 */
     check_stack_depth();
-    *text = room_for(given->first.length + given->second.length + SPARE_ROOM);
+    to->text = room_for(room);
+    to->inverse = room_for(of->write == write_record ? room : 0);
     for (;;) {
         CHECK_FOR_INTERRUPTS();
-        status = of->write(given, text->block + VARHDRSZ, text->size, &report);
+        status = of->write(given, to, &report);
         if (status != JSON_PATCH_NO_ROOM)
             break;
-        refuse_long(report.size);
-        pfree(text->block);
-        *text = room_for(report.size);
+        grow(&to->text, report.size);
+        grow(&to->inverse, report.inverse_size);
     }
     CHECK_FOR_INTERRUPTS();
     if (status == JSON_PATCH_NOTHING)
         return false;
     if (status != JSON_PATCH_OK)
-        refuse(of, status, text->block + VARHDRSZ, &report);
+        refuse(of, status, bytes_of(&to->text), &report);
     refuse_long(report.size);
-    text->size = report.size;
+    refuse_long(report.inverse_size);
+    to->text.size = report.size;
+    to->inverse.size = report.inverse_size;
     return true;
-}
-
-/* The stretch of a text from one place to before another. */
-static text_written part_of(text_written text, size_t from, size_t to)
-{
-    text_written part = room_for(to - from);
-
-    memcpy(part.block + VARHDRSZ, text.block + VARHDRSZ + from, part.size);
-    return part;
-}
-
-/* Where the comma between the elements of an array of two stands. */
-static size_t middle_of(text_written array)
-{
-    const char *text = array.block + VARHDRSZ;
-    int open = 0;
-    bool in_string = false;
-
-    for (size_t at = 0; at < array.size; at++) {
-        if (in_string && text[at] == '\\')
-            at++;
-        else if (text[at] == '"')
-            in_string = !in_string;
-        else if (in_string)
-            continue;
-        else if (text[at] == '[' || text[at] == '{')
-            open++;
-        else if (text[at] == ']' || text[at] == '}')
-            open--;
-        else if (text[at] == ',' && open == 1)
-            return at;
-    }
-    elog(ERROR, "json_patch: no array of two");
 }
 
 /* ---- from values of SQL, and to them */
@@ -518,7 +481,7 @@ static text_given taken(FunctionCallInfo fcinfo, int number)
 
 static arguments arguments_of(FunctionCallInfo fcinfo)
 {
-    arguments given = {{"", 0}, {"", 0}, {max_depth, max_copied}};
+    arguments given = {{"", 0}, {"", 0}, {sizeof(json_patch_limits), max_depth, max_bytes}};
 
     given.first = taken(fcinfo, 0);
     if (PG_NARGS() > 1)
@@ -530,8 +493,8 @@ static Datum as_type(text_written text, Oid type)
 {
     text = in_server(text);
     if (type == JSONBOID) {
-        text.block[VARHDRSZ + text.size] = 0;
-        return DirectFunctionCall1(jsonb_in, CStringGetDatum(text.block + VARHDRSZ));
+        bytes_of(&text)[text.size] = 0;
+        return DirectFunctionCall1(jsonb_in, CStringGetDatum(bytes_of(&text)));
     }
     SET_VARSIZE(text.block, VARHDRSZ + text.size);
     return PointerGetDatum(text.block);
@@ -541,20 +504,20 @@ static Datum as_type(text_written text, Oid type)
 static Datum given_back(FunctionCallInfo fcinfo, const function *of)
 {
     arguments given = arguments_of(fcinfo);
-    text_written text;
+    texts_written to;
 
-    if (!is_written(of, &given, &text))
+    if (!is_written(of, &given, &to))
         PG_RETURN_NULL();
-    return as_type(text, types_of(fcinfo)[0]);
+    return as_type(to.text, types_of(fcinfo)[0]);
 }
 
-/* Writes what was recorded, and tells the place between its elements. */
-static size_t recorded(FunctionCallInfo fcinfo, text_written *both)
+static texts_written recorded(FunctionCallInfo fcinfo)
 {
     arguments given = arguments_of(fcinfo);
+    texts_written to;
 
-    (void)is_written(&RECORD, &given, both);
-    return middle_of(*both);
+    (void)is_written(&RECORD, &given, &to);
+    return to;
 }
 
 /* Reads a patch, and tells what came of it. */
@@ -565,7 +528,7 @@ static json_patch_status checked(FunctionCallInfo fcinfo, json_patch_report *rep
 
     check_stack_depth();
     CHECK_FOR_INTERRUPTS();
-    status = CHECK.write(&given, NULL, 0, report);
+    status = CHECK.write(&given, NULL, report);
     if (status != JSON_PATCH_OK && status != JSON_PATCH_NO_PATCH)
         refuse(&CHECK, status, NULL, report);
     return status;
@@ -605,26 +568,22 @@ Datum pg_json_patch_value(PG_FUNCTION_ARGS)
 
 Datum pg_json_patch_inverse(PG_FUNCTION_ARGS)
 {
-    text_written both;
-    size_t middle = recorded(fcinfo, &both);
-
-    return as_type(part_of(both, middle + 1, both.size - 1), types_of(fcinfo)[0]);
+    return as_type(recorded(fcinfo).inverse, types_of(fcinfo)[0]);
 }
 
 Datum pg_json_patch_record(PG_FUNCTION_ARGS)
 {
     Oid type = types_of(fcinfo)[0];
-    text_written both;
-    size_t middle;
+    texts_written to;
     TupleDesc row;
     Datum values[2];
     bool nulls[2] = {false, false};
 
     if (get_call_result_type(fcinfo, NULL, &row) != TYPEFUNC_COMPOSITE)
         elog(ERROR, "json_patch: no row is asked for");
-    middle = recorded(fcinfo, &both);
-    values[0] = as_type(part_of(both, 1, middle), type);
-    values[1] = as_type(part_of(both, middle + 1, both.size - 1), type);
+    to = recorded(fcinfo);
+    values[0] = as_type(to.text, type);
+    values[1] = as_type(to.inverse, type);
     PG_RETURN_DATUM(HeapTupleGetDatum(heap_form_tuple(BlessTupleDesc(row), values, nulls)));
 }
 
@@ -656,8 +615,9 @@ void _PG_init(void)
     DefineCustomIntVariable("json_patch.max_depth", "How many levels a document may have.", NULL,
                             &max_depth, JSON_PATCH_MOST_LEVELS, 0, JSON_PATCH_MOST_LEVELS,
                             PGC_USERSET, 0, NULL, NULL, NULL);
-    DefineCustomIntVariable("json_patch.max_copied", "How many bytes a patch may add beside its own.",
-                            NULL, &max_copied, JSON_PATCH_MOST_COPIED, 0, INT_MAX, PGC_USERSET,
+    DefineCustomIntVariable("json_patch.max_bytes",
+                            "How many bytes a text that a call leaves may have beside those of its texts.",
+                            NULL, &max_bytes, JSON_PATCH_MOST_BYTES, 0, INT_MAX, PGC_USERSET,
                             GUC_UNIT_BYTE, NULL, NULL, NULL);
 #if PG_VERSION_NUM >= 150000
     MarkGUCPrefixReserved("json_patch");

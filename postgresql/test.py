@@ -39,7 +39,7 @@ NAMES = {"apply": APPLY, "record": INVERSE, "merge": MERGE, "diff": DIFF}
 # the statuses and kinds of c/json_patch.h
 OK, REFUSED, NO_DOCUMENT, NO_PATCH = 0, 1, 2, 3
 STATES = {3: "JP001", 5: "JP002", 4: "JP003", 6: "JP004"}
-NOT_WHOLE, VALUE_NOT_WHOLE = 2, 23
+VALUE_NOT_WHOLE = 23
 # what the server itself refuses: a text that is no JSON, and an escape that jsonb can't hold
 SERVERS_OWN = ("22P02", "22P05")
 PATCH_N = '[{"op":"replace","path":"/n","value":2}]'
@@ -148,7 +148,7 @@ class Calls(Sql):
     def test_cases_of_the_tables(self):
         counts = {}
         for case in json.loads((TOP / "c/cases.json").read_text()):
-            if case[0] != "record" and case[5] in (NOT_WHOLE, VALUE_NOT_WHOLE):
+            if case[5] == VALUE_NOT_WHOLE:  # of a document that is kept: here a number may be any
                 continue
             for kind in ("json", "jsonb"):
                 key = case[0], kind, self.check_case(kind, case)
@@ -168,17 +168,24 @@ class Calls(Sql):
         return "{ " + ",".join(f"{json.dumps(name)} :{part}" for name, part in zip(names, parts)) + "}"
 
     def test_random_pairs_with_decimals(self):
-        """The patch between two documents leads there, by Python's jsonpatch and here; none where they say the same."""
+        """The patch between two documents leads there, by Python's jsonpatch and here; none where they say the same. What it displaces the inverse
+        has as it stood, and leads back."""
         pick = random.Random(53)
         pairs = [[self.random_text(pick, 4) for _ in range(2)] for _ in range(PAIRS)]
         for pair in pairs[::10]:
             pair[1] = pair[0].replace("1.5", "1.50").replace("[", " [")
         for kind in ("json", "jsonb"):
-            found = self.rows(f"SELECT patch::text, json_patch_apply(a, patch)::text FROM (SELECT a::{kind}, json_patch_diff(a::{kind}, b::{kind}) AS patch"
-                              " FROM unnest(%s::text[], %s::text[]) WITH ORDINALITY pairs (a, b, n) ORDER BY n) differences", *map(list, zip(*pairs)))
-            for (a, b), (patch, after) in zip(pairs, found):
+            found = self.rows("SELECT patch::text, json_patch_apply(a, patch)::text, document::text, inverse::text, json_patch_apply(document, inverse)::text,"
+                              " (SELECT coalesce(bool_and(strpos(a::text, (step->'value')::text) > 0), true) FROM json_array_elements(inverse::json) step)"
+                              f" FROM (SELECT a::{kind}, json_patch_diff(a::{kind}, b::{kind}) AS patch FROM unnest(%s::text[], %s::text[]) WITH ORDINALITY pairs (a, b, n)"
+                              " ORDER BY n) differences, json_patch_record(a, patch)", *map(list, zip(*pairs)))
+            self.assertEqual(len(found), PAIRS)
+            for (a, b), (patch, after, document, inverse, back, is_as_it_stood) in zip(pairs, found):
                 goal = loaded(b)
                 self.assertTrue(same(loaded(after), goal), (kind, a, b, patch))
+                self.assertEqual(document, after, (kind, a, b, patch))
+                self.assertTrue(same(loaded(back), loaded(a)), (kind, a, b, inverse))
+                self.assertTrue(is_as_it_stood, (kind, a, b, inverse))
                 self.assertTrue(same(jsonpatch.apply_patch(loaded(a), loaded(patch)), goal), (kind, a, b, patch))
                 self.assertEqual(patch == "[]", same(loaded(a), goal), (kind, a, b, patch))
         self.assertGreater(sum(same(*map(loaded, pair)) for pair in pairs), PAIRS / 20)
@@ -213,21 +220,29 @@ class Calls(Sql):
                                   f" FROM (SELECT '[]'::{document}, '[]'::{patch}) v (d, p)")
                 self.assertEqual(set(kinds[0]), {document})
 
-    def test_a_text_larger_than_first_room(self):
-        """The patch makes more than the room that is asked for at first."""
-        patch = json.dumps([{"op": "copy", "from": "/a", "path": f"/{number}"} for number in range(100)])
-        self.rows("SET json_patch.max_copied = '2MB'")
+    def test_texts_larger_than_first_room(self):
+        """Copies make a document, and moves an inverse, that take more than the room that is asked for at first."""
+        was = {"a": "x" * 10_000}
+        copies = [{"op": "copy", "from": "/a", "path": f"/{number}"} for number in range(100)]
+        moves = [{"op": "move", "from": f"/{way[0]}", "path": f"/{way[1]}"} for way in ("ab", "ba") * 50]
+        self.rows("SET json_patch.max_bytes = '2MB'")
         for kind in ("json", "jsonb"):
-            found = self.of(APPLY, kind, json.dumps({"a": "x" * 10_000}), patch)
-            self.assertEqual(json.loads(found), {"a": "x" * 10_000, **{str(number): "x" * 10_000 for number in range(100)}})
-        self.rows("RESET json_patch.max_copied")
+            for patch, goal, large in [(copies, {**was, **{str(number): was["a"] for number in range(100)}}, 0), (moves, was, 1)]:
+                self.assertEqual(json.loads(self.of(APPLY, kind, json.dumps(was), json.dumps(patch))), goal)
+                (*both, back), = self.rows(f"SELECT document::text, inverse::text, json_patch_apply(document, inverse)::text FROM json_patch_record(%s::{kind}, %s::jsonb)",
+                                           json.dumps(was), json.dumps(patch))
+                self.assertEqual((json.loads(both[0]), json.loads(back)), (goal, was))
+                self.assertEqual([len(text) > 1_000_000 for text in both], [large == 0, large == 1])
+        self.rows("RESET json_patch.max_bytes")
 
     def test_a_text_longer_than_a_value_holds(self):
-        """Ten times 110,000,000 bytes are more than 1 GB."""
-        patch = json.dumps([{"op": "copy", "from": "/a", "path": f"/{number}"} for number in range(9)])
-        self.rows("SET json_patch.max_copied = '2147483647B'")
-        self.assertEqual(self.fails("SELECT json_patch_apply(json_build_object('a', repeat('x', 110000000)), %s) IS NULL", patch).pgcode, "54000")
-        self.rows("RESET json_patch.max_copied")
+        """Ten times 110,000,000 bytes are more than 1 GB, in a document and in an inverse."""
+        copies = [{"op": "copy", "from": "/a", "path": f"/{number}"} for number in range(9)]
+        moves = [{"op": "move", "from": f"/{way[0]}", "path": f"/{way[1]}"} for way in ("ab", "ba") * 5]
+        self.rows("SET json_patch.max_bytes = '2147483647B'")
+        for name, patch in [(APPLY, copies), (INVERSE, moves)]:
+            self.assertEqual(self.fails(f"SELECT {name}(json_build_object('a', repeat('x', 110000000)), %s) IS NULL", json.dumps(patch)).pgcode, "54000")
+        self.rows("RESET json_patch.max_bytes")
 
     def test_the_stack(self):
         """Calls at each depth of a recursion until the stack is used up, with a document of 124 levels."""
@@ -382,7 +397,7 @@ class History(Sql):
 
     def test_a_limit_of_the_session_is_not_the_history_s(self):
         self.tracked("id int PRIMARY KEY, d jsonb")
-        self.rows("SET json_patch.max_depth = 1; SET json_patch.max_copied = 0")
+        self.rows("SET json_patch.max_depth = 1; SET json_patch.max_bytes = 0")
         self.rows("INSERT INTO t VALUES (1, '[[[1]]]'); UPDATE t SET d = '[[[1,2]]]'; DELETE FROM t")
         self.one("SELECT json_patch_undo('t', '{\"id\":1}', 1)")
         self.rows("RESET ALL")

@@ -8,12 +8,12 @@
  *     json_patch_diff(document, goal)        the patch that leads from the one to the other
  *     json_patch_check(patch)                NULL, or what is wrong with the patch
  *
- * The first four also take two limits, depth and copied, as json_patch.h has them. A NULL among the
+ * The first four also take two limits, depth and bytes, as json_patch.h has them. A NULL among the
  * arguments gives NULL. What isn't a text, or says no document or, but for json_patch_check, no patch,
  * and a patch that is refused or over the limits are errors of the statement. json_patch_apply and json_patch_merge
- * keep the text where they don't change it. All but json_patch_inverse, whose numbers are 64-bit integers,
- * take any numbers. A result depends on the arguments alone, and no call reads or writes anything else; so the
- * functions may stand in indexes, generated columns, CHECKs and triggers.
+ * keep the text where they don't change it. Numbers may be any. A result depends on the arguments alone, and no
+ * call reads or writes anything else; so the functions may stand in indexes, generated columns, CHECKs and
+ * triggers.
  *
  * In the folder of the archive, with sqlite3ext.h (Debian: libsqlite3-dev):
  *
@@ -24,6 +24,7 @@
 SQLITE_EXTENSION_INIT1
 
 #include <json_patch.h>
+#include <string.h>
 
 #ifndef SQLITE_RESULT_SUBTYPE
 #define SQLITE_RESULT_SUBTYPE 0
@@ -32,7 +33,7 @@ SQLITE_EXTENSION_INIT1
 /* What SQLite's own functions give a text that is JSON, so that they take it for a value. */
 enum { JSON_SUBTYPE = 'J' };
 
-/* Room beside as much as the texts that are handed in take: mostly that suffices. */
+/* Room beside as much as the texts that are handed in take. */
 enum { SPARE_ROOM = 64 };
 
 typedef struct {
@@ -58,39 +59,46 @@ typedef struct {
 
 /* ---- what is written */
 
+static size_t larger(size_t one, size_t other)
+{
+    return one > other ? one : other;
+}
+
 static json_patch_status write_applied(const arguments *given, char *out, size_t room,
                                        json_patch_report *report)
 {
-    return json_patch_apply_text_within(given->first.bytes, given->first.length, given->second.bytes,
-                                        given->second.length, &given->limits, out, room, report);
+    return json_patch_apply(given->first.bytes, given->first.length, given->second.bytes,
+                            given->second.length, &given->limits, out, room, report);
 }
 
 static json_patch_status write_merged(const arguments *given, char *out, size_t room,
                                       json_patch_report *report)
 {
-    return json_patch_merge_text_within(given->first.bytes, given->first.length, given->second.bytes,
-                                        given->second.length, &given->limits, out, room, report);
+    return json_patch_merge(given->first.bytes, given->first.length, given->second.bytes,
+                            given->second.length, &given->limits, out, room, report);
 }
 
 static json_patch_status write_difference(const arguments *given, char *out, size_t room,
                                           json_patch_report *report)
 {
-    return json_patch_diff_text_within(given->first.bytes, given->first.length, given->second.bytes,
-                                       given->second.length, &given->limits, out, room, report);
+    return json_patch_diff(given->first.bytes, given->first.length, given->second.bytes,
+                           given->second.length, &given->limits, out, room, report);
 }
 
+/* The new text goes to the second half of the room: nobody asks for it. */
 static json_patch_status write_inverse(const arguments *given, char *out, size_t room,
                                        json_patch_report *report)
 {
-    json_patch_document document = JSON_PATCH_DOCUMENT;
-    json_patch_status status = json_patch_open_within(&document, given->first.bytes,
-                                                      given->first.length, &given->limits, report);
-    if (status == JSON_PATCH_OK)
-        status = json_patch_update_recorded(&document, given->second.bytes, given->second.length,
-                                            out, room, report);
-    if (status == JSON_PATCH_OK)
-        status = json_patch_inverse(&document, out, room, report);
-    json_patch_close(&document);
+    size_t half = room / 2;
+    json_patch_status status = json_patch_record(
+        given->first.bytes, given->first.length, given->second.bytes, given->second.length,
+        &given->limits, out + half, half, out, half, report);
+    if (status == JSON_PATCH_REFUSED) /* the path, which is no longer than the patch's text */
+        memmove(out, out + half, report->size);
+    else if (status == JSON_PATCH_NO_ROOM)
+        report->size = 2 * larger(report->size, report->inverse_size);
+    else
+        report->size = report->inverse_size;
     return status;
 }
 
@@ -99,38 +107,10 @@ static json_patch_status write_nothing(const arguments *given, char *out, size_t
 {
     (void)out;
     (void)room;
-    return json_patch_check_text(given->first.bytes, given->first.length, report);
+    return json_patch_check(given->first.bytes, given->first.length, report);
 }
 
 /* ---- what is wrong, in words */
-
-static const char *kind_text(json_patch_kind kind)
-{
-    switch (kind) {
-    case JSON_PATCH_NOT_JSON: return "is not JSON";
-    case JSON_PATCH_NOT_WHOLE: return "holds a number that is not whole";
-    case JSON_PATCH_TEST_FAILED: return "value did not match";
-    case JSON_PATCH_INVALID_FROM_POINTER: return "\"from\" path is invalid";
-    case JSON_PATCH_INVALID_POINTER: return "path is invalid";
-    case JSON_PATCH_CANNOT_MOVE_INSIDE_ITSELF: return "cannot move the value inside itself";
-    case JSON_PATCH_TOO_DEEP: return "nests too deep";
-    case JSON_PATCH_TOO_MUCH: return "copies too much";
-    case JSON_PATCH_NOT_A_LIST: return "is not a list";
-    case JSON_PATCH_NOT_AN_OBJECT: return "is not an object";
-    case JSON_PATCH_MISSING_OP: return "member \"op\" is missing";
-    case JSON_PATCH_OP_NOT_TEXT: return "member \"op\" is not a text";
-    case JSON_PATCH_UNKNOWN_OP: return "member \"op\" is unknown";
-    case JSON_PATCH_MISSING_FROM: return "member \"from\" is missing";
-    case JSON_PATCH_FROM_NOT_TEXT: return "member \"from\" is not a text";
-    case JSON_PATCH_BAD_FROM: return "member \"from\" is not a pointer";
-    case JSON_PATCH_MISSING_PATH: return "member \"path\" is missing";
-    case JSON_PATCH_PATH_NOT_TEXT: return "member \"path\" is not a text";
-    case JSON_PATCH_BAD_PATH: return "member \"path\" is not a pointer";
-    case JSON_PATCH_MISSING_VALUE: return "member \"value\" is missing";
-    case JSON_PATCH_VALUE_NOT_WHOLE: return "member \"value\" holds a number that is not whole";
-    default: return "is wrong";
-    }
-}
 
 /* Whether the fault is of one operation of the patch, and not of the whole. */
 static int is_of_an_operation(json_patch_kind kind)
@@ -142,8 +122,8 @@ static char *fault_of_text(const char *which, const json_patch_report *report)
 {
     if (is_of_an_operation(report->kind))
         return sqlite3_mprintf("%s: operation %llu: %s", which,
-                               (sqlite3_uint64)report->operation, kind_text(report->kind));
-    return sqlite3_mprintf("%s %s", which, kind_text(report->kind));
+                               (sqlite3_uint64)report->operation, json_patch_kind_text(report->kind));
+    return sqlite3_mprintf("%s %s", which, json_patch_kind_text(report->kind));
 }
 
 /* Appends a path in visible characters, and none that ends a text: a control character, also of those
@@ -172,7 +152,7 @@ static char *refusal(const char *path, const json_patch_report *report)
     sqlite3_str_appendf(message, "operation %llu failed at path '",
                         (sqlite3_uint64)report->operation);
     append_path(message, path, report->size);
-    sqlite3_str_appendf(message, "': %s", kind_text(report->kind));
+    sqlite3_str_appendf(message, "': %s", json_patch_kind_text(report->kind));
     return sqlite3_str_finish(message);
 }
 
@@ -186,9 +166,9 @@ static char *fault(const function *of, json_patch_status status, const char *out
         return refusal(out, report);
     case JSON_PATCH_OVER:
         if (of->write == write_merged)
-            return sqlite3_mprintf("%s is over the limits: it %s", of->second, kind_text(report->kind));
+            return sqlite3_mprintf("%s is over the limits: it %s", of->second, json_patch_kind_text(report->kind));
         return sqlite3_mprintf("operation %llu is over the limits: it %s",
-                               (sqlite3_uint64)report->operation, kind_text(report->kind));
+                               (sqlite3_uint64)report->operation, json_patch_kind_text(report->kind));
     case JSON_PATCH_NO_DOCUMENT:
         return fault_of_text(of->first, report);
     case JSON_PATCH_NO_PATCH:
@@ -211,11 +191,18 @@ static void refuse(sqlite3_context *context, const function *of, char *why)
     sqlite3_free(message);
 }
 
-/* Gives the text that is written, or the reason why there is none. How much room it takes is known once
-   it is made; mostly what is asked for at first suffices. */
-static void give_written(sqlite3_context *context, const function *of, const arguments *given)
+/* Mostly this suffices. */
+static size_t first_room(const function *of, const arguments *given)
 {
     size_t room = given->first.length + given->second.length + SPARE_ROOM;
+    return of->write == write_inverse ? 2 * room : room;
+}
+
+/* Gives the text that is written, or the reason why there is none. How much room it takes is known once
+   it is made. */
+static void give_written(sqlite3_context *context, const function *of, const arguments *given)
+{
+    size_t room = first_room(of, given);
     json_patch_report report;
     json_patch_status status;
     char *out;
@@ -292,7 +279,7 @@ static int is_any_null(int count, sqlite3_value **values)
 static void run(sqlite3_context *context, int count, sqlite3_value **values)
 {
     const function *of = sqlite3_user_data(context);
-    arguments given = {{"", 0}, {"", 0}, {JSON_PATCH_MOST_LEVELS, JSON_PATCH_MOST_COPIED}};
+    arguments given = {{"", 0}, {"", 0}, JSON_PATCH_LIMITS};
     if (is_any_null(count, values))
         return;
     if (!takes_text(context, of, of->first, values[0], &given.first))
@@ -301,7 +288,7 @@ static void run(sqlite3_context *context, int count, sqlite3_value **values)
         return;
     if (count > of->texts
         && (!takes_limit(context, of, "depth", values[of->texts], &given.limits.depth)
-            || !takes_limit(context, of, "copied", values[of->texts + 1], &given.limits.copied)))
+            || !takes_limit(context, of, "bytes", values[of->texts + 1], &given.limits.bytes)))
         return;
     if (of->texts == 1)
         give_fault(context, of, &given);

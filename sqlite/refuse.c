@@ -62,6 +62,12 @@ static const char *const STATEMENTS[] = {
     "{\"op\":\"move\",\"from\":\"/a/0\",\"path\":\"/a/-\"}]')",
     "UPDATE t SET d = json_patch_merge(d, '{\"a\":null,\"c\":{\"d\":[\"e\"]}}')",
     "UPDATE t SET d = json_patch_inverse(d, '[{\"op\":\"remove\",\"path\":\"/a/0\"}]')",
+    "UPDATE t SET d = json_patch_inverse(d, '[{\"op\":\"remove\",\"path\":\"/a/0\"},{\"op\":\"remove\",\"path\":\"/none\"}]')",
+    // more than the room that is asked for at first
+    "UPDATE t SET d = json_patch_apply(d, '[{\"op\":\"copy\",\"from\":\"\",\"path\":\"/b\"},{\"op\":\"copy\",\"from\":\"\",\"path\":\"/c\"},"
+    "{\"op\":\"copy\",\"from\":\"\",\"path\":\"/d\"},{\"op\":\"copy\",\"from\":\"\",\"path\":\"/e\"}]')",
+    "UPDATE t SET d = json_patch_inverse(d, '[{\"op\":\"copy\",\"from\":\"\",\"path\":\"/b\"},{\"op\":\"copy\",\"from\":\"\",\"path\":\"/c\"},"
+    "{\"op\":\"copy\",\"from\":\"\",\"path\":\"/d\"},{\"op\":\"copy\",\"from\":\"\",\"path\":\"/e\"}]')",
     "UPDATE t SET d = json_patch_diff(d, '{\"a\":[1,3,\"xx\"],\"b\":{}}')",
     "UPDATE t SET d = coalesce(json_patch_check('[{\"op\":\"add\",\"path\":\"/b\",\"value\":[{}]}]'), d || ' ')",
     "UPDATE t SET d = json_patch_check('[{\"op\":\"add\",\"path\":\"b\",\"value\":[{}]}]')",

@@ -28,8 +28,8 @@ DIFF = "json_patch_diff"
 CHANGES = 10_000
 ROWS, WRONG_ROW = 100_000, 50_000
 THREADS, EACH = 4, 200
-# of c/cases.json: a number of the document, or of a patch's value, isn't whole
-NOT_WHOLE, VALUE_NOT_WHOLE = 2, 23
+# of c/cases.json: a number of the document, or of a patch's value, isn't whole, or is past a float's range
+NUMBERS_OF_KEPT = (2, 10, 23)
 
 
 def opened(path=":memory:"):
@@ -64,12 +64,12 @@ class Calls(Sql):
         for call, document, patch, status, operation, kind, written in json.loads((TOP / "c/cases.json").read_text()):
             counts[call, status] = counts.get((call, status), 0) + 1
             name = {"apply": APPLY, "merge": MERGE, "record": INVERSE}.get(call)
-            if name is None or (name != INVERSE and kind in (NOT_WHOLE, VALUE_NOT_WHOLE)):
+            if name is None or kind in NUMBERS_OF_KEPT:
                 continue
             if status == 0:
-                if written is not None:
-                    found = self.of(name, document, patch)
-                    self.assertEqual(json.loads(written)[1] if call == "record" else json.loads(written), json.loads(found))
+                found = self.of(name, document, patch)
+                # of `record` an array of the new text and the inverse
+                self.assertEqual(f"[{self.of(APPLY, document, patch)},{found}]" if name == INVERSE else found, written)
                 continue
             with self.assertRaises(sqlite3.OperationalError) as caught:
                 self.of(name, document, patch)
@@ -86,6 +86,7 @@ class Calls(Sql):
             ("operation 0 failed at path '/a/b': cannot move the value inside itself", {"a": {}}, {"op": "move", "from": "/a", "path": "/a/b"}),
         ]:
             self.assertFails(told, APPLY, json.dumps(document), json.dumps([operation]))
+            self.assertFails(told, INVERSE, json.dumps(document), json.dumps([operation]))
         self.assertFails("operation 1 failed at path '/\u00e9': path is invalid", INVERSE, "{}", '[{"op":"add","path":"/a","value":1},{"op":"remove","path":"/\\u00e9"}]')
 
     def test_paths_in_visible_characters(self):
@@ -99,10 +100,12 @@ class Calls(Sql):
         self.assertFails("operation 0 failed at path '/a\\u0000b': value did not match", INVERSE, '{"a\\u0000b":1}', '[{"op":"test","path":"/a\\u0000b","value":2}]')
 
     def test_what_is_no_document_or_patch(self):
-        self.assertFails("document is not JSON", APPLY, "{", "[]")
-        self.assertFails("document holds a number that is not whole", INVERSE, "[1.5]", "[]")
+        for name in (APPLY, INVERSE, MERGE, DIFF):
+            self.assertFails("document is not JSON", name, "{", "[]")
+            self.assertFails("document holds an unpaired surrogate", name, '["\\ud800"]', "[]")
         self.assertFails("document nests too deep", APPLY, "[" * 125 + "]" * 125, "[]")
         self.assertFails("patch is not JSON", APPLY, "{}", "[")
+        self.assertFails("patch holds an unpaired surrogate", INVERSE, "{}", '["\\ud800"]')
         self.assertFails("patch is not a list", APPLY, "{}", "{}")
         self.assertFails("patch: operation 1: member \"op\" is missing", APPLY, "1", '[{"op":"test","path":"","value":1},{}]')
         self.assertFails("merge patch is not JSON", MERGE, "{}", "")
@@ -148,6 +151,33 @@ class Calls(Sql):
         self.assertEqual(self.of(APPLY, d, self.of(DIFF, d, e)), '{"price": 1.50, "large": 1e400, "was": [0.1, 2.50, 7]}')
         self.assertEqual(self.of(APPLY, e, self.of(DIFF, e, d)), '{"large": 10e399, "price": 1.5, "was": [0.1, 7]}')
 
+    def test_inverses_of_any_numbers(self):
+        """What was there comes back as it was written, such as a price."""
+        d = '{ "price": 12.50, "stock": 5, "tags": [ 1e400, "new" ], "was": -0 }'
+        for operations in (
+            [{"op": "test", "path": "/price", "value": 12.5}, {"op": "replace", "path": "/price", "value": 9.9}],
+            [{"op": "replace", "path": "/price", "value": 9.9}, {"op": "replace", "path": "/tags/0", "value": 1.5}],
+            [{"op": "remove", "path": "/was"}, {"op": "add", "path": "/was", "value": 0.25}],
+            [{"op": "copy", "from": "/tags", "path": "/more"}, {"op": "move", "from": "/tags/0", "path": "/tags/1"}],
+        ):
+            patch = json.dumps(operations)
+            inverse = self.of(INVERSE, d, patch)
+            after = self.of(APPLY, self.of(APPLY, d, patch), inverse)
+            self.assertEqual(re.findall(r"12\.50|1e400|-0", after), ["12.50", "1e400", "-0"], (operations, inverse))
+            self.assertEqual(self.of(DIFF, d, after), "[]")
+        self.assertEqual(self.of(INVERSE, d, '[{"op":"replace","path":"/price","value":9.90}]'), '[{"op":"replace","path":"/price","value":12.50}]')
+
+    def test_inverses_larger_than_first_room(self):
+        """By far, as is the new text, or the inverse alone, where an element is moved again and again."""
+        patch = json.dumps([{"op": "copy", "from": "/a", "path": f"/{number}"} for number in range(100)])
+        found = json.loads(self.of(INVERSE, json.dumps({"a": "x" * 10_000}), patch, 124, 2_000_000))
+        self.assertEqual(found, [{"op": "remove", "path": f"/{number}"} for number in reversed(range(100))])
+        moves = [{"op": "move", "from": "/0", "path": "/1"}] * 30
+        document = json.dumps(["x" * 10_000, 1])
+        found = self.of(INVERSE, document, json.dumps(moves))
+        self.assertGreater(len(found), 30 * 5_000)
+        self.assertSays(json.loads(document), self.of(APPLY, document, found))
+
     def test_a_result_is_json_to_sqlite(self):
         found = self.database.execute("SELECT json_array(json_patch_apply('[]', '[]'), '[]')").fetchone()[0]
         self.assertEqual(found, '[[],"[]"]')
@@ -177,18 +207,24 @@ class Calls(Sql):
         # the text has 104 bytes, the patch 39, and the copy leaves 104 + 103 = 207
         long, twice = json.dumps(["x" * 100]), '[{"op":"copy","from":"/0","path":"/0"}]'
         self.assertEqual(self.of(APPLY, long, twice, 124, 64), '["' + "x" * 100 + '","' + "x" * 100 + '"]')
-        self.assertFails("operation 0 is over the limits: it copies too much", APPLY, long, twice, 124, 63)
-        # there each value and each byte of a string counts
-        self.assertSays(["x"], self.of(APPLY, '["x","x"]', self.of(INVERSE, '["x"]', twice, 1, 2)))
-        self.assertFails("operation 0 is over the limits: it copies too much", INVERSE, '["x"]', twice, 1, 1)
+        self.assertFails("operation 0 is over the limits: it leaves too much", APPLY, long, twice, 124, 63)
+        self.assertEqual(self.of(INVERSE, long, twice, 124, 64), '[{"op":"remove","path":"/0"}]')
+        self.assertFails("operation 0 is over the limits: it leaves too much", INVERSE, long, twice, 124, 63)
+        # nor may the inverse be longer, which holds what a move displaces
+        moves = json.dumps([{"op": "move", "from": "/0", "path": "/0"}] * 9)
+        inverse = self.of(INVERSE, long, moves)
+        spare = len(inverse) - len(long) - len(moves)
+        self.assertEqual(self.of(INVERSE, long, moves, 124, spare), inverse)
+        self.assertFails("operation 8 is over the limits: it leaves too much", INVERSE, long, moves, 124, spare - 1)
+        self.assertEqual(self.of(APPLY, long, moves, 124, 0), long)
         self.assertFails("document nests too deep", APPLY, "[[]]", "[]", 1, 1)
         self.assertFails("depth is not a whole number from 0 on", APPLY, "[]", "[]", -1, 1)
-        self.assertFails("copied is not a whole number from 0 on", APPLY, "[]", "[]", 1, "1")
+        self.assertFails("bytes is not a whole number from 0 on", APPLY, "[]", "[]", 1, "1")
         self.assertFails("merge patch nests too deep", MERGE, "[]", "[[]]", 1, 1)
         self.assertFails("goal nests too deep", DIFF, "[]", "[[]]", 1, 1)
         # 9 bytes and 7 are merged to 17
         self.assertEqual(self.of(MERGE, '{ "a": 1}', '{"b":2}', 1, 1), '{ "a": 1, "b": 2}')
-        self.assertFails("merge patch is over the limits: it copies too much", MERGE, '{ "a": 1}', '{"b":2}', 1, 0)
+        self.assertFails("merge patch is over the limits: it leaves too much", MERGE, '{ "a": 1}', '{"b":2}', 1, 0)
 
     def test_whitespace_does_not_multiply(self):
         """New members beside one with much whitespace; an undo that would take it over again and again."""
@@ -203,11 +239,10 @@ class Calls(Sql):
         nest = json.dumps([{"op": "copy", "from": "", "path": "/a" * 2**number} for number in range(12)])
         self.assertFails("operation 6 is over the limits: it nests too deep", APPLY, '{"a":0}', nest)
         double = json.dumps([{"op": "copy", "from": "", "path": f"/{number}"} for number in range(60)])
-        # before the 17th, counted from 0, 262,245 are copied, its names among them; it copies 262,270
-        self.assertFails("operation 17 is over the limits: it copies too much", INVERSE, "{}", double)
         # a text of n bytes comes to 2n + 4, and one more for a comma; before the 16th it has 426,042,
         # with the longer names; twice that is more than 500,000, the 2,570 of the patch and 2
-        self.assertFails("operation 16 is over the limits: it copies too much", APPLY, "{}", double)
+        for name in (APPLY, INVERSE):
+            self.assertFails("operation 16 is over the limits: it leaves too much", name, "{}", double)
         self.assertFails("document nests too deep", APPLY, "[" * 1_000_000, "[]")
 
     def test_a_text_larger_than_first_room(self):

@@ -23,6 +23,7 @@ SELECT told($$SELECT json_patch_inverse('{}'::json, '[{"op":"test","path":"","va
 SELECT told($$SELECT json_patch_apply('"\ud800"'::json, '[]')$$);
 SELECT told($$SELECT json_patch_diff('1'::json, '"\ud800"')$$);
 SELECT told($$SELECT json_patch_merge('1'::json, '"\ud800"')$$);
+SELECT told($$SELECT json_patch_inverse('1'::json, '[{"op":"add","path":"","value":"\ud800"}]')$$);
 SELECT told($$SELECT json_patch_apply('{}'::jsonb, '{}')$$);
 SELECT told($$SELECT json_patch_apply('{}'::jsonb, '[{"op":"test","path":"","value":{}},{"op":"add","path":"/a"}]')$$);
 SELECT told($$SELECT json_patch_value('{}'::jsonb, 'a')$$);
@@ -32,21 +33,27 @@ SELECT told($$SELECT json_patch_apply('[]'::jsonb, '[{"op":"copy","from":"","pat
 SELECT told($$SELECT json_patch_apply('[[]]'::jsonb, '[]')$$);
 SELECT told($$SELECT json_patch_merge('[]'::jsonb, '[[]]')$$);
 SELECT told($$SELECT json_patch_diff('[]'::jsonb, '[[]]')$$);
+SELECT told($$SELECT json_patch_value('[[]]'::jsonb, '/0')$$);
 SELECT told($$SELECT json_patch_inverse('[]'::jsonb, '[{"op":"copy","from":"","path":"/0"}]')$$);
 RESET json_patch.max_depth;
 SELECT told($$SELECT json_patch_apply((repeat('[', 125) || repeat(']', 125))::jsonb, '[]')$$);
 -- the text has 104 bytes, the patch 39, and the copy leaves 104 + 103 = 207
-SET json_patch.max_copied = '64B';
+SET json_patch.max_bytes = '64B';
 SELECT told($$SELECT json_patch_apply(('["' || repeat('x', 100) || '"]')::json, '[{"op":"copy","from":"/0","path":"/0"}]')$$);
-SET json_patch.max_copied = '63B';
+SET json_patch.max_bytes = '63B';
 SELECT told($$SELECT json_patch_apply(('["' || repeat('x', 100) || '"]')::json, '[{"op":"copy","from":"/0","path":"/0"}]')$$);
 -- 9 bytes and 7 are merged to 17
-SET json_patch.max_copied = 1;
+SET json_patch.max_bytes = 1;
 SELECT told($$SELECT json_patch_merge('{ "a": 1}'::json, '{"b":2}')$$);
-SET json_patch.max_copied = 0;
+SET json_patch.max_bytes = 0;
 SELECT told($$SELECT json_patch_merge('{ "a": 1}'::json, '{"b":2}')$$);
-RESET json_patch.max_copied;
-SHOW json_patch.max_copied;
+-- the text has 108 bytes, the patch 77, and the inverse, in which the string stands twice, 329
+SET json_patch.max_bytes = 144;
+SELECT told($$SELECT json_patch_inverse(('{"a":"' || repeat('x', 100) || '"}')::json, '[{"op":"move","from":"/a","path":"/b"},{"op":"move","from":"/b","path":"/a"}]')$$);
+SET json_patch.max_bytes = 143;
+SELECT told($$SELECT json_patch_inverse(('{"a":"' || repeat('x', 100) || '"}')::json, '[{"op":"move","from":"/a","path":"/b"},{"op":"move","from":"/b","path":"/a"}]')$$);
+RESET json_patch.max_bytes;
+SHOW json_patch.max_bytes;
 SET json_patch.max_depth = 125;
 -- copies into themselves, doubled again and again: the depth is reached at 64, and 2 ^ 7 is more than 124
 SELECT told($$SELECT json_patch_apply('{"a":0}'::jsonb, (SELECT jsonb_agg(jsonb_build_object('op', 'copy', 'from', '', 'path', repeat('/a', (2 ^ n)::int)) ORDER BY n) FROM generate_series(0, 11) n))$$);

@@ -57,6 +57,9 @@ SELECT json_patch_apply('{ "b": 1, "a": 2 }'::json, '[{"op":"remove","path":"/a"
 SELECT json_patch_apply('{"price": 1.50, "n": 1}'::jsonb, '[{"op":"test","path":"/price","value":1.5},{"op":"replace","path":"/n","value":2.500}]');
 SELECT json_patch_diff('{"price": 1.50}'::jsonb, '{"price": 1.5}'), json_patch_diff('[18446744073709551616]'::json, '[18446744073709551617]');
 SELECT json_patch_diff('{"price": 1.50, "large": 1e400, "was": [0.1, 7]}'::json, '{"large": 10e399, "price": 1.5, "was": [0.1, 2.50, 7]}');
+-- what an operation displaced comes back with the bytes that it had
+SELECT document, inverse, json_patch_apply(document, inverse) FROM json_patch_record('{ "price": 1.50, "large": 1e400 }'::json, '[{"op":"replace","path":"/price","value":2.00},{"op":"remove","path":"/large"}]');
+SELECT document, inverse, json_patch_apply(document, inverse), json_patch_inverse('{"price": 1.50}'::jsonb, '[]') FROM json_patch_record('{"price": 1.50, "t": [0.10, true]}'::jsonb, '[{"op":"replace","path":"/price","value":2},{"op":"remove","path":"/t"}]');
 -- both at once; the shape of a patch; a list of patches
 SELECT * FROM json_patch_record('{"a":[1,2],"s":"\",[{"}'::jsonb, '[{"op":"remove","path":"/a/0"},{"op":"add","path":"/b","value":5}]');
 SELECT json_patch_check(patch), json_patch_is_valid(patch) FROM (VALUES ('[]'::jsonb), ('[{"op":"test","path":"","value":1.5}]'), ('{}'), ('[1]'), ('[{"op":"remove","path":"/a"},{"op":"remove","path":"a"}]')) v (patch);

@@ -7,8 +7,10 @@ import copy
 import inspect
 import json
 import random
+import re
 import sys
 import unittest
+from decimal import Decimal
 from pathlib import Path
 
 import json_patch
@@ -16,10 +18,13 @@ import jsonpatch
 import jsonpointer
 
 sys.path.append(str(Path(__file__).resolve().parents[2] / "diff"))
+import cases  # noqa: E402
 import classes  # noqa: E402
 from cases import Cases  # noqa: E402
 from model import same  # noqa: E402
 
+# to those of diff/ come numbers with a fraction, of which none is equal to a whole one
+cases.ATOMS += [0.5, 1.5, -0.1, 1 / 3, 2.5e-9, 5e-324, 12.25]
 COUNT = 2_000
 EXCEPTIONS = {
     name: getattr(jsonpatch, name)
@@ -155,6 +160,25 @@ class Patches(unittest.TestCase):
             return isinstance(ours, json_patch.JsonPatchConflict)
         return is_one_of_theirs(ours, theirs)
 
+    def test_objects(self):
+        """What is made of a copy is equal, and so is the order of its members, where none is moved to its own place."""
+        compared = refused = 0
+        for document, patch in self.cases:
+            held = json.dumps([document, patch])
+            ours, our_error = outcome(lambda: json_patch.apply_patch(document, patch))
+            self.assertEqual(json.dumps([document, patch]), held)
+            theirs, their_error = outcome(lambda: jsonpatch.apply_patch(document, copy.deepcopy(patch)))
+            with self.subTest(document=document, patch=patch):
+                if our_error and their_error:
+                    refused += 1
+                elif not our_error and not their_error and same(ours, theirs):
+                    if all(operation.get("from") != operation["path"] for operation in patch):
+                        compared += 1
+                        self.assertEqual(json.dumps(ours), json.dumps(theirs))
+                    self.assertTrue(same(json_patch.record_patch(document, patch)[0], ours))
+                    self.assertTrue(same(json_patch.apply_patch(document, json.dumps(patch)), ours))
+        self.assertGreater(min(compared, refused), COUNT / 10)
+
     def test_in_place(self):
         compared = 0
         for document, patch in self.cases:
@@ -171,6 +195,46 @@ class Patches(unittest.TestCase):
                         self.assertTrue(same(one, two), (one, two))
                     self.assertEqual(ours is mine, theirs is other)
         self.assertGreater(compared, COUNT / 10)
+
+
+class Numbers(unittest.TestCase):
+    def test_equal_numbers(self):
+        """They compare binary fractions, and here what is written is compared."""
+        for value, wanted, theirs, ours in (
+            (1.0, 1, True, True), (0.1, 0.1, True, True), (-0.0, 0, True, True), (0.1, 0.1 + 2**-50, False, False), (1.5, "1.5", False, False),
+            (True, 1, True, False), (1e23, 10**23, False, True), (1e23, int(1e23), True, False),
+        ):
+            patch = [{"op": "test", "path": "/a", "value": wanted}]
+            for package, accepts in ((jsonpatch, theirs), (json_patch, ours)):
+                for in_place in (False, True):
+                    _, error = outcome(lambda: package.apply_patch({"a": value}, patch, in_place=in_place))
+                    self.assertIsInstance(error, type(None) if accepts else package.JsonPatchTestFailed, (value, wanted))
+
+    def test_decimals(self):
+        """There they stand in documents as all else does, and here the caller's functions write and read them."""
+        read = lambda text: json.loads(text, parse_float=Decimal)
+        code = {"dumps": lambda value: re.sub(r'"D([^"]*)"', r"\1", json.dumps(value, default="D{}".format)), "loads": read}
+        document = {"price": Decimal("2.10"), "list": [Decimal("0.1"), 7]}
+        for text in (
+            '[{"op": "replace", "path": "/price", "value": 1.50}, {"op": "add", "path": "/list/-", "value": [2.0]}]',
+            '[{"op": "test", "path": "/price", "value": 2.1}, {"op": "move", "from": "/list/0", "path": "/was"}]',
+            '[{"op": "copy", "from": "/price", "path": "/list/0"}, {"op": "remove", "path": "/price"}]',
+        ):
+            wanted = jsonpatch.JsonPatch.from_string(text, loads=read).apply(document)
+            made = json_patch.JsonPatch.from_string(text, loads=read)
+            for found in (
+                json_patch.apply_patch(document, text, **code), made.apply(document, **code), made.record(document, **code)[0],
+                made.apply(copy.deepcopy(document), True, **code), json_patch.apply_patch(copy.deepcopy(document), text, True, **code),
+            ):
+                self.assertEqual(repr(found), repr(wanted))
+            self.assertEqual(json_patch.make_patch(document, wanted, **code).apply(document, **code), wanted)
+
+    def test_a_move_to_its_own_place(self):
+        """There the member stays, and here it comes last, but in place."""
+        patch = [{"op": "move", "from": "/a", "path": "/a"}]
+        self.assertEqual(list(jsonpatch.apply_patch({"a": 1, "b": 2}, patch)), ["a", "b"])
+        self.assertEqual(list(json_patch.apply_patch({"a": 1, "b": 2}, patch)), ["b", "a"])
+        self.assertEqual(list(json_patch.apply_patch({"a": 1, "b": 2}, patch, in_place=True)), ["a", "b"])
 
 
 class Differences(unittest.TestCase):

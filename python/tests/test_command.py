@@ -67,7 +67,10 @@ class Command(unittest.TestCase):
         self.assertDoes("json-patch apply --indent 1 half.json p.json", '{\n "a": 1.50,\n "c": 1.50\n}\n')
         self.write("half.json", '{"a": 1.50}')
         self.assertDoes("json-patch get --indent 1 half.json ''", '{\n "a": 1.50\n}\n')
-        self.assertEnds(2, "half.json: NotWhole", "json-patch record half.json p.json i")
+        self.write("p.json", '[{"op": "test", "path": "/a", "value": 15e-1}, {"op": "replace", "path": "/a", "value": 2.25}]')
+        self.assertDoes("json-patch record half.json p.json i; echo; cat i", '{"a": 2.25}\n[{"op":"replace","path":"/a","value":1.50}]\n')
+        self.assertDoes("json-patch record -i half.json p.json i; json-patch apply half.json i", '{"a": 1.50}')
+        self.write("half.json", '{"a": 1.50}')
         self.write("m.json", '{"b": 1e400, "a": 15e-1}')
         self.assertDoes("json-patch merge half.json m.json", '{"a": 1.50,"b": 1e400}')
 
@@ -80,6 +83,10 @@ class Command(unittest.TestCase):
         self.assertDoes("json-patch record d.json p.json inverse.json", PATCHED)
         self.assertEqual(json.loads(self.text("inverse.json")), INVERSE)
         self.assertDoes("json-patch record -i d.json p.json inverse.json && json-patch apply d.json inverse.json", '{ "b": [1,2], "a": "\\u00e9" }')
+        # what was displaced has the bytes that it had
+        self.write("d.json", DOCUMENT)
+        self.write("all.json", '[{"op": "replace", "path": "", "value": 1e400}]')
+        self.assertDoes("json-patch record d.json all.json i && json-patch apply i <<< '[{\"op\":\"remove\",\"path\":\"/0/op\"}]'", f'1e400[{{"path":"","value":{DOCUMENT}}}]\n')
         self.write("d.json", DOCUMENT)
         self.assertDoes("json-patch record --indent 0 d.json p.json i | tr -d ' \\n'; echo", PATCHED.replace(" ", "") + "\n")
 
@@ -115,7 +122,7 @@ class Command(unittest.TestCase):
             ("d.json: TooDeep", "--limit-depth 1 - d.json <<< 1"),
         ):
             self.assertEnds(2, told, f"json-patch diff {arguments}")
-        for arguments in ("", "- -", "-", "d.json --limit-copies 1", "d.json p.json -i"):
+        for arguments in ("", "- -", "-", "d.json --limit-bytes 1", "d.json p.json -i"):
             written, _, status = self.run_lines(f"json-patch diff {arguments} < d.json")
             self.assertEqual((written, status), ("", 64), arguments)
 
@@ -172,7 +179,7 @@ class Command(unittest.TestCase):
         self.write("line\nfeed", "7")
         for told, arguments in (
             ("none: No such file or directory", "apply none p.json"), (".: Is a directory", "apply d.json ."),
-            ("bad: NotJson", "apply bad p.json"), ("half: NotWhole", "record half p.json i"),
+            ("bad: NotJson", "apply bad p.json"), ("bad: NotJson", "record bad p.json i"), ("half: operation 0: NotAnObject", "record d.json half i"),
             ("bad: NotJson", "apply d.json bad"), ("half: operation 0: NotAnObject", "apply d.json half"),
             ("'line\\nfeed': NotAList", "apply d.json line*"), ("bad: NotJson", "merge --indent 1 d.json bad"),
             ("d.json: NotAList", "record d.json d.json i"), ("bad: NotJson", "get bad /a"), ("half: operation 0: NotAnObject", "check half"),
@@ -182,27 +189,38 @@ class Command(unittest.TestCase):
     def test_limits(self):
         self.write("p.json", '[{"op": "test", "path": "/b/0", "value": 1}, {"op": "copy", "from": "/b", "path": "/b/-"}]')
         made = '{ "b": [1, 2, [1, 2]], "a": "\\u00e9" }'
-        # the copy reaches two tokens and a level, and counts its list and two numbers
-        self.assertDoes("json-patch apply --limit-depth 3 --limit-copies 3 d.json p.json", made)
-        self.assertDoes("json-patch record --limit-depth=3 --limit-copies=3 d.json p.json i", made)
+        self.assertDoes("json-patch apply --limit-depth 3 --limit-bytes 0 d.json p.json", made)
+        self.assertDoes("json-patch record --limit-depth=3 --limit-bytes=0 d.json p.json i", made)
         for options in ("", "-i", "-ib"):
             self.assertEnds(1, 'p.json: operation 1: path "/b/-": TooDeep', f"json-patch apply {options} --limit-depth 2 d.json p.json")
-        (self.folder / "i").unlink()
-        self.assertEnds(1, 'p.json: operation 1: path "/b/-": TooMuch', "json-patch record -i --limit-copies 2 d.json p.json i")
-        self.assertFalse((self.folder / "i").exists())
+            self.assertEnds(1, 'p.json: operation 1: path "/b/-": TooDeep', f"json-patch record {options} --limit-depth 2 d.json p.json j")
+        self.assertFalse((self.folder / "j").exists())
         # the document has 104 bytes, the patch 39, and the copy leaves 207
         self.write("long.json", json.dumps(["x" * 100]))
         self.write("p.json", '[{"op":"copy","from":"/0","path":"/0"}]')
-        self.assertDoes("json-patch apply --limit-copies 64 long.json p.json | wc -c", "207\n")
-        self.assertEnds(1, 'p.json: operation 0: path "/0": TooMuch', "json-patch apply --limit-copies 63 long.json p.json")
+        self.assertDoes("json-patch apply --limit-bytes 64 long.json p.json | wc -c", "207\n")
+        self.assertDoes("json-patch record --limit-bytes 64 long.json p.json i | wc -c; cat i", '207\n[{"op":"remove","path":"/0"}]\n')
+        for command in ("apply --limit-bytes 63 long.json p.json", "record --limit-bytes 63 long.json p.json j", "record -i --limit-bytes 63 long.json p.json j"):
+            self.assertEnds(1, 'p.json: operation 0: path "/0": TooMuch', f"json-patch {command}")
+        # nor may the inverse be longer, which holds what each operation displaces
+        self.write("moves.json", json.dumps([{"op": "move", "from": "/0", "path": "/0"}] * 9))
+        sizes, _, status = self.run_lines("json-patch record long.json moves.json i > made; cmp made long.json && cat i | wc -c; cat long.json moves.json | wc -c")
+        inverse, both = map(int, sizes.split())
+        spare = inverse - 1 - both
+        self.assertGreater(spare, 0)
+        self.assertDoes(f"json-patch record --limit-bytes {spare} long.json moves.json i | cmp - long.json")
+        for options in ("", "-i"):
+            self.assertEnds(1, 'moves.json: operation 8: path "/0": TooMuch', f"json-patch record {options} --limit-bytes {spare - 1} long.json moves.json j")
+        self.assertDoes("json-patch apply --limit-bytes 0 long.json moves.json | cmp - long.json")
+        self.assertFalse((self.folder / "j").exists())
         self.write("m.json", '{"b": {"c": [1]}}')
         self.assertDoes("json-patch merge --limit-depth 3 d.json m.json", '{ "b": {"c": [1]}, "a": "\\u00e9" }')
         self.assertEnds(2, "m.json: TooDeep", "json-patch merge --limit-depth 2 d.json m.json")
         # 9 bytes and 7 are merged to 17
         self.write("two.json", '{ "a": 1}')
         self.write("add.json", '{"b":2}')
-        self.assertDoes("json-patch merge --limit-copies 1 two.json add.json", '{ "a": 1, "b": 2}')
-        self.assertEnds(1, "add.json: TooMuch", "json-patch merge --limit-copies 0 two.json add.json")
+        self.assertDoes("json-patch merge --limit-bytes 1 two.json add.json", '{ "a": 1, "b": 2}')
+        self.assertEnds(1, "add.json: TooMuch", "json-patch merge --limit-bytes 0 two.json add.json")
         for command in ("apply", "merge"):
             self.assertEnds(2, "d.json: TooDeep", f"json-patch {command} --limit-depth 1 d.json m.json")
 
@@ -231,8 +249,8 @@ class Command(unittest.TestCase):
             "", "spam", "apply", "get d.json", "apply - -", "apply -", "apply -i - p.json", "apply -b d.json p.json", "apply --indent x d.json p.json",
             "apply --indent -1 d.json p.json", "record d.json p.json", "record d.json p.json d.json", "record d.json p.json ./p.json",
             "record d.json p.json -", "check a b", "apply --spam d.json p.json", "apply --limit-depth 125 d.json p.json",
-            "apply --limit-depth -1 d.json p.json", "merge --limit-copies x d.json p.json", "record --limit-copies 1.5 d.json p.json i",
-            "get --limit-depth 3 d.json /b", f"apply --limit-depth {'9' * 5000} d.json p.json", "apply --limit-copies \u0664 d.json p.json",
+            "apply --limit-depth -1 d.json p.json", "merge --limit-bytes x d.json p.json", "record --limit-bytes 1.5 d.json p.json i",
+            "get --limit-depth 3 d.json /b", f"apply --limit-depth {'9' * 5000} d.json p.json", "apply --limit-bytes \u0664 d.json p.json",
         ):
             written, told, status = self.run_lines(f"json-patch {arguments} < p.json")
             self.assertEqual((written, told.count("\n"), status), ("", 1, 64), (arguments, told))
@@ -317,7 +335,7 @@ class Command(unittest.TestCase):
         self.assertDoes("json-patch --version", f"json-patch {json_patch.__version__}\n")
         written, told, status = self.run_lines("json-patch --help && json-patch apply --help && COLUMNS=40 json-patch -h")
         self.assertEqual((told, status), ("", 0))
-        for word in ("apply", "merge", "record", "get", "check", "--in-place", "--backup", "--indent", "--limit-depth", "--limit-copies", "exit status"):
+        for word in ("apply", "merge", "record", "get", "check", "--in-place", "--backup", "--indent", "--limit-depth", "--limit-bytes", "exit status"):
             self.assertIn(word, written)
         for arguments in ("--help", "--version", "apply --help"):
             self.assertEnds(4, "standard output: No space left on device", f"json-patch {arguments} > /dev/full")
@@ -326,7 +344,7 @@ class Command(unittest.TestCase):
     def test_memory(self):
         self.write("d.json", "[1]")
         self.write("p.json", json.dumps([{"op": "copy", "from": "", "path": "/-"}] * 40))
-        written, told, status = self.run_lines("ulimit -v 200000; json-patch apply -i --limit-copies 9999999999 d.json p.json")
+        written, told, status = self.run_lines("ulimit -v 200000; json-patch apply -i --limit-bytes 9999999999 d.json p.json")
         self.assertEqual((written, told, status), ("", "json-patch: out of memory\n", 3))
         self.assertEqual(self.text("d.json"), "[1]")
 

@@ -7,7 +7,7 @@ import unittest
 from json_patch import (
     Document, InvalidJsonPatch, JsonPatch, JsonPatchException, JsonPointer, Limits, NumberNotWhole, TooDeep, apply_patch, make_patch,
 )
-from support import NOT_WHOLE, ROWS, holding_itself, nested, on_another_thread, on_each_stack
+from support import NO_NUMBERS, NOT_WHOLE, PAST_FLOATS, ROWS, holding_itself, nested, on_another_thread, on_each_stack
 
 STAYS = "a text that is long enough to stay"
 
@@ -25,17 +25,26 @@ def text_of(document):
     return json.dumps(document, sort_keys=True)
 
 
+def size(patch):
+    """Of its text, as the library writes it."""
+    return len(json.dumps(patch.patch, ensure_ascii=False, separators=(",", ":")).encode())
+
+
 class Differences(unittest.TestCase):
     def assertLeads(self, src, dst):
-        """Each call makes the same patch, and it leads there. What it is made of stays."""
+        """Each call makes a patch that leads there. What it is made of stays."""
         held = json.dumps([src, dst])
         patch = make_patch(src, dst)
         self.assertEqual(JsonPatch.from_diff(src, dst), patch)
         self.assertEqual(text_of(patch.apply(src)), text_of(dst))
         self.assertEqual(bool(patch), text_of(src) != text_of(dst))
         with Document(src) as kept, Document(dst) as goal:
-            self.assertEqual(kept.diff(dst), patch)
-            self.assertEqual(kept.diff(goal), patch)
+            # it may be another where lengths decide: there one number is as long as any other
+            of_kept = kept.diff(dst)
+            self.assertEqual(kept.diff(goal), of_kept)
+            self.assertEqual((bool(of_kept), text_of(of_kept.apply(src))), (bool(patch), text_of(dst)))
+            whole = JsonPatch([{"op": "replace", "path": "", "value": dst}])
+            self.assertLessEqual(size(of_kept), size(whole))
             kept.apply(patch)
             self.assertEqual((text_of(kept.get()), text_of(goal.get())), (text_of(dst), text_of(dst)))
             self.assertEqual(list(kept.diff(goal)), [])
@@ -79,14 +88,15 @@ class Differences(unittest.TestCase):
             self.assertEqual(made(most[0], most[1] - 1, beside, parent), ["remove"] * 9 + ["replace"] * 2, parent)
 
     def test_parameters(self):
-        """The library compares, and writes the paths, whatever the functions of the caller."""
+        """The library compares, and writes the paths."""
         def unasked(*_):
             raise AssertionError
 
         wanted = make_patch([0, STAYS], [1, STAYS])
-        self.assertEqual(JsonPatch.from_diff([0, STAYS], [1, STAYS], False, unasked, unasked), wanted)
-        self.assertEqual(JsonPatch.from_diff([0, STAYS], [1, STAYS], optimization=True, dumps=unasked, pointer_cls=JsonPointer), wanted)
+        self.assertEqual(JsonPatch.from_diff([0, STAYS], [1, STAYS], False, json.dumps, unasked), wanted)
+        self.assertEqual(JsonPatch.from_diff([0, STAYS], [1, STAYS], optimization=True, dumps=json.dumps, pointer_cls=JsonPointer), wanted)
         self.assertEqual(make_patch([0, STAYS], [1, STAYS], pointer_cls=unasked), wanted)
+        self.assertEqual(list(make_patch([0, STAYS], [1, STAYS], dumps=lambda document: "[7]")), [])
 
     def test_subclasses(self):
         class Own(JsonPatch):
@@ -183,17 +193,29 @@ class Differences(unittest.TestCase):
     def test_refused(self):
         """A document is refused as one, whichever of the two it is."""
         for number in NOT_WHOLE:
-            for call in (lambda: make_patch(number, 1), lambda: make_patch({}, [number]), lambda: Document({}).diff(number)):
-                with self.assertRaises(NumberNotWhole) as caught:
-                    call()
-                self.assertNotIsInstance(caught.exception, InvalidJsonPatch)
-                self.assertEqual(str(caught.exception), "document: NotWhole")
-        for text in ("\ud800", 10**400):
-            for call in (lambda: make_patch(text, 1), lambda: make_patch({}, [text]), lambda: Document({}).diff(text)):
-                with self.assertRaises(JsonPatchException) as caught:
-                    call()
-                self.assertNotIsInstance(caught.exception, InvalidJsonPatch)
-                self.assertEqual(caught.exception.kind, "NotJson")
+            self.assertToldOfDocument("NotWhole", lambda: Document({}).diff(number), lambda: Document({}).diff([number]))
+        for number in PAST_FLOATS:
+            self.assertToldOfDocument("NumberOutOfRange", lambda: Document({}).diff(number), lambda: Document({}).diff([number]))
+        for value, kind in (("\ud800", "UnpairedSurrogate"), *((number, "NotJson") for number in NO_NUMBERS)):
+            self.assertToldOfDocument(kind, lambda: make_patch(value, 1), lambda: make_patch({}, [value]), lambda: Document({}).diff(value))
+
+    def assertToldOfDocument(self, kind, *calls):
+        for call in calls:
+            with self.assertRaises(JsonPatchException) as caught:
+                call()
+            self.assertNotIsInstance(caught.exception, InvalidJsonPatch)
+            self.assertEqual((str(caught.exception), caught.exception.kind), (f"document: {kind}", kind))
+            self.assertEqual(isinstance(caught.exception, NumberNotWhole), "Number" in kind or "Whole" in kind)
+
+    def test_any_numbers(self):
+        chance = random.Random(8259)
+        numbers = (*NOT_WHOLE, *PAST_FLOATS, 0.1, 1 / 3, 1e300, 1e23, 5e-324, 0, 1)
+        for _ in range(500):
+            src, dst = ({chance.choice("abcd"): [chance.choice(numbers) for _ in range(chance.randrange(4))], "stays": STAYS} for _ in range(2))
+            patch = make_patch(src, dst)
+            # values are compared, and 1.0 is 1: so it may stay
+            self.assertEqual(patch.apply(src), dst)
+            self.assertEqual(bool(patch), src != dst)
 
     def test_closed_and_threads(self):
         with Document([1]) as kept, Document([2]) as goal:

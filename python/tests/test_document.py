@@ -7,7 +7,7 @@ from json_patch import (
     Document, InvalidJsonPatch, JsonPatch, JsonPatchConflict, JsonPatchException, JsonPatchTestFailed,
     JsonPointerException, NumberNotWhole,
 )
-from support import CALLS, OK, ROWS, nested, on_another_thread
+from support import CALLS, NOT_WHOLE, OK, PAST_FLOATS, ROWS, nested, on_another_thread
 
 
 class Kept(unittest.TestCase):
@@ -79,15 +79,15 @@ class Kept(unittest.TestCase):
             self.assertEqual(kept.get(), document)
 
     def test_no_json(self):
-        texts = "[", "", '"\ud800"', '"\\ud800"', b"\xff", "[" * 127
+        texts = *((text, "NotJson") for text in ("[", "", '"\ud800"', b"\xff", "[" * 127)), ('"\\ud800"', "UnpairedSurrogate")
         with Document({}) as kept:
-            for text in texts:
+            for text, kind in texts:
                 with self.assertRaises(JsonPatchException) as caught:
                     Document.from_string(text)
-                self.assertEqual(caught.exception.kind, "NotJson")
+                self.assertEqual(caught.exception.kind, kind)
                 with self.assertRaises(InvalidJsonPatch) as caught:
                     kept.apply(text)
-                self.assertEqual(caught.exception.kind, "NotJson")
+                self.assertEqual(caught.exception.kind, kind)
             with self.assertRaises(JsonPointerException):
                 kept.get("/\ud800")
 
@@ -132,9 +132,30 @@ class Kept(unittest.TestCase):
             with self.assertRaises(ValueError):
                 call()
 
+    def test_numbers(self):
+        """They are integers of 64 bits, and so are those of its patches."""
+        for number in (*NOT_WHOLE, *PAST_FLOATS):
+            kind = "NumberOutOfRange" if number in PAST_FLOATS else "NotWhole"
+            in_patch = kind if number in PAST_FLOATS else "ValueNotWhole"
+            with Document({}) as kept:
+                for call, told in (
+                    (lambda: Document(number), kind), (lambda: Document([number]), kind), (lambda: kept.merge({"a": number}), kind),
+                    (lambda: kept.apply([{"op": "add", "path": "/a", "value": number}]), in_patch),
+                    (lambda: kept.record([{"op": "add", "path": "/a", "value": number}]), in_patch),
+                ):
+                    with self.assertRaises(NumberNotWhole) as caught:
+                        call()
+                    self.assertIsInstance(caught.exception, ValueError)
+                    self.assertEqual(caught.exception.kind, told)
+                self.assertEqual(kept.get(), {})
+        with Document([2**64 - 1, -(2**63)]) as kept:
+            self.assertEqual(kept.get(), [2**64 - 1, -(2**63)])
+
+    def test_members_are_in_order_of_their_names(self):
+        with Document({"b": 1, "é": 2, "a": {"d": 3, "c": 4}}) as kept:
+            self.assertEqual(str(kept), '{"a":{"c":4,"d":3},"b":1,"é":2}')
+
     def test_refused(self):
-        with self.assertRaises(NumberNotWhole):
-            Document(1.5)
         with self.assertRaises(JsonPatchException):
             Document.from_string("[")
         with Document({}) as kept:

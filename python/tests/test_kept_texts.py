@@ -88,7 +88,7 @@ class Texts(unittest.TestCase):
     def test_what_is_no_text_or_patch(self):
         for text, patch, error, kind in (
             ("[1", "[]", JsonPatchException, "NotJson"), ("", "[]", JsonPatchException, "NotJson"), ("\ufeff1", "[]", JsonPatchException, "NotJson"),
-            ('"\ud800"', "[]", JsonPatchException, "NotJson"), (b"\xff", "[]", JsonPatchException, "NotJson"), ('"\\ud800"', "[]", JsonPatchException, "NotJson"),
+            ('"\ud800"', "[]", JsonPatchException, "NotJson"), (b"\xff", "[]", JsonPatchException, "NotJson"), ('"\\ud800"', "[]", JsonPatchException, "UnpairedSurrogate"),
             ("1", "[", InvalidJsonPatch, "NotJson"), ("1", "{}", InvalidJsonPatch, "NotAList"), ("1", "[{}]", InvalidJsonPatch, "MissingOp"),
             ("1", [{"op": "add", "path": "a", "value": 1}], InvalidJsonPatch, "BadPath"),
             ("[" * 125 + "]" * 125, "[]", TooDeep, "TooDeep"), ("[" * 1_000_000, "[]", TooDeep, "TooDeep"),
@@ -106,9 +106,9 @@ class Texts(unittest.TestCase):
         self.assertEqual((caught.exception.operation, caught.exception.kind, caught.exception.path), (0, "TooDeep", "/0"))
         # the text has 104 bytes, the patch 39, and the copy leaves 207
         long, twice = json.dumps(["x" * 100]), '[{"op":"copy","from":"/0","path":"/0"}]'
-        self.assertEqual(len(apply_text(long, twice, limits=Limits(copied=64))), 207)
+        self.assertEqual(len(apply_text(long, twice, limits=Limits(bytes=64))), 207)
         with self.assertRaises(OverLimit) as caught:
-            apply_text(long, twice, limits=Limits(copied=63))
+            apply_text(long, twice, limits=Limits(bytes=63))
         self.assertEqual((caught.exception.operation, caught.exception.kind), (0, "TooMuch"))
 
     def test_on_a_small_stack(self):
@@ -144,22 +144,22 @@ class Texts(unittest.TestCase):
     def test_merges_within(self):
         """A merge leaves at most the bytes of both texts and so many more; much whitespace isn't taken over."""
         wide, many = "{" + " " * 60_000 + '"a":1}', {f"m{number}": 1 for number in range(6_000)}
-        made = merge_text(wide, many, limits=Limits(copied=0))
+        made = merge_text(wide, many, limits=Limits(bytes=0))
         self.assertEqual(made, wide[:-1] + "," + json.dumps(many, separators=(",", ":"))[1:])
-        self.assertEqual(merge_text('{ "a": 1}', {"b": 2}, limits=Limits(copied=1)), '{ "a": 1, "b": 2}')
+        self.assertEqual(merge_text('{ "a": 1}', {"b": 2}, limits=Limits(bytes=1)), '{ "a": 1, "b": 2}')
         with self.assertRaises(OverLimit) as caught:
-            merge_text('{ "a": 1}', {"b": 2}, limits=Limits(copied=0))
+            merge_text('{ "a": 1}', {"b": 2}, limits=Limits(bytes=0))
         error = caught.exception
         self.assertEqual((error.operation, error.kind, error.path), (None, "TooMuch", None))
         self.assertEqual(str(error), "the merge is over the limits: TooMuch")
 
     def test_differences_of_texts(self):
-        """A patch that leads from one document to another is over no limits whose `copied` is 256 for each operation."""
+        """A patch that leads from one document to another is over no limits whose `bytes` are 256 for each operation."""
         for spaces in (0, 60, 128, 129, 5_000):
             new = "{" + " " * spaces + '"m0"' + " " * spaces + ": [" + " " * spaces + "1]}"
             wanted = {"m0": [0, 1, 2], **{f"m{number}": 0 for number in range(1, 80)}}
             patch = make_patch(json.loads(new), wanted)
-            made = apply_text(new, patch, limits=Limits(copied=256 * len(patch.patch)))
+            made = apply_text(new, patch, limits=Limits(bytes=256 * len(patch.patch)))
             self.assertEqual(json.loads(made), wanted)
 
     def test_values(self):

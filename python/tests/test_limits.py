@@ -1,47 +1,57 @@
 """Limits, what is over them, and changes that are taken back."""
 import copy
+import json
 import pickle
-import re
 import unittest
 from unittest import mock
 
 import json_patch
 from json_patch import (
     Document, JsonPatch, JsonPatchConflict, JsonPatchException, Limits, NothingToUndo, OverLimit, TooDeep, apply_patch,
-    merge_patch, record_patch,
+    apply_text, merge_patch, record_patch,
 )
 from json_patch._library import LIBRARY, NO_MEMORY
-from json_patch.limits import MOST_COPIED, MOST_LEVELS
-from support import C, holding_itself, nested
+from json_patch.limits import MOST_LEVELS
+from support import holding_itself, nested
 
 COPY = {"op": "copy", "from": "/a", "path": "/b"}
 MOVE, BACK = {"op": "move", "from": "/a", "path": "/b"}, {"op": "move", "from": "/b", "path": "/a"}
-# those of each_call
-NAMES = ("apply", "record", "apply in place", "apply", "record", "apply", "record")
 
 
-def each_call(document, patch, limits):
-    """The calls that make a patch within limits; what they are handed stays, where they refuse it."""
-    def kept(name):
-        with Document(document, limits=limits) as held:
-            try:
-                getattr(held, name)(patch)
-            except JsonPatchException:
-                assert held.get() == document
-                raise
-            return held.get()
-
+def of_texts(document, patch, limits):
+    """The calls from object to object, within limits of texts."""
     return (
         lambda: apply_patch(document, patch, limits=limits), lambda: record_patch(document, patch, limits=limits)[0],
-        lambda: apply_patch(copy.deepcopy(document), patch, in_place=True, limits=limits),
         lambda: JsonPatch(patch).apply(document, limits=limits), lambda: JsonPatch(patch).record(document, limits=limits)[0],
-        lambda: kept("apply"), lambda: kept("record"),
+        lambda: json.loads(apply_text(json.dumps(document, separators=(",", ":")), patch, limits=limits)),
     )
 
 
+def of_copies(document, patch, limits):
+    """Those that count copies: what they are handed stays, where they refuse it."""
+    return (
+        lambda: apply_patch(copy.deepcopy(document), patch, in_place=True, limits=limits),
+        lambda: kept("apply", document, patch, limits), lambda: kept("record", document, patch, limits),
+    )
+
+
+def kept(name, document, patch, limits):
+    with Document(document, limits=limits) as held:
+        try:
+            getattr(held, name)(patch)
+        except JsonPatchException:
+            assert held.get() == document
+            raise
+        return held.get()
+
+
+def each_call(document, patch, limits):
+    return *of_texts(document, patch, limits), *of_copies(document, patch, limits)
+
+
 class Within(unittest.TestCase):
-    def assertOver(self, document, patch, limits, operation, kind):
-        for call in each_call(document, patch, limits):
+    def assertOver(self, document, patch, limits, operation, kind, calls=each_call):
+        for call in calls(document, patch, limits):
             with self.assertRaises(OverLimit) as caught:
                 call()
             error = caught.exception
@@ -51,48 +61,89 @@ class Within(unittest.TestCase):
             self.assertEqual(str(error), f"operation {operation} is over the limits at path {error.path!r}: {kind}")
             self.assertEqual(vars(pickle.loads(pickle.dumps(error))), vars(error))
 
-    def assertMakes(self, document, patch, limits, wanted):
-        for call in each_call(document, patch, limits):
+    def assertMakes(self, document, patch, limits, wanted, calls=each_call):
+        for call in calls(document, patch, limits):
             self.assertEqual(call(), wanted)
 
     def test_depths(self):
         patch = [{"op": "test", "path": "", "value": []}, {"op": "add", "path": "/0", "value": [[]]}]
         self.assertMakes([], patch, Limits(depth=3), [[[]]])
         self.assertOver([], patch, Limits(depth=2), 1, "TooDeep")
-        self.assertOver([], [{"op": "add", "path": "/0/a", "value": 1}], Limits(depth=1), 0, "TooDeep")
         self.assertMakes({}, [{"op": "add", "path": "/a", "value": nested(123)}], Limits(), {"a": nested(123)})
         self.assertOver({}, [{"op": "add", "path": "/a", "value": nested(124)}], Limits(), 0, "TooDeep")
 
+    def test_operations_that_would_be_refused(self):
+        """They leave no text that could be over; where copies are counted, they are over before."""
+        patch = [{"op": "add", "path": "/0/a", "value": 1}]
+        self.assertOver([], patch, Limits(depth=1), 0, "TooDeep", of_copies)
+        for call in of_texts([], patch, Limits(depth=1)):
+            with self.assertRaises(JsonPatchConflict):
+                call()
+
     def test_copies(self):
         document = {"a": "cde"}
-        self.assertMakes(document, [COPY], Limits(copied=4), {"a": "cde", "b": "cde"})
-        self.assertOver(document, [COPY], Limits(copied=3), 0, "TooMuch")
-        self.assertOver(document, [COPY] * 3, Limits(copied=8), 2, "TooMuch")
-        self.assertMakes(document, [COPY] * 3, Limits(copied=2**100), {"a": "cde", "b": "cde"})
+        self.assertMakes(document, [COPY], Limits(bytes=4), {"a": "cde", "b": "cde"})
+        self.assertOver(document, [COPY], Limits(bytes=3), 0, "TooMuch", of_copies)
+        self.assertOver(document, [COPY] * 3, Limits(bytes=8), 2, "TooMuch", of_copies)
+        self.assertMakes(document, [COPY] * 3, Limits(bytes=2**100), {"a": "cde", "b": "cde"})
         many = {"a": "x" * 499}
         self.assertMakes(many, [COPY] * 1000, Limits(), {**many, "b": many["a"]})
-        self.assertOver(many, [COPY] * 1001, Limits(), 1000, "TooMuch")
+        self.assertOver(many, [COPY] * 1001, Limits(), 1000, "TooMuch", of_copies)
+        self.assertMakes(many, [COPY] * 900, Limits(), {**many, "b": many["a"]}, of_texts)
+
+    def test_bytes(self):
+        """The document has 108 bytes, the patch 39 and 40 for each that follows, and what a copy leaves 215."""
+        document = {"a": "x" * 100}
+        self.assertMakes(document, [COPY], Limits(bytes=68), {**document, "b": document["a"]}, of_texts)
+        self.assertOver(document, [COPY], Limits(bytes=67), 0, "TooMuch", of_texts)
+        back = {"op": "remove", "path": "/b"}
+        self.assertOver(document, [COPY, back, COPY], Limits(bytes=0), 0, "TooMuch", of_texts)
+        test = [{"op": "test", "path": "/a", "value": document["a"]}]
+        self.assertMakes(document, [*test, COPY, back], Limits(bytes=0), document, of_texts)
+
+    def test_bytes_of_inverses(self):
+        """Each move of the inverse holds the value that it moves."""
+        document, moves = {"a": "x" * 100}, [MOVE, BACK] * 9
+        made, inverse = record_patch(document, moves)
+        size = [len(json.dumps(value, separators=(",", ":"))) for value in (document, moves, inverse.patch)]
+        self.assertEqual((made, len(inverse)), (document, 36))
+        spare = size[2] - size[0] - size[1]
+        for record in (lambda limits: record_patch(document, moves, limits=limits), lambda limits: JsonPatch(moves).record(document, limits=limits)):
+            self.assertEqual(record(Limits(bytes=spare)), (made, inverse))
+            with self.assertRaises(OverLimit) as caught:
+                record(Limits(bytes=spare - 1))
+            self.assertEqual((caught.exception.operation, caught.exception.kind, caught.exception.path), (17, "TooMuch", "/a"))
+        self.assertEqual(apply_patch(document, moves, limits=Limits(bytes=0)), document)
+
+    def test_bytes_of_merges(self):
+        """In compact texts a merge puts no whitespace, and leaves no more than both."""
+        self.assertEqual(merge_patch({"a": 1}, {"b": 2}, limits=Limits(bytes=0)), {"a": 1, "b": 2})
+        # 9 bytes and 7 are merged to 17
+        write = lambda value: '{ "a": 1}' if "a" in value else '{"b":2}'
+        self.assertEqual(merge_patch({"a": 1}, {"b": 2}, dumps=write, limits=Limits(bytes=1)), {"a": 1, "b": 2})
+        with self.assertRaises(OverLimit) as caught:
+            merge_patch({"a": 1}, {"b": 2}, dumps=write, limits=Limits(bytes=0))
+        error = caught.exception
+        self.assertEqual((error.operation, error.kind, error.path), (None, "TooMuch", None))
 
     def test_moves_count_where_they_are_recorded(self):
         """The inverse of each holds the value that it moves."""
         document, moves = {"a": "cde"}, [MOVE, BACK]
-        self.assertMakes(document, moves, Limits(copied=8), document)
-        for name, call in zip(NAMES, each_call(document, moves, Limits(copied=7))):
-            if "record" not in name:
-                self.assertEqual(call(), document)
-                continue
-            with self.assertRaises(OverLimit) as caught:
-                call()
-            self.assertEqual((caught.exception.operation, caught.exception.kind), (1, "TooMuch"))
-        many = {"a": "x" * 4_999}
-        self.assertEqual(len(record_patch(many, moves * 50)[1]), 200)
-        self.assertEqual(apply_patch(many, moves * 51), many)
+        self.assertMakes(document, moves, Limits(bytes=8), document, of_copies)
+        in_place, applied, recorded = of_copies(document, moves, Limits(bytes=7))
+        self.assertEqual((in_place(), applied()), (document, document))
         with self.assertRaises(OverLimit) as caught:
-            record_patch(many, moves * 51)
+            recorded()
+        self.assertEqual((caught.exception.operation, caught.exception.kind), (1, "TooMuch"))
+        many = {"a": "x" * 4_999}
+        self.assertEqual(kept("record", many, moves * 50, Limits()), many)
+        self.assertEqual(kept("apply", many, moves * 51, Limits()), many)
+        with self.assertRaises(OverLimit) as caught:
+            kept("record", many, moves * 51, Limits())
         self.assertEqual(caught.exception.operation, 100)
 
     def test_copies_of_a_kept_document_count_for_each_patch(self):
-        with Document({"a": "cde"}, limits=Limits(copied=4)) as kept:
+        with Document({"a": "cde"}, limits=Limits(bytes=4)) as kept:
             for _ in range(9):
                 kept.apply([COPY])
 
@@ -114,17 +165,13 @@ class Within(unittest.TestCase):
         with Document.from_string("[[]]", limits=limits) as kept, self.assertRaises(OverLimit):
             kept.apply('[{"op":"copy","from":"","path":"/0"}]')
 
-    def test_the_headers(self):
-        header = (C / "json_patch.h").read_text(encoding="utf-8")
-        most = [int(number) for number in re.findall(r"#define JSON_PATCH_MOST_\w+ (\d+)", header)]
-        self.assertEqual(most, [MOST_LEVELS, MOST_COPIED])
-        self.assertEqual(Limits(), Limits(MOST_LEVELS, MOST_COPIED))
-        self.assertEqual(len({Limits(), Limits(MOST_LEVELS), pickle.loads(pickle.dumps(Limits())), Limits(9), Limits(copied=9)}), 3)
+    def test_limits_as_values(self):
+        self.assertEqual(len({Limits(), Limits(MOST_LEVELS), pickle.loads(pickle.dumps(Limits())), Limits(9), Limits(bytes=9)}), 3)
 
     def test_what_are_no_limits(self):
         for name, value, error in (
-            ("depth", -1, ValueError), ("copied", -1, ValueError), ("depth", 125, ValueError), ("depth", 2**70, ValueError),
-            ("depth", 1.0, TypeError), ("copied", "9", TypeError), ("copied", None, TypeError), ("depth", True, TypeError),
+            ("depth", -1, ValueError), ("bytes", -1, ValueError), ("depth", 125, ValueError), ("depth", 2**70, ValueError),
+            ("depth", 1.0, TypeError), ("bytes", "9", TypeError), ("bytes", None, TypeError), ("depth", True, TypeError),
         ):
             with self.assertRaises(error) as caught:
                 Limits(**{name: value})
@@ -223,8 +270,8 @@ class InPlace(unittest.TestCase):
             for document in ({"a": value}, {"a": value, "gone": 1}):
                 patch = [{"op": "copy", "from": "/a", "path": "/b"}]
                 with self.assertRaises(OverLimit):
-                    apply_patch(document, patch, in_place=True, limits=Limits(copied=size - 1))
-                self.assertEqual(apply_patch(document, patch, in_place=True, limits=Limits(copied=size))["b"], value)
+                    apply_patch(document, patch, in_place=True, limits=Limits(bytes=size - 1))
+                self.assertEqual(apply_patch(document, patch, in_place=True, limits=Limits(bytes=size))["b"], value)
 
     def test_lists_at_two_places_count_for_each(self):
         """Each copy doubles the one list."""
@@ -233,11 +280,11 @@ class InPlace(unittest.TestCase):
         patch = [{"op": "copy", "from": "/a", "path": "/b/-"}]
         for much, times in ((1, 1), (3, 2), (7, 3), (15, 4)):
             with self.assertRaises(OverLimit) as caught:
-                apply_patch(document, patch * 200, in_place=True, limits=Limits(copied=much))
+                apply_patch(document, patch * 200, in_place=True, limits=Limits(bytes=much))
             self.assertEqual((caught.exception.operation, caught.exception.kind), (times, "TooMuch"))
             self.assertEqual(document, {"a": [], "b": []})
             self.assertIs(document["a"], document["b"])
-        self.assertIs(apply_patch(document, patch * 4, in_place=True, limits=Limits(copied=15)), document)
+        self.assertIs(apply_patch(document, patch * 4, in_place=True, limits=Limits(bytes=15)), document)
         self.assertEqual([str(rows).count("["), str(document).count("[")], [16, 32])
 
     def test_what_holds_itself(self):

@@ -1,11 +1,17 @@
 """The rows of c/cases.json, and the numbers of json_patch.h."""
+import ctypes
 import json
 import re
 import unittest
 
-from json_patch import JsonPatchException, record_patch
+from json_patch import Document, JsonPatchException, Limits, _library, record_patch
 from json_patch.errors import KINDS
+from json_patch.limits import MOST_BYTES, MOST_LEVELS
 from support import CALLS, C, OK, REFUSED, ROWS
+
+HEADER = (C / "json_patch.h").read_text(encoding="utf-8")
+# of a document that is kept alone
+KEPT_KINDS = {"NotWhole", "NumberOutOfRange", "ValueNotWhole"}
 
 
 def in_words(name):
@@ -14,23 +20,28 @@ def in_words(name):
 
 
 class Tables(unittest.TestCase):
+    def kept(self, call, document, patch):
+        with Document.from_string(document) as kept:
+            return {"apply": kept.apply, "record": kept.record, "merge": kept.merge}[call](patch)
+
     def made(self, call, document, patch):
         made = CALLS[call](json.loads(document), json.loads(patch))
         return [made[0], made[1].patch] if call == "record" else made
 
     def test_accepted(self):
         for call, document, patch, status, _, _, written in ROWS:
-            if status == OK and written is not None:
+            if status == OK:
                 with self.subTest(call=call, document=document, patch=patch):
-                    self.assertEqual(self.made(call, document, patch), json.loads(written))
+                    # in the order of members, too
+                    self.assertEqual(json.dumps(self.made(call, document, patch)), json.dumps(json.loads(written)))
 
     def test_refused(self):
         for call, document, patch, status, operation, kind, path in ROWS:
             if status != OK:
                 with self.subTest(call=call, document=document, patch=patch):
-                    with self.assertRaises(JsonPatchException) as caught:
-                        self.made(call, document, patch)
                     name = KINDS[kind][0]
+                    with self.assertRaises(JsonPatchException) as caught:
+                        (self.kept if name in KEPT_KINDS else self.made)(call, document, patch)
                     self.assertEqual(caught.exception.kind, name)
                     self.assertEqual(caught.exception.operation, None if name == "NotAList" else operation)
                     self.assertEqual(caught.exception.path, path if status == REFUSED else None)
@@ -42,9 +53,41 @@ class Tables(unittest.TestCase):
                     made, inverse = record_patch(json.loads(document), json.loads(patch))
                     self.assertEqual(inverse.apply(made), json.loads(document))
 
-    def test_kinds_are_the_headers(self):
-        header = (C / "json_patch.h").read_text(encoding="utf-8")
-        kinds = header.partition("What is at fault")[2].partition("} json_patch_report")[0]
-        found = {int(number): in_words(name) for name, number in re.findall(r"JSON_PATCH_(\w+) = (\d+)", kinds)}
+
+class Header(unittest.TestCase):
+    def numbers(self, title, end):
+        """The constants that are declared under a title."""
+        found = re.findall(r"JSON_PATCH_(\w+) = (\d+)", HEADER.partition(title)[2].partition(end)[0])
+        return {name: int(number) for name, number in found}
+
+    def fields(self, struct):
+        """The names of a struct's fields, each with its type in C."""
+        declared = re.search(r"typedef struct \{([^{}]*)\} " + struct + ";", HEADER).group(1)
+        return [(name, kind) for kind, name in re.findall(r"(\w+) (\w+);", declared)]
+
+    def test_kinds(self):
+        found = {number: in_words(name) for name, number in self.numbers("What is at fault", "} json_patch_report").items()}
         del found[0]
         self.assertEqual(found, {number: name for number, (name, _) in KINDS.items()})
+
+    def test_statuses(self):
+        found = self.numbers("What came of a call", "What is at fault")
+        self.assertEqual(len(found), 11)
+        self.assertEqual(found, {name: getattr(_library, name) for name in found})
+
+    def test_structs(self):
+        types = {"size_t": ctypes.c_size_t, "json_patch_kind": ctypes.c_uint8}
+        for struct, ours in (("json_patch_report", _library.Report), ("json_patch_limits", _library.Bounds)):
+            self.assertEqual([(name, types[kind]) for name, kind in self.fields(struct)], ours._fields_)
+
+    def test_limits(self):
+        most = dict(re.findall(r"#define JSON_PATCH_MOST_(\w+) (\d+)", HEADER))
+        self.assertEqual(most, {"LEVELS": str(MOST_LEVELS), "BYTES": str(MOST_BYTES)})
+        self.assertEqual(Limits(), Limits(MOST_LEVELS, MOST_BYTES))
+        bounds = _library.bounds(Limits(7, 2**70))
+        self.assertEqual((bounds.size, bounds.depth, bounds.bytes), (ctypes.sizeof(_library.Bounds), 7, 2**64 - 1))
+
+    def test_calls(self):
+        """Each call is declared, with as many parameters as it has."""
+        for name, parameters in re.findall(r"^json_patch_status json_patch_(\w+)\(([^()]*)\);", HEADER, re.MULTILINE):
+            self.assertEqual(len(getattr(_library.LIBRARY, f"json_patch_{name}").argtypes), parameters.count(",") + 1, name)

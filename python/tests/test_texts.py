@@ -2,15 +2,16 @@
 import unittest
 
 from json_patch import (
-    Document, InvalidJsonPatch, JsonPatch, JsonPatchException, NumberNotWhole, apply_patch,
+    Document, InvalidJsonPatch, JsonPatch, JsonPatchException, NumberNotWhole, apply_patch, apply_text, record_patch,
 )
 
-# Texts of values that aren't read, each with the kind of its refusal.
-NO_VALUES = [
-    ("1e400", "NotJson"), ("-1e400", "NotJson"), ("1" + "0" * 309, "NotJson"), ("1" + "0" * 400, "NotJson"),
-    ("1" + "0" * 5000, "NotJson"), ('"\\ud800"', "NotJson"), ("NaN", "NotJson"), ("\ufeff[]", "NotJson"),
+# Texts of values that a Document doesn't read, each with the kind of its refusal, and those that no call reads.
+NOT_KEPT = [
+    ("1e400", "NumberOutOfRange"), ("-1e400", "NumberOutOfRange"), ("1" + "0" * 309, "NumberOutOfRange"),
+    ("1" + "0" * 400, "NumberOutOfRange"), ("1" + "0" * 5000, "NumberOutOfRange"),
     ("1" + "0" * 308, "NotWhole"), ("1e-400", "NotWhole"), ("-0", "NotWhole"), ("-0.0", "NotWhole"),
 ]
+NO_VALUES = [('"\\ud800"', "UnpairedSurrogate"), ('"\\ud800', "NotJson"), ("NaN", "NotJson"), ("Infinity", "NotJson"), ("\ufeff[]", "NotJson")]
 
 
 class Texts(unittest.TestCase):
@@ -19,19 +20,27 @@ class Texts(unittest.TestCase):
             with self.assertRaises(JsonPatchException) as caught:
                 call()
             self.assertEqual(caught.exception.kind, kind)
-            self.assertEqual(isinstance(caught.exception, NumberNotWhole), kind != "NotJson")
+            self.assertEqual(isinstance(caught.exception, NumberNotWhole), kind not in ("NotJson", "UnpairedSurrogate"))
 
     def readers_of_patch(self, kept, text):
-        return lambda: kept.apply(text), lambda: apply_patch({}, text), lambda: JsonPatch.from_string(text)
+        return (
+            lambda: kept.apply(text), lambda: apply_patch({}, text), lambda: JsonPatch.from_string(text), lambda: record_patch({}, text),
+            lambda: apply_patch({}, text, in_place=True), lambda: apply_text("{}", text),
+        )
 
     def test_values(self):
         with Document({}) as kept:
-            for value, kind in NO_VALUES:
+            for value, kind in NOT_KEPT + NO_VALUES:
                 with self.subTest(value=value[:9]):
                     patch = '[{"op":"add","path":"/a","value":%s}]' % value
                     self.assertToldBy([lambda: Document.from_string(value)], kind)
                     in_patch = "ValueNotWhole" if kind == "NotWhole" else kind
-                    self.assertToldBy(self.readers_of_patch(kept, patch), in_patch)
+                    self.assertToldBy([lambda: kept.apply(patch), lambda: kept.record(patch)], in_patch)
+                    if (value, kind) in NO_VALUES:
+                        self.assertToldBy(self.readers_of_patch(kept, patch), in_patch)
+                    else:
+                        self.assertEqual(apply_patch({}, patch, loads=str), '{"a":%s}' % value)
+                        self.assertEqual(apply_text("{}", patch), '{"a":%s}' % value)
             self.assertEqual(kept.get(), {})
 
     def test_encodings(self):
@@ -52,5 +61,7 @@ class Texts(unittest.TestCase):
         self.assertEqual((caught.exception.operation, caught.exception.kind), (1, "NotAnObject"))
 
     def test_members_that_are_not_read(self):
-        patch = JsonPatch.from_string('[{"op":"test","path":"","value":{},"x":[1.5,-0]}]')
-        self.assertEqual(patch.apply({}), {})
+        patch = '[{"op":"test","path":"","value":{},"x":[1.5,-0]}]'
+        self.assertEqual(JsonPatch.from_string(patch).apply({}), {})
+        with Document({}) as kept:
+            kept.apply(patch)

@@ -1,3 +1,4 @@
 mod Made
 mod Nested
 mod Differences
+pub mod Mending

@@ -1,5 +1,5 @@
 -- Whether more arrays and objects are open than may be, byte by byte through a text.
-use Rattle.std.proofs.Common.{◌≡◌, ◌≤◌, ◌<◌, ◌+◌, ◌↔◌, ◌⊎◌, inl, inr, ⊎_elim, ℕ, List, [], ◌∷◌, length, drop, get_or, subst, sym, arith}
+use Rattle.std.proofs.Common.{◌≤◌, ◌<◌, ◌+◌, ◌↔◌, inl, inr, ⊎_elim, ℕ, List, [], ◌∷◌, length, drop, get_or, subst, sym, arith}
 use Rattle.std.proofs.lemmas.List.{drop_more}
 use Rattle.json_patch_bytes.specs.Nesting.{OpensMore, after, opened}
 use Rattle.json_patch_bytes.specs.declared.nesting.Mode.{Mode}

@@ -31,7 +31,3 @@ IsPatchValue d e w = (ops : List Operation) × IsDifference d e ops × (w ≡ wr
 -- w leads from d to the document of the text, of at most so many levels
 abbrev pub LeadsToText : ℕ → Data → List ℕ → Data → Type 0
 LeadsToText levels d to w = (e : Data) × IsShallowText levels to e × IsPatchValue d e w
-
--- w leads from the document of the one text to that of the other, both of at most so many levels
-abbrev pub LeadsBetween : ℕ → List ℕ → List ℕ → Data → Type 0
-LeadsBetween levels from to w = (d : Data) × IsShallowText levels from d × LeadsToText levels d to w

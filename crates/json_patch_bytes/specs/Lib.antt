@@ -1,5 +1,6 @@
 pub mod Kinds
 pub mod Nesting
+pub mod Surrogates
 pub mod Bounds
 pub mod Texts
 pub mod Reasons

@@ -1,6 +1,6 @@
 -- How deep a text nests: how many of its arrays and objects are open at once, whatever else is in it (RFC 8259). Brackets in
 -- a string open nothing, and a string goes from `"` to the next `"` that no `\` escapes.
-use Rattle.std.specs.Prelude.{◌≡◌, ◌<◌, ◌-◌, ◌⊎◌, ℕ, suc, List, [], ◌∷◌, eqb, if◌then◌else◌}
+use Rattle.std.specs.Prelude.{◌<◌, ◌-◌, ◌⊎◌, ℕ, suc, List, [], ◌∷◌, eqb, if◌then◌else◌}
 use Rattle.json_patch_bytes.specs.declared.nesting.Mode.{Mode}
 use Rattle.json_patch_bytes.specs.declared.nesting.Mode.TheVariants.{Outside, Inside, Escaped}
 

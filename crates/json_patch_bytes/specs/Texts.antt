@@ -1,25 +1,19 @@
--- What texts that come from C say, and what a call makes of two of them. A text is JSON (RFC 8259) where the reader of
+-- What texts that come from C say. A text is JSON (RFC 8259) where the reader of
 -- JSON reads it: it nests at most 127 levels, and has no number and no escape that the reader refuses, which are a number
 -- past a float's range, such as 1e400, and an unpaired surrogate.
-use Rattle.std.specs.Prelude.{◌≡◌, ◌≤◌, ◌<◌, ◌⊎◌, ℕ, Bool, List, Option, Some, None, IsUtf8, unwrap_or}
-use Rattle.serde_json.specs.Data.{Data, array, depth, item, no_items}
+use Rattle.std.specs.Prelude.{◌≡◌, ◌≤◌, ◌<◌, ◌⊎◌, ℕ, List, Option, Some, None, IsUtf8, unwrap_or}
+use Rattle.serde_json.specs.Data.{Data, depth}
 use Rattle.serde_json.specs.Read.{read}
 use Rattle.jsonptr.specs.Text.{Pointer, text_of, IsNoPointerText}
 use Rattle.json_patch.specs.Document.{IsDocument}
 use Rattle.json_patch.specs.Operation.{Operation}
-use Rattle.json_patch.specs.PatchValue.{RefusesPatch, written_patch}
-use Rattle.json_patch.specs.Refusal.{NamesFirst}
-use Rattle.json_patch.specs.Run.{Accepts, IsAccepted}
-use Rattle.json_patch.specs.Inverse.{IsInverse}
-use Rattle.json_patch.specs.Merged.{IsMerged}
+use Rattle.json_patch.specs.PatchValue.{RefusesPatch}
 use Rattle.json_patch.specs.Texts.{SaysDocument, SaysPatch}
-use Rattle.json_patch.specs.PatchError.{PatchError}
 use Rattle.json_patch.specs.ReadKind.{ReadKind}
-use Rattle.json_patch.specs.LimitError.{LimitError}
-use Rattle.json_patch.specs.Limits.{Limits}
-use Rattle.json_patch.specs.OverLimits.{ComesOver, IsNeverOver, IsNeverOverRecorded, NeverOver}
 use Rattle.json_patch_bytes.specs.Kinds.{reading_kind}
 use Rattle.json_patch_bytes.specs.Nesting.{NestsDeeper}
+use Rattle.json_patch_bytes.specs.Surrogates.{IsNoJsonKind}
+use Rattle.json_patch_bytes.specs.declared.kinds.TheConstants.{NOT_WHOLE, TOO_DEEP}
 
 -- the bytes are UTF-8 that says the document d
 abbrev pub IsDocumentText : List ℕ → Data → Type 0
@@ -37,9 +31,9 @@ IsShallowText levels text d = IsDocumentText text d × (depth d ≤ levels)
 abbrev pub IsNoJson : List ℕ → Type 0
 IsNoJson text = IsUtf8 text → read text ≡ None
 
--- the bytes aren't read as JSON: 7 is told where they nest deeper than 127, and else 1
+-- the bytes aren't read as JSON: they nest deeper than 127, or else this is why
 abbrev pub IsUnreadText : List ℕ → ℕ → Type 0
-IsUnreadText text kind = IsNoJson text × (((kind ≡ 1) × (NestsDeeper 127 text → ⊥)) ⊎ ((kind ≡ 7) × NestsDeeper 127 text))
+IsUnreadText text kind = IsNoJson text × ((IsNoJsonKind text kind × (NestsDeeper 127 text → ⊥)) ⊎ ((kind ≡ TOO_DEEP) × NestsDeeper 127 text))
 
 -- the bytes are JSON of a value with more levels
 abbrev pub IsDeepText : ℕ → List ℕ → Type 0
@@ -54,9 +48,9 @@ abbrev pub IsUnreadableText : List ℕ → ℕ → ℕ → Type 0
 IsUnreadableText text operation kind = (v : Data) × (k : Option ℕ) × (why : ReadKind) × IsUtf8 text × (read text ≡ Some v)
     × RefusesPatch v k why × (operation ≡ unwrap_or k 0) × (kind ≡ reading_kind why)
 
--- the bytes say no document of so many levels: they aren't read, have more levels (7), or a number isn't whole (2)
+-- the bytes say no document of so many levels: they aren't read, have more levels, or a number isn't whole
 abbrev pub IsNoDocumentText : ℕ → List ℕ → ℕ → Type 0
-IsNoDocumentText levels text kind = IsUnreadText text kind ⊎ (((kind ≡ 7) × IsDeepText levels text) ⊎ ((kind ≡ 2) × IsUnwholeText levels text))
+IsNoDocumentText levels text kind = IsUnreadText text kind ⊎ (((kind ≡ TOO_DEEP) × IsDeepText levels text) ⊎ ((kind ≡ NOT_WHOLE) × IsUnwholeText levels text))
 
 -- the bytes say no patch: they aren't read, or their value isn't read as one
 abbrev pub IsNoPatchText : List ℕ → ℕ → ℕ → Type 0
@@ -73,31 +67,3 @@ IsTextOfPointer text P = IsUtf8 text × (text_of P ≡ text)
 -- the bytes are no pointer's text
 abbrev pub IsNoPointer : List ℕ → Type 0
 IsNoPointer text = IsUtf8 text → IsNoPointerText text
-
--- the patch is accepted on the document within the limits, and leaves e
-abbrev pub Makes : Limits → List ℕ → List ℕ → Data → Type 0
-Makes l document patch e = (d : Data) × (ops : List Operation) × IsShallowText l.depth document d × IsPatchText patch ops
-    × IsNeverOver l d ops × Accepts d ops e
-
--- the array of a document and a patch
-abbrev pub pair : Data → List Operation → Data
-pair e undo = array (item e (item (written_patch undo) no_items))
-
--- the same, recorded, and w is the array of e and the inverse, which leads back
-abbrev pub MakesBoth : Limits → List ℕ → List ℕ → Data → Type 0
-MakesBoth l document patch w = (d e : Data) × (ops undo : List Operation) × IsShallowText l.depth document d × IsPatchText patch ops
-    × IsNeverOverRecorded l d ops × Accepts d ops e × IsInverse d ops undo × IsAccepted e undo d × (w ≡ pair e undo)
-
--- e is the document with the merge patch merged into it
-abbrev pub Merges : ℕ → List ℕ → List ℕ → Data → Type 0
-Merges levels document patch e = (d p : Data) × IsShallowText levels document d × IsShallowText levels patch p × IsMerged d p e
-
--- the patch is refused on the document, none of its operations is over the limits before, and e is why
-abbrev pub StopsAt : Bool → Limits → List ℕ → List ℕ → PatchError → Type 0
-StopsAt recorded l document patch e = (d : Data) × (ops : List Operation) × IsShallowText l.depth document d × IsPatchText patch ops
-    × NeverOver recorded l d ops × NamesFirst d ops e
-
--- an operation of the patch comes to be over the limits, the first one, and e is which and how
-abbrev pub GoesOver : Bool → Limits → List ℕ → List ℕ → LimitError → Type 0
-GoesOver recorded l document patch e = (d : Data) × (ops : List Operation) × IsShallowText l.depth document d × IsPatchText patch ops
-    × ComesOver recorded l d ops e.operation e.kind

@@ -5,17 +5,16 @@ ghost use Rattle.json_patch_bytes.specs.Failures.{of_run};
 ghost use Rattle.json_patch_bytes.specs.Kinds.{limit_kind, reading_kind, refusal_kind};
 ghost use Rattle.json_patch_bytes.specs.declared.failure.Failure.TheVariants.{Memory};
 
+use crate::kinds::{
+    BAD_FROM, BAD_PATH, CANNOT_MOVE_INSIDE_ITSELF, FROM_NOT_TEXT, INVALID_FROM_POINTER,
+    INVALID_POINTER, MISSING_FROM, MISSING_OP, MISSING_PATH, MISSING_VALUE, NOT_A_LIST,
+    NOT_AN_OBJECT, OP_NOT_TEXT, PATH_NOT_TEXT, TEST_FAILED, TOO_DEEP, TOO_MUCH, UNKNOWN_OP,
+    VALUE_NOT_WHOLE,
+};
 use json_patch::{
     LimitError, LimitFault, LimitKind, PatchError, PatchErrorKind, PatchFault, ReadKind,
 };
 use std::alloc::{AllocError, AllocFailed};
-
-/// A text is no UTF-8, or no JSON.
-pub const NOT_JSON: u8 = 1;
-/// A number in it is no 64-bit integer.
-pub(crate) const NOT_WHOLE: u8 = 2;
-/// It nests too deep, or a value would reach too deep.
-pub const TOO_DEEP: u8 = 7;
 
 /// Why a call makes no text.
 #[derive(Drop)]
@@ -60,45 +59,45 @@ impl<T: Drop> From<AllocFailed<T>> for Failure {
     }
 }
 
-/// The number of a kind of refusal, 3 to 6.
+/// The number of a kind of refusal.
 pub fn kind_of_refusal(kind: &PatchErrorKind) -> u8
     ensures { result ≡ refusal_kind kind.now }
 {
     match kind {
-        PatchErrorKind::TestFailed => 3,
-        PatchErrorKind::InvalidFromPointer => 4,
-        PatchErrorKind::InvalidPointer => 5,
-        PatchErrorKind::CannotMoveInsideItself => 6,
+        PatchErrorKind::TestFailed => TEST_FAILED,
+        PatchErrorKind::InvalidFromPointer => INVALID_FROM_POINTER,
+        PatchErrorKind::InvalidPointer => INVALID_POINTER,
+        PatchErrorKind::CannotMoveInsideItself => CANNOT_MOVE_INSIDE_ITSELF,
     }
 }
 
-/// The number of a kind of limit: 7 where a value would reach too deep, 8 where too much is copied.
+/// The number of a kind of limit.
 pub fn kind_of_limit(kind: LimitKind) -> u8
     ensures { result ≡ limit_kind kind }
 {
     match kind {
         LimitKind::TooDeep => TOO_DEEP,
-        LimitKind::TooMuch => 8,
+        LimitKind::TooMuch => TOO_MUCH,
     }
 }
 
-/// The number of a kind of unreadable patch, from 11 on.
+/// The number of a kind of unreadable patch.
 pub fn kind_of_reading(kind: &ReadKind) -> u8
     ensures { result ≡ reading_kind kind.now }
 {
     match kind {
-        ReadKind::NotAList => 11,
-        ReadKind::NotAnObject => 12,
-        ReadKind::MissingOp => 13,
-        ReadKind::OpNotText => 14,
-        ReadKind::UnknownOp => 15,
-        ReadKind::MissingFrom => 16,
-        ReadKind::FromNotText => 17,
-        ReadKind::BadFrom(_) => 18,
-        ReadKind::MissingPath => 19,
-        ReadKind::PathNotText => 20,
-        ReadKind::BadPath(_) => 21,
-        ReadKind::MissingValue => 22,
-        ReadKind::ValueNotWhole => 23,
+        ReadKind::NotAList => NOT_A_LIST,
+        ReadKind::NotAnObject => NOT_AN_OBJECT,
+        ReadKind::MissingOp => MISSING_OP,
+        ReadKind::OpNotText => OP_NOT_TEXT,
+        ReadKind::UnknownOp => UNKNOWN_OP,
+        ReadKind::MissingFrom => MISSING_FROM,
+        ReadKind::FromNotText => FROM_NOT_TEXT,
+        ReadKind::BadFrom(_) => BAD_FROM,
+        ReadKind::MissingPath => MISSING_PATH,
+        ReadKind::PathNotText => PATH_NOT_TEXT,
+        ReadKind::BadPath(_) => BAD_PATH,
+        ReadKind::MissingValue => MISSING_VALUE,
+        ReadKind::ValueNotWhole => VALUE_NOT_WHOLE,
     }
 }

@@ -6,11 +6,15 @@
 //! reader of JSON reads 127.
 //!
 //! - [`calls`]: a document or a patch from bytes, and what is made of two of them
-//! - [`failure`]: why none is made, in the numbers that a caller in C is told
+//! - [`failure`], [`unread`]: why none is made
+//! - [`kinds`]: what is at fault, in the numbers that a caller in C is told
 //! - [`bounds`]: the limits of a call
 #![tactic(auto)]
 
 pub mod bounds;
 pub mod calls;
 pub mod failure;
+pub mod kinds;
 mod nesting;
+mod surrogates;
+pub mod unread;

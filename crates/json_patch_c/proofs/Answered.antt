@@ -1,5 +1,5 @@
 -- What is told of a text that was made, and of a failure, for a call's own reasons; what is kept.
-use Rattle.std.proofs.Common.{◌≡◌, ◌≢◌, ◌≤◌, ◌<◌, ℕ, List, [], Result, Ok, Err, rules, arith, subst}
+use Rattle.std.proofs.Common.{◌≡◌, ◌≢◌, ◌≤◌, ◌<◌, ◌⊎◌, ℕ, List, [], Result, Ok, Err, length, refl, rules, arith, subst}
 use Rattle.std.specs.Prelude.{IfErr, IfOk, ◌∷◌, string_bytes}
 use Rattle.std.specs.declared.alloc.Global.{Global}
 use Rattle.std.specs.declared.string.String.{String}
@@ -11,10 +11,11 @@ use Rattle.json_patch_bytes.specs.Failures.{IsFailure, IsTextOf}
 use Rattle.json_patch_bytes.specs.Reasons.{Reasons}
 use Rattle.json_patch_bytes.specs.Texts.{IsShallowText}
 use Rattle.json_patch_bytes.specs.declared.failure.Failure.{Failure}
-use Rattle.json_patch_c.specs.Reports.{IsTextWritten, IsTold, IsWritten}
+use Rattle.json_patch_c.specs.Reports.{IsBothWritten, IsPut, IsTextWritten, IsTold, IsWritten, TellsBoth}
 use Rattle.json_patch_c.specs.Told.{IsPutOut, IsReported}
 use Rattle.json_patch_c.specs.Undo.{IsUndo}
 use Rattle.json_patch_c.specs.declared.report.Report.{Report}
+use Rattle.json_patch_c.specs.declared.status.TheConstants.{NO_ROOM, OK, OVER}
 
 module _ (status : ℕ) (old new : List ℕ) (report : Report) where
   -- the failure that is told is one of the reasons
@@ -28,18 +29,8 @@ module _ (status : ℕ) (old new : List ℕ) (report : Report) where
     untouched = λ n m. h.untouched m;
   }
 
-  told_made : (R : Reasons) (text : List ℕ) → IsPutOut text status old new report → IsTold R status old new report
-  told_made R text h = record {
-    refused = λ is. search (rules, arith, h.ends, is);
-    no_document = λ is. search (rules, arith, h.ends, is);
-    no_patch = λ is. search (rules, arith, h.ends, is);
-    no_memory = λ is. search (rules, arith, h.ends, is);
-    over = λ is. search (rules, arith, h.ends, is);
-    untouched = λ n m. h.untouched n;
-  }
-
   -- with a status past those of the reasons
-  pub told_apart : (R : Reasons) → 5 < status → status ≢ 9 → new ≡ old → IsTold R status old new report
+  pub told_apart : (R : Reasons) → NO_ROOM < status → status ≢ OVER → new ≡ old → IsTold R status old new report
   told_apart R past over same = record {
     refused = λ is. search (rules, arith, past, is);
     no_document = λ is. search (rules, arith, past, is);
@@ -77,7 +68,7 @@ module _ (status : ℕ) (old new : List ℕ) (report : Report) where
   }
 
   -- with a status that tells of no text
-  pub text_apart : (P : List ℕ → Type 0) → status ≢ 0 → status ≢ 5 → IsTextWritten P status old new report
+  pub text_apart : (P : List ℕ → Type 0) → status ≢ OK → status ≢ NO_ROOM → IsTextWritten P status old new report
   text_apart P made room = record { made = λ is. absurd (made is); no_room = λ is. absurd (room is); untouched = λ is. absurd (room is) }
 
   pub text_written : (P : List ℕ → Type 0) (made : Result (String Global) Failure) → IfOk made (λ s. P (string_bytes s))
@@ -85,9 +76,33 @@ module _ (status : ℕ) (old new : List ℕ) (report : Report) where
   text_written P (Ok s) holds put reported = text_put P (string_bytes s) holds put
   text_written P (Err failure) holds put reported = text_apart P reported.ends.0 (λ is. search (rules, arith, reported.ends, is))
 
+  -- two texts that were made
+  pub both_written : (P : List ℕ → List ℕ → Type 0) (text undo before after : List ℕ) → P text undo → (status ≡ OK → IsPut text old new × IsPut undo before after)
+      → (status ≡ NO_ROOM → (length old < length text) ⊎ (length before < length undo)) → TellsBoth (length text) (length undo) report
+      → (status ≢ OK → (new ≡ old) × (after ≡ before)) → IsBothWritten P status old new before after report
+  both_written P text undo before after holds made room told same = record {
+    made = λ is. (let p = made is in (text, undo, holds, p.0, p.1, told));
+    no_room = λ is. (text, undo, holds, room is, told);
+    untouched = λ is. (same is).1;
+  }
+
+  -- and neither of them
+  pub both_apart : (P : List ℕ → List ℕ → Type 0) (before : List ℕ) → status ≢ OK → status ≢ NO_ROOM → IsBothWritten P status old new before before report
+  both_apart P before made room = record { made = λ is. absurd (made is); no_room = λ is. absurd (room is); untouched = λ is. refl }
+
+  pub told_both : (R : Reasons) → (status ≡ OK) ⊎ (status ≡ NO_ROOM) → (status ≢ OK → new ≡ old) → IsTold R status old new report
+  told_both R ends same = record {
+    refused = λ is. search (rules, arith, ends, is);
+    no_document = λ is. search (rules, arith, ends, is);
+    no_patch = λ is. search (rules, arith, ends, is);
+    no_memory = λ is. search (rules, arith, ends, is);
+    over = λ is. search (rules, arith, ends, is);
+    untouched = λ n m. same n;
+  }
+
   pub told : (R : Reasons) (made : Result (String Global) Failure) → IfErr made (IsFailure R)
       → IfOk made (λ s. IsPutOut (string_bytes s) status old new report) → IfErr made (λ failure. IsReported failure status old new report) → IsTold R status old new report
-  told R (Ok s) why put reported = told_made R (string_bytes s) put
+  told R (Ok s) why put reported = told_both R put.ends put.untouched
   told R (Err failure) why put reported = told_failure R failure why reported
 
 -- ---- what is kept

@@ -1,3 +1,5 @@
+pub mod Given
+pub mod Limits
 pub mod Reports
 pub mod Told
 pub mod Documents

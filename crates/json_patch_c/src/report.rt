@@ -5,9 +5,11 @@ ghost use Rattle.json_patch.specs.LimitError.{LimitError};
 ghost use Rattle.json_patch.specs.PatchError.{PatchError};
 ghost use Rattle.json_patch_bytes.specs.Kinds.{limit_kind};
 ghost use Rattle.json_patch_bytes.specs.declared.failure.Failure.TheVariants.{NoDocument, NoPatch, Over, Refused};
-ghost use Rattle.json_patch_c.specs.Reports.{IsPut, Tells, TellsRefusal};
+ghost use Rattle.json_patch_c.specs.Reports.{IsPut, Tells, TellsBoth, TellsRefusal};
 ghost use Rattle.json_patch_c.specs.Told.{IsPutOut, IsReported};
+ghost use Rattle.json_patch_c.specs.declared.status.TheConstants.{NO_DOCUMENT, NO_MEMORY, NO_PATCH, NO_ROOM, OK, OVER, REFUSED};
 
+use crate::status::{NO_DOCUMENT, NO_MEMORY, NO_PATCH, NO_ROOM, OK, OVER, REFUSED};
 use json_patch::PatchError;
 use json_patch_bytes::failure::{Failure, kind_of_limit, kind_of_refusal};
 
@@ -19,6 +21,8 @@ pub struct Report {
     pub size: usize,
     /// The number of the operation that is refused or can't be read, counted from 0.
     pub operation: usize,
+    /// The bytes of the patch that leads back, where one is written.
+    pub inverse_size: usize,
     /// What is at fault.
     pub kind: u8,
 }
@@ -47,20 +51,50 @@ pub(crate) fn answer(made: Result<String, Failure>, out: &mut [u8], report: &mut
     }
 }
 
-/// Writes a text that was made: status 0, or 5 where `out` is shorter than it.
+/// Writes a text that was made: `OK`, or `NO_ROOM` where `out` is shorter than it.
 pub(crate) fn write(text: &[u8], out: &mut [u8], report: &mut Report) -> u8
-    ensures made { result ≡ 0 → IsPut text.now out.old out.new }
-    ensures no_room { result ≡ 5 → length out.old < length text.now }
+    ensures made { result ≡ OK → IsPut text.now out.old out.new }
+    ensures no_room { result ≡ NO_ROOM → length out.old < length text.now }
     ensures told { Tells (length text.now) 0 0 report.new }
-    ensures status { (result ≡ 0) ⊎ (result ≡ 5) }
-    ensures unchanged { result ≢ 0 → out.new ≡ out.old }
+    ensures status { (result ≡ OK) ⊎ (result ≡ NO_ROOM) }
+    ensures unchanged { result ≢ OK → out.new ≡ out.old }
 {
     *report = Report {
         size: text.len(),
         operation: 0,
+        inverse_size: 0,
         kind: 0,
     };
-    if put(text, out) { 0 } else { 5 }
+    if put(text, out) { OK } else { NO_ROOM }
+}
+
+/// Writes two texts that were made: `OK`, or `NO_ROOM` where there is less room for one than it takes.
+pub(crate) fn write_both(
+    text: &[u8],
+    undo: &[u8],
+    out: &mut [u8],
+    inverse: &mut [u8],
+    report: &mut Report,
+) -> u8
+    ensures made { result ≡ OK → IsPut text.now out.old out.new × IsPut undo.now inverse.old inverse.new }
+    ensures no_room { result ≡ NO_ROOM
+        → (length out.old < length text.now) ⊎ (length inverse.old < length undo.now) }
+    ensures told { TellsBoth (length text.now) (length undo.now) report.new }
+    ensures status { (result ≡ OK) ⊎ (result ≡ NO_ROOM) }
+    ensures unchanged { result ≢ OK → (out.new ≡ out.old) × (inverse.new ≡ inverse.old) }
+{
+    *report = Report {
+        size: text.len(),
+        operation: 0,
+        inverse_size: undo.len(),
+        kind: 0,
+    };
+    if text.len() > out.len() || undo.len() > inverse.len() {
+        return NO_ROOM;
+    }
+    put(text, out);
+    put(undo, inverse);
+    OK
 }
 
 /// Tells a status with no text.
@@ -71,38 +105,40 @@ pub(crate) fn tell(status: u8, operation: usize, kind: u8, report: &mut Report) 
     *report = Report {
         size: 0,
         operation,
+        inverse_size: 0,
         kind,
     };
     status
 }
 
-/// Tells why nothing was made: status 1 to 4, or 9.
+/// Tells why nothing was made.
 pub(crate) fn refuse(failure: &Failure, out: &mut [u8], report: &mut Report) -> u8
-    ensures refused { result ≡ 1 → (e : PatchError) × (failure.now ≡ Refused e)
+    ensures refused { result ≡ REFUSED → (e : PatchError) × (failure.now ≡ Refused e)
         × TellsRefusal e out.old out.new report.new }
-    ensures no_document { result ≡ 2 → (failure.now ≡ NoDocument report.new.kind)
+    ensures no_document { result ≡ NO_DOCUMENT → (failure.now ≡ NoDocument report.new.kind)
         × Tells 0 0 report.new.kind report.new }
-    ensures no_patch { result ≡ 3
+    ensures no_patch { result ≡ NO_PATCH
         → (failure.now ≡ NoPatch report.new.operation report.new.kind) × (report.new.size ≡ 0) }
-    ensures no_memory { result ≡ 4 → Tells 0 0 0 report.new }
-    ensures over { result ≡ 9 → (e : LimitError) × (failure.now ≡ Over e)
+    ensures no_memory { result ≡ NO_MEMORY → Tells 0 0 0 report.new }
+    ensures over { result ≡ OVER → (e : LimitError) × (failure.now ≡ Over e)
         × Tells 0 e.operation (limit_kind e.kind) report.new }
-    ensures status { (result ≢ 0) × ((result ≤ 4) ⊎ (result ≡ 9)) }
-    ensures unchanged { result ≢ 1 → out.new ≡ out.old }
+    ensures status { (result ≢ OK) × ((result ≤ NO_MEMORY) ⊎ (result ≡ OVER)) }
+    ensures unchanged { result ≢ REFUSED → out.new ≡ out.old }
 {
     let (status, operation, kind) = match failure {
         Failure::Refused(error) => {
             tell_refusal(error, out, report);
-            return 1;
+            return REFUSED;
         }
-        Failure::NoDocument(kind) => (2, 0, *kind),
-        Failure::NoPatch(operation, kind) => (3, *operation, *kind),
-        Failure::Over(error) => (9, error.operation, kind_of_limit(error.kind)),
-        Failure::Memory => (4, 0, 0),
+        Failure::NoDocument(kind) => (NO_DOCUMENT, 0, *kind),
+        Failure::NoPatch(operation, kind) => (NO_PATCH, *operation, *kind),
+        Failure::Over(error) => (OVER, error.operation, kind_of_limit(error.kind)),
+        Failure::Memory => (NO_MEMORY, 0, 0),
     };
     *report = Report {
         size: 0,
         operation,
+        inverse_size: 0,
         kind,
     };
     status
@@ -116,6 +152,7 @@ fn tell_refusal(error: &PatchError, out: &mut [u8], report: &mut Report)
     *report = Report {
         size: path.len(),
         operation: error.operation,
+        inverse_size: 0,
         kind: kind_of_refusal(&error.kind),
     };
 }

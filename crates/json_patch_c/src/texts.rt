@@ -1,15 +1,16 @@
-//! The calls for C on a text as it is written, with numbers of any form.
+//! The calls for C on JSON texts as they are written, with numbers of any form.
 
-ghost use Rattle.std.specs.Prelude.{◌≡◌, ◌≤◌, ◌⊎◌, []};
-ghost use Rattle.json_patch_bytes.specs.Bounds.{the_limits, within_most};
+ghost use Rattle.std.specs.Prelude.{◌≡◌, ◌≢◌, ◌≤◌, ◌⊎◌, [], IfOk};
 ghost use Rattle.json_patch_bytes.specs.Texts.{IsNoPointer};
-ghost use Rattle.json_patch_c.specs.Reports.{IsTextWritten, IsTold, Tells};
-ghost use Rattle.json_patch_text_bytes.specs.Reasons.{of_check, of_merge, of_patch, of_text, of_two};
-ghost use Rattle.json_patch_text_bytes.specs.Texts.{IsDifference, IsMergedInto, IsNothingAt, IsPatched, IsTextPatch, IsValueAt};
+ghost use Rattle.json_patch_c.specs.Limits.{limits_of};
+ghost use Rattle.json_patch_c.specs.Reports.{IsBadLimits, IsBothWritten, IsTextWritten, IsTold, Tells};
+ghost use Rattle.json_patch_c.specs.declared.status.TheConstants.{BAD_LIMITS, NO_MEMORY, NO_POINTER, NO_ROOM, NOTHING, OK, OVER};
+ghost use Rattle.json_patch_text_bytes.specs.Reasons.{of_check, of_merge, of_patch, of_record, of_text, of_two};
+ghost use Rattle.json_patch_text_bytes.specs.Texts.{IsDifference, IsMergedInto, IsNothingAt, IsPatched, IsRecorded, IsTextPatch, IsValueAt};
 
-use crate::report::{Report, answer, refuse, tell, write};
-use json_patch::Limits;
-use json_patch_bytes::bounds::{default_limits, within_most};
+use crate::given::GivenLimits;
+use crate::report::{Report, answer, refuse, tell, write, write_both};
+use crate::status::{BAD_LIMITS, NO_POINTER, NOTHING, OK};
 use json_patch_text_bytes::calls;
 use json_patch_text_bytes::lookup::LookupFault;
 use std::alloc::Global;
@@ -18,64 +19,73 @@ use std::alloc::Global;
 /// byte is kept that no operation changes.
 #[tactic(auto, using(crate::proofs::Answered::text_written, crate::proofs::Answered::told))]
 #[unsafe(no_mangle)]
-pub extern "C" fn json_patch_apply_text(
+pub extern "C" fn json_patch_apply(
     alloc: Global,
     document: &[u8],
     patch: &[u8],
+    limits: GivenLimits,
     out: &mut [u8],
     report: &mut Report,
 ) -> u8
-    // 0, 5: the text is in `out`, or `out` is shorter than it.
-    ensures written { IsTextWritten (IsPatched the_limits document.now patch.now) result out.old
-        out.new report.new }
-    // 1, 2, 3, 4, 9: why none was made.
-    ensures told { IsTold (of_patch the_limits document.now patch.now) result out.old out.new report.new }
-    ensures status { (result ≤ 5) ⊎ (result ≡ 9) }
+    ensures written { IfOk (limits_of limits.given) (λ l.
+        IsTextWritten (IsPatched l document.now patch.now) result out.old out.new report.new) }
+    ensures told { IfOk (limits_of limits.given) (λ l.
+        IsTold (of_patch l document.now patch.now) result out.old out.new report.new) }
+    ensures bad_limits { IsBadLimits (limits_of limits.given) result out.old out.new report.new }
+    ensures status { (result ≤ NO_ROOM) ⊎ ((result ≡ OVER) ⊎ (result ≡ BAD_LIMITS)) }
 {
-    answer(
-        calls::patched(alloc, document, patch, default_limits()),
-        out,
-        report,
-    )
+    let Ok(limits) = limits.limits() else {
+        return tell(BAD_LIMITS, 0, 0, report);
+    };
+    answer(calls::patched(alloc, document, patch, limits), out, report)
 }
 
-/// The same within limits that the caller names; a depth past 124 counts as 124. `copied` counts
-/// bytes.
-#[tactic(auto, using(crate::proofs::Answered::text_written, crate::proofs::Answered::told))]
+/// Applies a patch to a document's text as `json_patch_apply` does, and writes the new one to `out` and the
+/// patch that leads back to `inverse`.
+#[tactic(auto, using(crate::proofs::Answered::both_written, crate::proofs::Answered::both_apart, crate::proofs::Answered::told_both, crate::proofs::Answered::told_failure))]
 #[unsafe(no_mangle)]
-pub extern "C" fn json_patch_apply_text_within(
+pub extern "C" fn json_patch_record(
     alloc: Global,
     document: &[u8],
     patch: &[u8],
-    limits: &Limits,
+    limits: GivenLimits,
     out: &mut [u8],
+    inverse: &mut [u8],
     report: &mut Report,
 ) -> u8
-    ensures written { IsTextWritten (IsPatched (within_most limits.now) document.now patch.now) result
-        out.old out.new report.new }
-    ensures told { IsTold (of_patch (within_most limits.now) document.now patch.now) result out.old
-        out.new report.new }
-    ensures status { (result ≤ 5) ⊎ (result ≡ 9) }
+    ensures written { IfOk (limits_of limits.given) (λ l. IsBothWritten (IsRecorded l document.now patch.now)
+        result out.old out.new inverse.old inverse.new report.new) }
+    ensures told { IfOk (limits_of limits.given) (λ l.
+        IsTold (of_record l document.now patch.now) result out.old out.new report.new) }
+    ensures bad_limits { IsBadLimits (limits_of limits.given) result out.old out.new report.new }
+    ensures inverse_unchanged { result ≢ OK → inverse.new ≡ inverse.old }
+    ensures status { (result ≤ NO_ROOM) ⊎ ((result ≡ OVER) ⊎ (result ≡ BAD_LIMITS)) }
 {
-    answer(
-        calls::patched(alloc, document, patch, within_most(limits)),
-        out,
-        report,
-    )
+    let Ok(limits) = limits.limits() else {
+        return tell(BAD_LIMITS, 0, 0, report);
+    };
+    match calls::recorded(alloc, document, patch, limits) {
+        Ok(made) => write_both(
+            made.text.as_bytes(),
+            made.undo.as_bytes(),
+            out,
+            inverse,
+            report,
+        ),
+        Err(failure) => refuse(&failure, out, report),
+    }
 }
 
-/// Reads a patch as `json_patch_apply_text` does, and does nothing else.
+/// Reads a patch as `json_patch_apply` does, and does nothing else.
 #[tactic(auto, using(crate::proofs::Answered::told_failure))]
 #[unsafe(no_mangle)]
-pub extern "C" fn json_patch_check_text(alloc: Global, patch: &[u8], report: &mut Report) -> u8
-    // 0: the text says a patch.
-    ensures read { result ≡ 0 → IsTextPatch patch.now × Tells 0 0 0 report.new }
-    // 3, 4: it says none, or memory ran out.
+pub extern "C" fn json_patch_check(alloc: Global, patch: &[u8], report: &mut Report) -> u8
+    ensures read { result ≡ OK → IsTextPatch patch.now × Tells 0 0 0 report.new }
     ensures told { IsTold (of_check patch.now) result [] [] report.new }
-    ensures status { (result ≤ 4) ⊎ (result ≡ 9) }
+    ensures status { (result ≤ NO_MEMORY) ⊎ (result ≡ OVER) }
 {
     match calls::read(alloc, patch) {
-        Ok(_) => tell(0, 0, 0, report),
+        Ok(_) => tell(OK, 0, 0, report),
         Err(failure) => refuse(&failure, &mut [], report),
     }
 }
@@ -84,124 +94,82 @@ pub extern "C" fn json_patch_check_text(alloc: Global, patch: &[u8], report: &mu
 /// that the merge doesn't change.
 #[tactic(auto, using(crate::proofs::Answered::text_written, crate::proofs::Answered::told))]
 #[unsafe(no_mangle)]
-pub extern "C" fn json_patch_merge_text(
+pub extern "C" fn json_patch_merge(
     alloc: Global,
     document: &[u8],
     patch: &[u8],
+    limits: GivenLimits,
     out: &mut [u8],
     report: &mut Report,
 ) -> u8
-    ensures written { IsTextWritten (IsMergedInto the_limits document.now patch.now) result out.old
-        out.new report.new }
-    ensures told { IsTold (of_merge the_limits document.now patch.now) result out.old out.new
-        report.new }
-    ensures status { (result ≤ 5) ⊎ (result ≡ 9) }
+    ensures written { IfOk (limits_of limits.given) (λ l.
+        IsTextWritten (IsMergedInto l document.now patch.now) result out.old out.new report.new) }
+    ensures told { IfOk (limits_of limits.given) (λ l.
+        IsTold (of_merge l document.now patch.now) result out.old out.new report.new) }
+    ensures bad_limits { IsBadLimits (limits_of limits.given) result out.old out.new report.new }
+    ensures status { (result ≤ NO_ROOM) ⊎ ((result ≡ OVER) ⊎ (result ≡ BAD_LIMITS)) }
 {
-    answer(
-        calls::merged(alloc, document, patch, default_limits()),
-        out,
-        report,
-    )
+    let Ok(limits) = limits.limits() else {
+        return tell(BAD_LIMITS, 0, 0, report);
+    };
+    answer(calls::merged(alloc, document, patch, limits), out, report)
 }
 
-/// The same within limits that the caller names; a depth past 124 counts as 124. `copied` counts the
-/// bytes of the new text past those of both texts.
+/// Writes the patch that leads from what one text says to what another says (RFC 6902). Of the limits
+/// `depth` alone counts.
 #[tactic(auto, using(crate::proofs::Answered::text_written, crate::proofs::Answered::told))]
 #[unsafe(no_mangle)]
-pub extern "C" fn json_patch_merge_text_within(
-    alloc: Global,
-    document: &[u8],
-    patch: &[u8],
-    limits: &Limits,
-    out: &mut [u8],
-    report: &mut Report,
-) -> u8
-    ensures written { IsTextWritten (IsMergedInto (within_most limits.now) document.now patch.now) result
-        out.old out.new report.new }
-    ensures told { IsTold (of_merge (within_most limits.now) document.now patch.now) result out.old
-        out.new report.new }
-    ensures status { (result ≤ 5) ⊎ (result ≡ 9) }
-{
-    answer(
-        calls::merged(alloc, document, patch, within_most(limits)),
-        out,
-        report,
-    )
-}
-
-/// Writes the patch that leads from what one text says to what another says (RFC 6902), whatever numbers
-/// both have.
-#[tactic(auto, using(crate::proofs::Answered::text_written, crate::proofs::Answered::told))]
-#[unsafe(no_mangle)]
-pub extern "C" fn json_patch_diff_text(
+pub extern "C" fn json_patch_diff(
     alloc: Global,
     from: &[u8],
     to: &[u8],
+    limits: GivenLimits,
     out: &mut [u8],
     report: &mut Report,
 ) -> u8
-    ensures written { IsTextWritten (IsDifference the_limits from.now to.now) result out.old out.new
-        report.new }
-    // 2, 4: `from` is no JSON text, or memory ran out. 3: `to` is none.
-    ensures told { IsTold (of_two the_limits.depth from.now to.now) result out.old out.new report.new }
-    ensures status { (result ≤ 5) ⊎ (result ≡ 9) }
+    ensures written { IfOk (limits_of limits.given) (λ l.
+        IsTextWritten (IsDifference l from.now to.now) result out.old out.new report.new) }
+    // NO_DOCUMENT: `from` is no JSON text. NO_PATCH: `to` is none.
+    ensures told { IfOk (limits_of limits.given) (λ l.
+        IsTold (of_two l.depth from.now to.now) result out.old out.new report.new) }
+    ensures bad_limits { IsBadLimits (limits_of limits.given) result out.old out.new report.new }
+    ensures status { (result ≤ NO_ROOM) ⊎ ((result ≡ OVER) ⊎ (result ≡ BAD_LIMITS)) }
 {
-    answer(
-        calls::differing(alloc, from, to, default_limits()),
-        out,
-        report,
-    )
+    let Ok(limits) = limits.limits() else {
+        return tell(BAD_LIMITS, 0, 0, report);
+    };
+    answer(calls::differing(alloc, from, to, limits), out, report)
 }
 
-/// The same within the limit on levels that the caller names; one past 124 counts as 124.
-#[tactic(auto, using(crate::proofs::Answered::text_written, crate::proofs::Answered::told))]
-#[unsafe(no_mangle)]
-pub extern "C" fn json_patch_diff_text_within(
-    alloc: Global,
-    from: &[u8],
-    to: &[u8],
-    limits: &Limits,
-    out: &mut [u8],
-    report: &mut Report,
-) -> u8
-    ensures written { IsTextWritten (IsDifference (within_most limits.now) from.now to.now) result
-        out.old out.new report.new }
-    ensures told { IsTold (of_two (within_most limits.now).depth from.now to.now) result out.old
-        out.new report.new }
-    ensures status { (result ≤ 5) ⊎ (result ≡ 9) }
-{
-    answer(
-        calls::differing(alloc, from, to, within_most(limits)),
-        out,
-        report,
-    )
-}
-
-/// Writes the text of the value where a pointer leads (RFC 6901), as it stands in the document's text.
+/// Writes the text of the value where a pointer leads (RFC 6901), as it stands in the document's text. Of
+/// the limits `depth` alone counts.
 #[tactic(auto, using(crate::proofs::Answered::text_put, crate::proofs::Answered::told_failure, crate::proofs::Answered::told_apart))]
 #[unsafe(no_mangle)]
-pub extern "C" fn json_patch_value_text(
+pub extern "C" fn json_patch_value(
     alloc: Global,
     document: &[u8],
     pointer: &[u8],
+    limits: GivenLimits,
     out: &mut [u8],
     report: &mut Report,
 ) -> u8
-    // 0, 5: the text is in `out`, or `out` is shorter than it.
-    ensures written { IsTextWritten (IsValueAt the_limits.depth document.now pointer.now) result out.old
-        out.new report.new }
-    // 2, 4: the document's text is none, or memory ran out.
-    ensures told { IsTold (of_text the_limits.depth document.now) result out.old out.new report.new }
-    // 7: the text is no pointer's. 8: the pointer leads nowhere.
-    ensures no_pointer { result ≡ 7 → IsNoPointer pointer.now × Tells 0 0 0 report.new }
-    ensures nothing { result ≡ 8 → IsNothingAt the_limits.depth document.now pointer.now
-        × Tells 0 0 0 report.new }
-    ensures status { (result ≤ 5) ⊎ ((result ≡ 7) ⊎ ((result ≡ 8) ⊎ (result ≡ 9))) }
+    ensures written { IfOk (limits_of limits.given) (λ l.
+        IsTextWritten (IsValueAt l.depth document.now pointer.now) result out.old out.new report.new) }
+    ensures told { IfOk (limits_of limits.given) (λ l.
+        IsTold (of_text l.depth document.now) result out.old out.new report.new) }
+    ensures no_pointer { result ≡ NO_POINTER → IsNoPointer pointer.now × Tells 0 0 0 report.new }
+    ensures nothing { IfOk (limits_of limits.given) (λ l. result ≡ NOTHING
+        → IsNothingAt l.depth document.now pointer.now × Tells 0 0 0 report.new) }
+    ensures bad_limits { IsBadLimits (limits_of limits.given) result out.old out.new report.new }
+    ensures status { (result ≤ NO_ROOM) ⊎ ((NO_POINTER ≤ result) × (result ≤ BAD_LIMITS)) }
 {
-    match calls::value_at(alloc, document, pointer, default_limits().depth) {
+    let Ok(limits) = limits.limits() else {
+        return tell(BAD_LIMITS, 0, 0, report);
+    };
+    match calls::value_at(alloc, document, pointer, limits.depth) {
         Ok(text) => write(text.as_bytes(), out, report),
         Err(LookupFault::Document(failure)) => refuse(&failure, out, report),
-        Err(LookupFault::NoPointer) => tell(7, 0, 0, report),
-        Err(LookupFault::Nothing) => tell(8, 0, 0, report),
+        Err(LookupFault::NoPointer) => tell(NO_POINTER, 0, 0, report),
+        Err(LookupFault::Nothing) => tell(NOTHING, 0, 0, report),
     }
 }

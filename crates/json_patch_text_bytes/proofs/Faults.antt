@@ -11,40 +11,113 @@ use Rattle.json_merge_text.specs.Merged.{IsMergeOver, IsMergedAlready, IsMergedT
 use Rattle.json_merge_text.specs.Merged.{most_bytes as merged_bytes}
 use Rattle.json_patch.specs.LimitKind.TheVariants.{TooMuch}
 use Rattle.json_patch.specs.Limits.{Limits}
+use Rattle.json_patch.specs.ReadKind.{ReadKind}
+use Rattle.json_patch.specs.ReadKind.TheVariants.{NotAList, NotAnObject, MissingOp, OpNotText, UnknownOp, MissingFrom, FromNotText, BadFrom, MissingPath, PathNotText, BadPath, MissingValue, ValueNotWhole}
 use Rattle.json_patch_text.specs.Operations.{SaysOperations}
 use Rattle.json_patch_text.specs.Patched.{AcceptsPatch, IsPatchedText}
+use Rattle.json_patch_text.specs.WayBack.{IsRecordLimitFault, IsRecordedWithin, IsUndoWithin}
+use Rattle.json_patch_text.specs.WayBack.{IsRecorded as IsWayBack}
 use Rattle.json_patch_text.specs.Within.{IsPatchedWithin, IsTextLimitFault, IsTextWithin, most_bytes}
 use Rattle.json_patch_text.specs.declared.fault.PatchTextFault.TheVariants as run
 use Rattle.json_patch_text.specs.declared.fault.TextLimitFault.{TextLimitFault}
 use Rattle.json_patch_text.specs.declared.fault.TextLimitFault.TheVariants as within
 use Rattle.json_patch_bytes.specs.Failures.{IsFailure}
+use Rattle.json_patch_bytes.specs.Reasons.{Reasons}
+use Rattle.json_patch_bytes.specs.Kinds.{reading_kind}
+use Rattle.json_patch_bytes.specs.Surrogates.{IsNoJsonKind}
+use Rattle.json_patch_bytes.specs.declared.kinds.TheConstants.{NOT_JSON}
 use Rattle.json_patch_bytes.specs.declared.failure.Failure.{Failure}
 use Rattle.json_patch_bytes.specs.declared.failure.Failure.TheVariants as failure
-use Rattle.json_patch_text_bytes.specs.Failures.{IsOfText, IsTold, of_fault}
-use Rattle.json_patch_text_bytes.specs.Reasons.{of_patch, of_text}
-use Rattle.json_patch_text_bytes.specs.Texts.{IsDifference, IsJsonText, IsMergedInto, IsMergedOver, IsPatched}
+use Rattle.json_patch_text_bytes.specs.Failures.{IsNamed, IsOfText, IsTold, of_fault}
+use Rattle.json_patch_text_bytes.specs.Reasons.{of_patch, of_record, of_text, of_texts}
+use Rattle.json_patch_text_bytes.specs.Texts.{IsDifference, IsJsonText, IsMergedInto, IsMergedOver, IsNoJsonText, IsNoTextPatch, IsPatched, IsRecorded}
 
--- the failure of the document's text is one of the call's
-own_failure : (l : Limits) (document patch : List ℕ) (failure : Failure) → IsFailure (of_text l.depth document) failure → IsFailure (of_patch l document patch) failure
-own_failure l document patch (failure.NoDocument kind) own = own
-own_failure l document patch (failure.NoPatch operation kind) own = absurd own
-own_failure l document patch (failure.Refused e) own = absurd own
-own_failure l document patch (failure.Over e) own = absurd own
-own_failure l document patch failure.Memory own = tt
+-- ---- the kind of what is wrong with a text
 
-run_failure : (l : Limits) (document patch : List ℕ) (fault : TextLimitFault) → l.depth ≤ 124 → (IsOfText (of_fault fault) → IsJsonText l.depth document) → IsUtf8 patch → nesting patch ≤ 127
-    → IsTextLimitFault l document patch fault → IsFailure (of_patch l document patch) (of_fault fault)
-run_failure l document patch (within.Over e) few is utf8 fits why = why
-run_failure l document patch (within.Patch (run.Document text.NotJson)) few is utf8 fits why = absurd (why (is tt).1.0 (is tt).1.1)
-run_failure l document patch (within.Patch (run.Document text.TooDeep)) few is utf8 fits why = absurd (omega (arith, few, (is tt).2, why))
-run_failure l document patch (within.Patch (run.Document (text.Memory m))) few is utf8 fits why = tt
-run_failure l document patch (within.Patch (run.Patch text.NotJson)) few is utf8 fits why = (is tt, inl (refl, inr (refl, λ u. (fits, why))))
-run_failure l document patch (within.Patch (run.Patch text.TooDeep)) few is utf8 fits why = absurd (omega (arith, fits, why))
-run_failure l document patch (within.Patch (run.Patch (text.Memory m))) few is utf8 fits why = tt
-run_failure l document patch (within.Patch (run.Unreadable e)) few is utf8 fits why = (is tt, inr (e.operation, e.kind, utf8, why, refl, refl))
-run_failure l document patch (within.Patch (run.Refused e)) few is utf8 fits why = why
-run_failure l document patch (within.Patch (run.TooDeep k)) few is utf8 fits why = absurd (omega (arith, few, why.0))
-run_failure l document patch (within.Patch (run.Memory m)) few is utf8 fits why = tt
+-- a text that is none for the kind 1 is none for the one that is told
+pub other_kind : (levels : ℕ) (text : List ℕ) (kind : ℕ) → IsNoJsonText levels text NOT_JSON → IsNoJsonKind text kind → IsNoJsonText levels text kind
+other_kind levels text kind (inl (is, utf8, deep)) told = absurd (omega (arith, is))
+other_kind levels text kind (inr (one, none)) (inl is) = inr (inl is, none)
+other_kind levels text kind (inr (one, none)) (inr (inl unpaired)) = inr (inr unpaired, none)
+other_kind levels text kind (inr (one, none)) (inr (inr (is, said))) = absurd ((none said.0).1 said.1.0 said.1.1)
+
+-- what is wrong with an operation is no such kind
+late : (why : ReadKind) → NOT_JSON ≡ reading_kind why → ⊥
+late NotAList is = omega (arith, is)
+late NotAnObject is = omega (arith, is)
+late MissingOp is = omega (arith, is)
+late OpNotText is = omega (arith, is)
+late UnknownOp is = omega (arith, is)
+late MissingFrom is = omega (arith, is)
+late FromNotText is = omega (arith, is)
+late (BadFrom e) is = omega (arith, is)
+late MissingPath is = omega (arith, is)
+late PathNotText is = omega (arith, is)
+late (BadPath e) is = omega (arith, is)
+late MissingValue is = omega (arith, is)
+late ValueNotWhole is = omega (arith, is)
+
+-- and one that says no patch
+other_patch : (patch : List ℕ) (kind : ℕ) → IsNoTextPatch patch 0 NOT_JSON → IsNoJsonKind patch kind → IsNoTextPatch patch 0 kind
+other_patch patch kind (inl (first, none)) told = inl (first, other_kind 127 patch kind none told)
+other_patch patch kind (inr (k, why, utf8, says, at, is)) told = absurd (late why is)
+
+-- ---- a call's own reasons R
+
+module _ (R : Reasons) where
+  -- the failure of the document's text, where that is one of them
+  own_in : (levels : ℕ) (document : List ℕ) (failure : Failure) → ((kind : ℕ) → IsNoJsonText levels document kind → R.no_document kind)
+      → IsFailure (of_text levels document) failure → IsFailure R failure
+  own_in levels document (failure.NoDocument kind) own why = own kind why
+  own_in levels document (failure.NoPatch operation kind) own why = absurd why
+  own_in levels document (failure.Refused e) own why = absurd why
+  own_in levels document (failure.Over e) own why = absurd why
+  own_in levels document failure.Memory own why = tt
+
+  -- a failure that is named anew
+  named_in : (second : List ℕ) (failure told : Failure) → ((kind : ℕ) → IsNoJsonKind second kind → R.no_patch 0 NOT_JSON → R.no_patch 0 kind)
+      → IsNamed second failure told → IsFailure R failure → IsFailure R told
+  named_in second failure told name (inl same) why = subst (IsFailure R) (sym same) why
+  named_in second failure told name (inr (inl memory)) why = subst (IsFailure R) (sym memory) tt
+  named_in second failure told name (inr (inr (is, (kind, same, called)))) why =
+      subst (IsFailure R) (sym same) (name kind called (subst (IsFailure R) is why))
+
+  told_in : (levels : ℕ) (document second : List ℕ) (failure told : Failure) → ((kind : ℕ) → IsNoJsonText levels document kind → R.no_document kind)
+      → ((kind : ℕ) → IsNoJsonKind second kind → R.no_patch 0 NOT_JSON → R.no_patch 0 kind) → ((IsOfText failure → IsJsonText levels document) → IsFailure R failure)
+      → IsTold levels document second failure told → IsFailure R told
+  told_in levels document second failure told own name why (inl mine) = own_in levels document told own mine
+  told_in levels document second failure told own name why (inr (named, is)) = named_in second failure told name named (why is)
+
+-- ---- why a run fails
+
+run_failure : (l : Limits) (document patch : List ℕ) (fault : TextLimitFault) → l.depth ≤ 124 → IsUtf8 patch → nesting patch ≤ 127
+    → IsTextLimitFault l document patch fault → (IsOfText (of_fault fault) → IsJsonText l.depth document) → IsFailure (of_patch l document patch) (of_fault fault)
+run_failure l document patch (within.Over e) few utf8 fits why is = why
+run_failure l document patch (within.Patch (run.Document text.NotJson)) few utf8 fits why is = absurd (why (is tt).1.0 (is tt).1.1)
+run_failure l document patch (within.Patch (run.Document text.TooDeep)) few utf8 fits why is = absurd (omega (arith, few, (is tt).2, why))
+run_failure l document patch (within.Patch (run.Document (text.Memory m))) few utf8 fits why is = tt
+run_failure l document patch (within.Patch (run.Patch text.NotJson)) few utf8 fits why is = (is tt, inl (refl, inr (inl refl, λ u. (fits, why))))
+run_failure l document patch (within.Patch (run.Patch text.TooDeep)) few utf8 fits why is = absurd (omega (arith, fits, why))
+run_failure l document patch (within.Patch (run.Patch (text.Memory m))) few utf8 fits why is = tt
+run_failure l document patch (within.Patch (run.Unreadable e)) few utf8 fits why is = (is tt, inr (e.operation, e.kind, utf8, why, refl, refl))
+run_failure l document patch (within.Patch (run.Refused e)) few utf8 fits why is = why
+run_failure l document patch (within.Patch (run.TooDeep k)) few utf8 fits why is = absurd (omega (arith, few, why.0))
+run_failure l document patch (within.Patch (run.Memory m)) few utf8 fits why is = tt
+
+-- one that is recorded fails for the same but where an operation is refused, or over the limits
+record_failure : (l : Limits) (document patch : List ℕ) (fault : TextLimitFault) → l.depth ≤ 124 → IsUtf8 patch → nesting patch ≤ 127
+    → IsRecordLimitFault l document patch fault → (IsOfText (of_fault fault) → IsJsonText l.depth document) → IsFailure (of_record l document patch) (of_fault fault)
+record_failure l document patch (within.Over e) few utf8 fits why is = why
+record_failure l document patch (within.Patch (run.Document text.NotJson)) few utf8 fits why is = absurd (why.0 (is tt).1.0 (is tt).1.1)
+record_failure l document patch (within.Patch (run.Document text.TooDeep)) few utf8 fits why is = absurd (omega (arith, few, (is tt).2, why.0))
+record_failure l document patch (within.Patch (run.Document (text.Memory m))) few utf8 fits why is = tt
+record_failure l document patch (within.Patch (run.Patch text.NotJson)) few utf8 fits why is = run_failure l document patch (within.Patch (run.Patch text.NotJson)) few utf8 fits why.0 is
+record_failure l document patch (within.Patch (run.Patch text.TooDeep)) few utf8 fits why is = absurd (omega (arith, fits, why.0))
+record_failure l document patch (within.Patch (run.Patch (text.Memory m))) few utf8 fits why is = tt
+record_failure l document patch (within.Patch (run.Unreadable e)) few utf8 fits why is = run_failure l document patch (within.Patch (run.Unreadable e)) few utf8 fits why.0 is
+record_failure l document patch (within.Patch (run.Refused e)) few utf8 fits why is = why
+record_failure l document patch (within.Patch (run.TooDeep k)) few utf8 fits why is = absurd (omega (arith, few, why.0.0))
+record_failure l document patch (within.Patch (run.Memory m)) few utf8 fits why is = tt
 
 -- ---- the texts d and p, which the bytes are
 
@@ -65,16 +138,58 @@ is_patched l document patch d p new same same_patch here utf8 accepted kept with
     } in
     subst (λ s. IsPatched l s patch new) same (subst (λ s. IsPatched l d s new) same_patch at)
 
-told_failure : (l : Limits) (document patch : List ℕ) (fault : TextLimitFault) (told : Failure) → l.depth ≤ 124 → IsUtf8 patch → nesting patch ≤ 127
-    → IsTextLimitFault l document patch fault → IsTold l.depth document (of_fault fault) told → IsFailure (of_patch l document patch) told
-told_failure l document patch fault told few utf8 fits why (inl own) = own_failure l document patch told own
-told_failure l document patch fault told few utf8 fits why (inr (same, is)) = subst (IsFailure (of_patch l document patch)) (sym same) (run_failure l document patch fault few is utf8 fits why)
-
 pub is_failure : (l : Limits) (document patch d p : List ℕ) (fault : TextLimitFault) (failure told : Failure) → d ≡ document → p ≡ patch → l.depth ≤ 124
-    → IsUtf8 patch → nesting patch ≤ 127 → IsTextLimitFault l d p fault → failure ≡ of_fault fault → IsTold l.depth document failure told → IsFailure (of_patch l document patch) told
+    → IsUtf8 patch → nesting patch ≤ 127 → IsTextLimitFault l d p fault → failure ≡ of_fault fault → IsTold l.depth document patch failure told → IsFailure (of_patch l document patch) told
 is_failure l document patch d p fault failure told same same_patch few utf8 fits why of first =
     let here : IsTextLimitFault l document patch fault = subst (λ s. IsTextLimitFault l s patch fault) same (subst (λ s. IsTextLimitFault l d s fault) same_patch why) in
-    told_failure l document patch fault told few utf8 fits here (subst (λ f. IsTold l.depth document f told) of first)
+    told_in (of_patch l document patch) l.depth document patch (of_fault fault) told (λ kind none. none) (λ kind called none. (none.0, other_patch patch kind none.1 called))
+    (run_failure l document patch fault few utf8 fits here) (subst (λ f. IsTold l.depth document patch f told) of first)
+
+-- ---- a patch that is recorded
+
+flat_when_recorded : (l : Limits) (text patch new undo : List ℕ) → IsRecordedWithin l text patch new undo → nesting text ≤ l.depth
+flat_when_recorded l text patch new undo ([], us, has, taken, is) = taken.0.0.0
+flat_when_recorded l text patch new undo (o ∷ os, us, has, taken, is) = taken.0.0.0
+
+pub is_recorded : (l : Limits) (document patch d p new undo : List ℕ) → d ≡ document → p ≡ patch → IsUtf8 document → IsUtf8 new → IsUtf8 undo → l.depth ≤ 124
+    → AcceptsPatch d p new → IsPatchedText d p new → IsWayBack d p new undo → AcceptsPatch new undo d → IsRecordedWithin l d p new undo
+    → IsTextWithin l (most_bytes l d p) new → IsUndoWithin l (most_bytes l d p) undo → IsRecorded l document patch new undo
+is_recorded l document patch d p new undo same same_patch here utf8 utf8_undo few accepted kept recorded leads within bounded undo_bounded =
+    let at : IsRecorded l d p new undo = record {
+      text = (subst IsUtf8 (sym same) here, (accepted.2.0, accepted.2.2), flat_when_recorded l d p new undo within);
+      accepted = accepted;
+      kept = kept;
+      recorded = recorded;
+      leads_back = leads;
+      within = within;
+      again = (utf8, (accepted.2.1, accepted.2.3), bounded.0);
+      readable = ((utf8_undo, (leads.1.0, leads.1.1), omega (arith, undo_bounded.0, few)), (leads.0, leads.1));
+    } in
+    subst (λ s. IsRecorded l s patch new undo) same (subst (λ s. IsRecorded l d s new undo) same_patch at)
+
+pub is_record_failure : (l : Limits) (document patch d p : List ℕ) (fault : TextLimitFault) (failure told : Failure) → d ≡ document → p ≡ patch → l.depth ≤ 124
+    → IsUtf8 patch → nesting patch ≤ 127 → IsRecordLimitFault l d p fault → failure ≡ of_fault fault → IsTold l.depth document patch failure told → IsFailure (of_record l document patch) told
+is_record_failure l document patch d p fault failure told same same_patch few utf8 fits why of first =
+    let here : IsRecordLimitFault l document patch fault = subst (λ s. IsRecordLimitFault l s patch fault) same (subst (λ s. IsRecordLimitFault l d s fault) same_patch why) in
+    told_in (of_record l document patch) l.depth document patch (of_fault fault) told (λ kind none. none) (λ kind called none. (none.0, other_patch patch kind none.1 called))
+    (record_failure l document patch fault few utf8 fits here) (subst (λ f. IsTold l.depth document patch f told) of first)
+
+-- ---- the texts alone
+
+-- why they aren't read is why they aren't patched, or recorded
+pub unread_patch : (l : Limits) (document patch : List ℕ) (failure : Failure) → IsFailure (of_texts l.depth document patch) failure → IsFailure (of_patch l document patch) failure
+unread_patch l document patch (failure.NoDocument kind) why = why
+unread_patch l document patch (failure.NoPatch operation kind) why = why
+unread_patch l document patch (failure.Refused e) why = absurd why
+unread_patch l document patch (failure.Over e) why = absurd why
+unread_patch l document patch failure.Memory why = tt
+
+pub unread_record : (l : Limits) (document patch : List ℕ) (failure : Failure) → IsFailure (of_texts l.depth document patch) failure → IsFailure (of_record l document patch) failure
+unread_record l document patch (failure.NoDocument kind) why = why
+unread_record l document patch (failure.NoPatch operation kind) why = why
+unread_record l document patch (failure.Refused e) why = absurd why
+unread_record l document patch (failure.Over e) why = absurd why
+unread_record l document patch failure.Memory why = tt
 
 -- ---- a merge
 

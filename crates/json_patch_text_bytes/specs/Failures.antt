@@ -13,6 +13,8 @@ use Rattle.json_patch_text.specs.declared.fault.TextLimitFault.{TextLimitFault}
 use Rattle.json_patch_text.specs.declared.fault.TextLimitFault.TheVariants as within
 use Rattle.json_patch_bytes.specs.Failures.{IsFailure}
 use Rattle.json_patch_bytes.specs.Kinds.{reading_kind}
+use Rattle.json_patch_bytes.specs.Surrogates.{IsNoJsonKind}
+use Rattle.json_patch_bytes.specs.declared.kinds.TheConstants.{NOT_JSON, TOO_DEEP}
 use Rattle.json_patch_bytes.specs.Texts.{IsNoPointer}
 use Rattle.json_patch_bytes.specs.declared.failure.Failure.{Failure}
 use Rattle.json_patch_bytes.specs.declared.failure.Failure.TheVariants.{NoDocument, NoPatch, Refused, Over, Memory}
@@ -25,14 +27,14 @@ use Rattle.json_patch_text_bytes.specs.declared.lookup.LookupFault.TheVariants a
 
 -- for a fault of the document's text
 abbrev pub as_document : TextFault → Failure
-as_document text.NotJson = NoDocument 1
-as_document text.TooDeep = NoDocument 7
+as_document text.NotJson = NoDocument NOT_JSON
+as_document text.TooDeep = NoDocument TOO_DEEP
 as_document (text.Memory m) = Memory
 
 -- for one of the patch's text
 abbrev pub as_patch : TextFault → Failure
-as_patch text.NotJson = NoPatch 0 1
-as_patch text.TooDeep = NoPatch 0 7
+as_patch text.NotJson = NoPatch 0 NOT_JSON
+as_patch text.TooDeep = NoPatch 0 TOO_DEEP
 as_patch (text.Memory m) = Memory
 
 -- for that of a run, or of reading its patch
@@ -71,10 +73,14 @@ IsOfText (Refused e) = ⊥
 IsOfText (Over e) = ⊥
 IsOfText Memory = ⊥
 
+-- the failure, or the same of a second text that isn't JSON, with the kind of that
+abbrev pub IsNamed : List ℕ → Failure → Failure → Type 0
+IsNamed second failure told = (told ≡ failure) ⊎ ((told ≡ Memory) ⊎ ((failure ≡ NoPatch 0 NOT_JSON) × ((kind : ℕ) × (told ≡ NoPatch 0 kind) × IsNoJsonKind second kind)))
+
 -- where a call fails so, the document's own failure is told, or this one, which speaks of a text only where the document's is JSON
-abbrev pub IsTold : ℕ → List ℕ → Failure → Failure → Type 0
-IsTold levels document failure told = IsFailure (of_text levels document) told
-    ⊎ ((told ≡ failure) × (IsOfText failure → IsJsonText levels document))
+abbrev pub IsTold : ℕ → List ℕ → List ℕ → Failure → Failure → Type 0
+IsTold levels document second failure told = IsFailure (of_text levels document) told
+    ⊎ (IsNamed second failure told × (IsOfText failure → IsJsonText levels document))
 
 -- ---- a value's text
 

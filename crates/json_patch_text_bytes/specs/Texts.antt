@@ -15,22 +15,26 @@ use Rattle.json_patch.specs.ReadKind.{ReadKind}
 use Rattle.json_patch_text.specs.Operations.{SaysNoOperations, SaysOperations, TreeOperation}
 use Rattle.json_patch_text.specs.Patched.{AcceptsPatch, IsPatchedText}
 use Rattle.json_patch_text.specs.Stopped.{NamesFirstIn}
+use Rattle.json_patch_text.specs.WayBack.{IsRecordedWithin, RecordsWithin}
+use Rattle.json_patch_text.specs.WayBack.{IsRecorded as IsWayBack}
 use Rattle.json_patch_text.specs.Within.{IsPatchedWithin, ReachesWithin}
 use Rattle.json_patch_bytes.specs.Kinds.{reading_kind}
+use Rattle.json_patch_bytes.specs.Surrogates.{HasUnpaired}
+use Rattle.json_patch_bytes.specs.declared.kinds.TheConstants.{NOT_JSON, TOO_DEEP, UNPAIRED_SURROGATE}
 use Rattle.json_patch_bytes.specs.Texts.{IsTextOfPointer}
 
 -- the bytes are UTF-8 and JSON (RFC 8259) with no unpaired surrogate, and at most so many objects and arrays are open in them at once
 abbrev pub IsJsonText : ℕ → List ℕ → Type 0
 IsJsonText levels text = IsUtf8 text × ((j : Json) × Says text j) × (nesting text ≤ levels)
 
--- the bytes are no such text: 7 is told where more are open, and else 1
+-- the bytes are no such text: more are open, or else they are no JSON, perhaps since surrogates keep them from it
 abbrev pub IsNoJsonText : ℕ → List ℕ → ℕ → Type 0
-IsNoJsonText levels text kind = ((kind ≡ 7) × IsUtf8 text × (levels < nesting text))
-    ⊎ ((kind ≡ 1) × (IsUtf8 text → (nesting text ≤ levels) × ((j : Json) → ¬ Says text j)))
+IsNoJsonText levels text kind = ((kind ≡ TOO_DEEP) × IsUtf8 text × (levels < nesting text))
+    ⊎ (((kind ≡ NOT_JSON) ⊎ ((kind ≡ UNPAIRED_SURROGATE) × HasUnpaired text)) × (IsUtf8 text → (nesting text ≤ levels) × ((j : Json) → ¬ Says text j)))
 
--- for private clauses: the bytes are no UTF-8 (1), or more are open in them (7)
+-- for private clauses: more are open in the bytes, or they are no UTF-8
 abbrev pub IsNoFlatText : ℕ → List ℕ → ℕ → Type 0
-IsNoFlatText levels text kind = ((kind ≡ 7) × IsUtf8 text × (levels < nesting text)) ⊎ ((kind ≡ 1) × ¬ IsUtf8 text)
+IsNoFlatText levels text kind = ((kind ≡ TOO_DEEP) × IsUtf8 text × (levels < nesting text)) ⊎ ((kind ≡ NOT_JSON) × ¬ IsUtf8 text)
 
 -- the bytes say no patch: they are no JSON text, or are read as none, whatever its numbers are read as
 abbrev pub IsNoTextPatch : List ℕ → ℕ → ℕ → Type 0
@@ -50,10 +54,27 @@ pub record IsPatched (l : Limits) (document patch new : List ℕ) : Type 0 where
   -- so it can be handed in again
   pub again : IsJsonText l.depth new
 
+-- the same, and undo is the text of a patch that leads back from there
+pub record IsRecorded (l : Limits) (document patch new undo : List ℕ) : Type 0 where
+  pub text : IsJsonText l.depth document
+  pub accepted : AcceptsPatch document patch new
+  pub kept : IsPatchedText document patch new
+  -- the inverse, which leads back: at most two operations for each, add, remove and replace alone
+  pub recorded : IsWayBack document patch new undo
+  pub leads_back : AcceptsPatch new undo document
+  pub within : IsRecordedWithin l document patch new undo
+  -- so both can be handed in again, the second as a patch
+  pub again : IsJsonText l.depth new
+  pub readable : IsTextPatch undo
+
 -- the patch is refused on the document's text, the operations before are made within the limits, and e is which and why
 abbrev pub IsRefusedIn : Limits → List ℕ → List ℕ → PatchError → Type 0
 IsRefusedIn l document patch e = ((ops : List TreeOperation) × SaysOperations patch ops × NamesFirstIn document ops e)
     × ReachesWithin l document patch e.operation
+
+-- the same of one that is recorded
+abbrev pub IsRefusedRecorded : Limits → List ℕ → List ℕ → PatchError → Type 0
+IsRefusedRecorded l document patch e = IsRefusedIn l document patch e × RecordsWithin l document patch e.operation
 
 -- new is the document's text with the merge patch merged into it, every byte kept that the merge doesn't change, within the limits
 pub record IsMergedInto (l : Limits) (document patch new : List ℕ) : Type 0 where

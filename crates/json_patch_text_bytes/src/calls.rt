@@ -3,23 +3,23 @@
 ghost use Rattle.std.specs.Prelude.{◌≤◌, IfErr, IfOk, string_bytes};
 ghost use Rattle.json_patch_bytes.specs.Failures.{IsFailure};
 ghost use Rattle.json_patch_text_bytes.specs.Failures.{IsLookupFault};
-ghost use Rattle.json_patch_text_bytes.specs.Reasons.{of_check, of_merge, of_patch, of_two};
-ghost use Rattle.json_patch_text_bytes.specs.Texts.{IsDifference, IsMergedInto, IsPatched, IsTextPatch, IsValueAt};
+ghost use Rattle.json_patch_text_bytes.specs.Reasons.{of_check, of_merge, of_patch, of_record, of_two};
+ghost use Rattle.json_patch_text_bytes.specs.Texts.{IsDifference, IsMergedInto, IsPatched, IsRecorded, IsTextPatch, IsValueAt};
 
 use crate::failures::{of_difference, of_merge, of_reading, of_run};
 use crate::lookup::LookupFault;
-use crate::texts::{checked_text, flat_text, told, two_texts};
+use crate::texts::{
+    MOST_OF_PATCH, checked_text, flat_text, named, text_and_patch, told, two_texts,
+};
 use json_diff_text::diff_text;
 use json_merge_text::merge_text_within;
 use json_patch::{LimitError, LimitKind, Limits};
-use json_patch_bytes::failure::{Failure, NOT_JSON};
-use json_patch_text::{check_patch, patch_text_within};
+use json_patch_bytes::failure::Failure;
+use json_patch_bytes::kinds::NOT_JSON;
+use json_patch_text::{Recorded, check_patch, patch_text_within, record_text_within};
 use jsonptr::Pointer;
 use simdutf8::compat::from_utf8;
 use std::alloc::Global;
-
-/// The most levels of a patch's text, as of one whose values are documents.
-const MOST_OF_PATCH: usize = 127;
 
 /// What is told of a merge that would leave too long a text.
 const TOO_LONG: LimitError = LimitError {
@@ -29,9 +29,10 @@ const TOO_LONG: LimitError = LimitError {
 
 /// The document's text with the patch applied (RFC 6902), and every byte kept that no operation changes.
 ///
-/// `NoDocument` where the document's bytes are no UTF-8 or no JSON, for the kind 1, or nest deeper than
-/// the limit, for 7; then `NoPatch` where the patch's bytes say none; then `Over` where an operation
-/// would leave a text over the limits, of which `copied` counts bytes here, or `Refused`.
+/// `NoDocument` where the document's bytes are no UTF-8 or no JSON, or nest deeper than the limit; then
+/// `NoPatch` where the patch's bytes say none; then `Over` where an operation would leave a text over
+/// the limits, of which `copied` counts bytes here, or `Refused`.
+#[tactic(auto, using(crate::proofs::Faults::unread_patch))]
 pub fn patched(
     alloc: Global,
     document: &[u8],
@@ -42,17 +43,37 @@ pub fn patched(
     ensures text { IfOk result (λ s. IsPatched limits document.now patch.now (string_bytes s)) }
     ensures failure { IfErr result (IsFailure (of_patch limits document.now patch.now)) }
 {
-    let Ok(text) = from_utf8(document) else {
-        return Err(Failure::NoDocument(NOT_JSON));
-    };
-    let patch = match flat_text(patch, MOST_OF_PATCH) {
-        Ok(patch) => patch,
-        Err(kind) => return Err(told(alloc, document, limits.depth, Failure::NoPatch(0, kind))),
-    };
-    // This reads the document's text itself, so it isn't read here before.
-    match patch_text_within(alloc, text, patch, limits) {
+    let (text, flat) = text_and_patch(alloc, document, patch, limits.depth)?;
+    match patch_text_within(alloc, text, flat, limits) {
         Ok(new) => Ok(new),
-        Err(fault) => Err(told(alloc, document, limits.depth, of_run(fault))),
+        Err(fault) => {
+            let failure = of_run(fault);
+            Err(told(alloc, document, patch, limits.depth, failure))
+        }
+    }
+}
+
+/// The document's text with the patch applied, as [`patched`] makes it, and the text of the patch that leads
+/// back. It fails as that does, and is `Over`, too, where what leads back would be too long.
+#[tactic(auto, using(crate::proofs::Faults::unread_record))]
+pub fn recorded(
+    alloc: Global,
+    document: &[u8],
+    patch: &[u8],
+    limits: Limits,
+) -> Result<Recorded, Failure>
+    requires { limits.depth ≤ 124 }
+    ensures texts { IfOk result (λ r.
+        IsRecorded limits document.now patch.now (string_bytes r.text) (string_bytes r.undo)) }
+    ensures failure { IfErr result (IsFailure (of_record limits document.now patch.now)) }
+{
+    let (text, flat) = text_and_patch(alloc, document, patch, limits.depth)?;
+    match record_text_within(alloc, text, flat, limits) {
+        Ok(made) => Ok(made),
+        Err(fault) => {
+            let failure = of_run(fault);
+            Err(told(alloc, document, patch, limits.depth, failure))
+        }
     }
 }
 
@@ -61,22 +82,22 @@ pub fn read(alloc: Global, patch: &[u8]) -> Result<(), Failure>
     ensures read { IfOk result (λ none. IsTextPatch patch.now) }
     ensures failure { IfErr result (IsFailure (of_check patch.now)) }
 {
-    let patch = match flat_text(patch, MOST_OF_PATCH) {
-        Ok(patch) => patch,
+    let flat = match flat_text(patch, MOST_OF_PATCH) {
+        Ok(flat) => flat,
         Err(kind) => return Err(Failure::NoPatch(0, kind)),
     };
-    match check_patch(alloc, patch) {
+    match check_patch(alloc, flat) {
         Ok(_) => Ok(()),
-        Err(fault) => Err(of_reading(fault)),
+        Err(fault) => Err(named(alloc, patch, of_reading(fault))),
     }
 }
 
 /// The document's text with the merge patch merged into it (RFC 7396), and every byte kept that the merge
 /// doesn't change.
 ///
-/// `NoDocument` where the document's bytes are no UTF-8 or no JSON, for the kind 1, or nest deeper than
-/// the limit, for 7; then `NoPatch` where the patch's bytes are such; then `Over`, of operation 0, where
-/// the merge would leave more bytes than both texts and the limit's `copied` have together.
+/// `NoDocument` where the document's bytes are no UTF-8 or no JSON, or nest deeper than the limit; then
+/// `NoPatch` where the patch's bytes are such; then `Over`, of operation 0, where the merge would leave
+/// more bytes than both texts and the limit's `copied` have together.
 pub fn merged(
     alloc: Global,
     document: &[u8],
@@ -90,7 +111,10 @@ pub fn merged(
     let (text, second) = two_texts(alloc, document, patch, limits.depth)?;
     let made = match merge_text_within(alloc, text, second, limits.copied) {
         Ok(made) => made,
-        Err(fault) => return Err(told(alloc, document, limits.depth, of_merge(fault))),
+        Err(fault) => {
+            let failure = of_merge(fault);
+            return Err(told(alloc, document, patch, limits.depth, failure));
+        }
     };
     match made {
         Some(new) => Ok(new),
@@ -101,8 +125,8 @@ pub fn merged(
 /// The patch that leads from what one text says to what another says (RFC 6902), whatever numbers both
 /// have: applied to the one within the same levels it leaves the other.
 ///
-/// `NoDocument` where the first's bytes are no UTF-8 or no JSON, for the kind 1, or nest deeper than the
-/// limit, for 7; then `NoPatch` where the second's are such. Of the limits `depth` alone counts.
+/// `NoDocument` where the first's bytes are no UTF-8 or no JSON, or nest deeper than the limit; then
+/// `NoPatch` where the second's are such. Of the limits `depth` alone counts.
 pub fn differing(alloc: Global, from: &[u8], to: &[u8], limits: Limits) -> Result<String, Failure>
     requires { limits.depth ≤ 124 }
     ensures text { IfOk result (λ s. IsDifference limits from.now to.now (string_bytes s)) }
@@ -111,14 +135,17 @@ pub fn differing(alloc: Global, from: &[u8], to: &[u8], limits: Limits) -> Resul
     let (first, second) = two_texts(alloc, from, to, limits.depth)?;
     match diff_text(alloc, first, second) {
         Ok(patch) => Ok(patch),
-        Err(fault) => Err(told(alloc, from, limits.depth, of_difference(fault))),
+        Err(fault) => {
+            let failure = of_difference(fault);
+            Err(told(alloc, from, to, limits.depth, failure))
+        }
     }
 }
 
 /// The text of the value where the pointer leads in the document (RFC 6901), as it is written there.
 ///
 /// `NoPointer` where the pointer's bytes are none, and then the document isn't looked at; `Document`
-/// where the document's are no UTF-8 or no JSON, for the kind 1, or nest deeper than `levels`, for 7.
+/// where the document's are no UTF-8 or no JSON, or nest deeper than `levels`.
 pub fn value_at<'a>(
     alloc: Global,
     document: &'a [u8],

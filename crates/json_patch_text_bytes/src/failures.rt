@@ -6,7 +6,8 @@ ghost use Rattle.json_patch_text_bytes.specs.Failures.{as_document, as_patch, of
 use json_diff_text::DiffTextFault;
 use json_merge_text::MergeTextFault;
 use json_patch::{LimitError, LimitKind};
-use json_patch_bytes::failure::{Failure, NOT_JSON, TOO_DEEP, kind_of_reading};
+use json_patch_bytes::failure::{Failure, kind_of_reading};
+use json_patch_bytes::kinds::{NOT_JSON, TOO_DEEP};
 use json_patch_text::{PatchTextFault, TextLimitFault};
 use json_text::TextFault;
 

@@ -29,7 +29,7 @@ Of two documents the patch is made that leads from the one to the other:
 >>> make_patch({"name": "a", "rows": [1, 2, 3]}, {"name": "a", "rows": [1, 3]})
 JsonPatch([{'op': 'remove', 'path': '/rows/1'}])
 
-A JSON text, such as a file's, is patched with every other byte kept, whatever numbers it has:
+A JSON text, such as a file's, is patched with every other byte kept:
 
 >>> apply_text('{ "price": 1.50, "rows": [1, 2] }', [{"op": "remove", "path": "/rows/0"}])
 '{ "price": 1.50, "rows": [2] }'
@@ -42,22 +42,22 @@ A large document that is changed again and again is kept by the library:
 [3, 2]
 
 A stranger's patch can't nest a document without end, nor copy it, or what its inverse holds: every call
-keeps to Limits, those of `limits` or Limits(). OverLimit tells which operation is over, before it is made:
+keeps to Limits, those of `limits` or Limits(). OverLimit tells which operation is over, and nothing is changed:
 
 >>> try:
-...     apply_patch([], [{"op": "copy", "from": "", "path": "/-"}] * 9, limits=Limits(copied=100))
+...     apply_patch([], [{"op": "copy", "from": "", "path": "/-"}] * 9, limits=Limits(bytes=100))
 ... except OverLimit as error:
 ...     print(error)
-operation 6 is over the limits at path '/-': TooMuch
+operation 7 is over the limits at path '/-': TooMuch
 
-Except in apply_text, merge_text and resolve_text, and in an object that is changed in place, documents and
-the values in a patch hold whole numbers of 64 bits alone: 1.5, 1.0, 2**64 and nan are refused by NumberNotWhole. A document is what json.dumps writes of an object, and what comes back
-is what json.loads reads: new lists and dicts, the names in byte order, a key 1 as "1".
+A document is what json.dumps writes of an object, and what comes back is what json.loads reads: new lists and
+dicts, the members in their order, a key 1 as "1". `dumps` and `loads` name other functions, as for Decimals. Numbers
+may be any that these write and read; nan and infinity are no JSON. Those of a Document are integers of 64
+bits: it refuses 1.5, 1.0 and 2**64 by NumberNotWhole, and its members are in byte order of their names.
 
-What is no UTF-8, no JSON (RFC 8259), or has a number or an escape that the reader of JSON refuses (a
-number past a float's range, such as 1e400 in a text, or 10**400, or an unpaired surrogate), is refused
-with the `kind` NotJson. A Document and a JsonPatch are read from a text by one reader: a text with -0
-isn't whole, and one in UTF-16, or with a byte order mark, is no JSON.
+What is no UTF-8 or no JSON (RFC 8259) is refused with the `kind` NotJson, and what holds an unpaired
+surrogate, which stands for no character, with UnpairedSurrogate. A text in UTF-16, or with a byte order mark, is
+no JSON.
 
 A document or a merge patch with more levels than the limit, and a patch whose text nests more than 127,
 is refused by TooDeep, as a text or as an object, also one that holds itself. No call raises

@@ -13,7 +13,11 @@ from .limits import Limits
 
 TYPE_CHECKING = False
 if TYPE_CHECKING:
-    from typing import Any, Callable, Dict, Optional
+    from typing import Any, Callable, Dict, Optional, Tuple
+
+
+# room beside what was handed in: mostly that suffices
+_SPARE = 64
 
 
 def _of_document(kind: str, error: type) -> Exception:
@@ -21,7 +25,7 @@ def _of_document(kind: str, error: type) -> Exception:
     return made(f"document: {kind}", kind=kind)
 
 
-def _operation(patch: bytes, number: int) -> Dict[str, Any]:
+def operation_of(patch: bytes, number: int) -> Dict[str, Any]:
     """The operation of this number. Its numbers may be any, and stay as they are written."""
     import json
 
@@ -32,7 +36,7 @@ def _operation(patch: bytes, number: int) -> Dict[str, Any]:
 def _over(operation: int, kind: str, patch: bytes) -> Exception:
     if not patch:
         return OverLimit(f"the merge is over the limits: {kind}", kind=kind)
-    path = _operation(patch, operation)["path"]
+    path = operation_of(patch, operation)["path"]
     told = f"operation {operation} is over the limits at path {path!r}: {kind}"
     return OverLimit(told, operation=operation, kind=kind, path=path)
 
@@ -50,7 +54,7 @@ def fault(status: int, report: Report, path: Optional[str] = None, patch: bytes 
     if status == OVER:
         return _over(report.operation, kind, patch)
     if status == REFUSED:
-        if error is _LeadsNowhere and _operation(patch, report.operation)["op"] == "test":
+        if error is _LeadsNowhere and operation_of(patch, report.operation)["op"] == "test":
             error = _TestsNothing
         told = f"operation {report.operation} failed at path {path!r}: {kind}"
         return error(told, operation=report.operation, kind=kind, path=path)
@@ -62,13 +66,34 @@ def fault(status: int, report: Report, path: Optional[str] = None, patch: bytes 
 def called(call: Callable[..., int], document: bytes, patch: bytes, limits: Limits) -> bytes:
     """The text that a call makes of two others, within limits."""
     given = document, len(document), patch, len(patch), bounds(limits)
-    return written(lambda *out: call(*given, *out), len(document) + len(patch) + 64, patch)
+    return written(lambda *out: call(*given, *out), len(document) + len(patch) + _SPARE, patch)
+
+
+def applied(document: bytes, patch: bytes, limits: Limits) -> bytes:
+    return called(LIBRARY.json_patch_apply, document, patch, limits)
 
 
 def merged(document: bytes, patch: bytes, limits: Limits) -> bytes:
-    """A text as it is written, with the text of a merge patch merged into it."""
     given = document, len(document), patch, len(patch), bounds(limits)
-    return written(lambda *out: LIBRARY.json_patch_merge_text_within(*given, *out), len(document) + len(patch) + 64)
+    return written(lambda *out: LIBRARY.json_patch_merge(*given, *out), len(document) + len(patch) + _SPARE)
+
+
+def recorded(document: bytes, patch: bytes, limits: Limits) -> Tuple[bytes, bytes]:
+    """The text that a patch leaves, and that of the patch that leads back."""
+    given = document, len(document), patch, len(patch), bounds(limits)
+    most = len(document) + len(patch) + _SPARE
+    inverse, size = ctypes.create_string_buffer(most), 0
+
+    def both(out: Any, room: int, report: Report) -> int:
+        nonlocal inverse, size
+        status: int = LIBRARY.json_patch_record(*given, out, room, inverse, len(inverse), report)
+        size = report.inverse_size
+        if size > len(inverse):
+            inverse = ctypes.create_string_buffer(size)
+        return status
+
+    made = written(both, most, patch)
+    return made, ctypes.string_at(inverse, size)
 
 
 def written(call: Callable[..., int], room: int, patch: bytes = b"") -> bytes:
@@ -82,7 +107,7 @@ def written(call: Callable[..., int], room: int, patch: bytes = b"") -> bytes:
             return ctypes.string_at(out, report.size)
         # a text, or the path of a refusal, for which there was no room
         if status == NO_ROOM or report.size > room:
-            room = report.size
+            room = max(room, report.size)
             continue
         raise fault(status, report, ctypes.string_at(out, report.size).decode(), patch)
 
@@ -101,14 +126,13 @@ def found(call: Callable[..., int], pointer: str) -> bytes:
 
 
 def difference(call: Callable[..., int], to: bytes) -> bytes:
-    """The text of the patch that a call makes to lead to this document's text, which is told as a document:
-    it is no longer than the replacement of the whole."""
+    """The text of the patch that a call makes to lead to this document's text, which is told as a document."""
 
     def told(*out: Any) -> int:
         status = call(*out)
         return NO_DOCUMENT if status == NO_PATCH else status
 
-    return written(told, len(to) + 64)
+    return written(told, len(to) + _SPARE)
 
 
 def succeed(call: Callable[..., int], *arguments: Any) -> None:

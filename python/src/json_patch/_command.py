@@ -7,19 +7,20 @@ import signal
 import sys
 from contextlib import contextmanager, suppress
 from itertools import combinations
-from typing import Any, Callable, Dict, Iterator, List, NoReturn, Optional, Union
+from typing import Any, Callable, Dict, Iterator, List, NoReturn, Optional, TypeVar, Union
 
 from . import _files
-from ._calls import called, merged, succeed
+from ._calls import applied, called, expect_patch, merged, recorded
 from ._library import LIBRARY
 from ._texts import indented
 from ._version import __version__
-from .document import Document
 from .errors import (
     InvalidJsonPatch, JsonPatchConflict, JsonPatchException, JsonPatchTestFailed, JsonPointerException, OverLimit,
 )
-from .limits import MOST_COPIED, MOST_LEVELS, Limits
-from .texts import apply_text, resolve_text
+from .limits import MOST_BYTES, MOST_LEVELS, Limits
+from .texts import resolve_text
+
+_Made = TypeVar("_Made")
 
 REFUSED, UNREADABLE, NO_MEMORY, UNWRITABLE, USAGE = 1, 2, 3, 4, 64
 
@@ -32,7 +33,7 @@ over what is read, nothing is written.
 
 apply, merge, record and get keep the text: whitespace, the order of members, and the way in which numbers
 and strings are written; what is added follows its neighbours. With --indent the whitespace is another, and
-nothing else. Numbers may be any; for record they are 64-bit integers.
+nothing else. Numbers may be any.
 
 exit status:
   0   done
@@ -118,8 +119,8 @@ def _add_levels(parser: argparse.ArgumentParser) -> None:
 
 def _add_limits(parser: argparse.ArgumentParser) -> None:
     _add_levels(parser)
-    copies = f"refuse a patch that copies more than N values and bytes of text, or leaves a kept text of N bytes more than both ({MOST_COPIED})"
-    parser.add_argument("--limit-copies", type=_copies, metavar="N", default=MOST_COPIED, help=copies)
+    told = f"refuse a patch that leaves a text, or of record an inverse, of N bytes more than both files ({MOST_BYTES})"
+    parser.add_argument("--limit-bytes", type=_bytes, metavar="N", default=MOST_BYTES, help=told)
 
 
 def _is_number(text: str) -> bool:
@@ -132,9 +133,9 @@ def _levels(text: str) -> int:
     return int(text)
 
 
-def _copies(text: str) -> int:
+def _bytes(text: str) -> int:
     if not _is_number(text):
-        raise argparse.ArgumentTypeError(f"{text!r} is no number of values and bytes")
+        raise argparse.ArgumentTypeError(f"{text!r} is no number of bytes")
     return int(text)
 
 
@@ -198,15 +199,9 @@ def _line(text: bytes, asked: argparse.Namespace) -> bytes:
     return (text if asked.indent is None else indented(text, asked.indent)) + b"\n"
 
 
-def _opened(text: bytes, asked: argparse.Namespace) -> Document:
-    """The document of the text, within the limits where the command has them."""
-    with _at_fault(asked.document):
-        return Document.from_string(text, limits=_limits(asked))
-
-
 def _limits(asked: argparse.Namespace) -> Limits:
     given = vars(asked)
-    return Limits(given.get("limit_depth", MOST_LEVELS), given.get("limit_copies", MOST_COPIED))
+    return Limits(given.get("limit_depth", MOST_LEVELS), given.get("limit_bytes", MOST_BYTES))
 
 
 def _put(text: bytes, asked: argparse.Namespace) -> None:
@@ -222,19 +217,15 @@ def _show(content: bytes) -> None:
 
 
 def _apply(asked: argparse.Namespace) -> None:
-    _put(_kept(_applied, asked), asked)
+    _put(_changed(applied, asked), asked)
 
 
 def _merge(asked: argparse.Namespace) -> None:
-    _put(_kept(merged, asked), asked)
+    _put(_changed(merged, asked), asked)
 
 
-def _applied(text: bytes, patch: bytes, limits: Limits) -> bytes:
-    return apply_text(text, patch, limits=limits)
-
-
-def _kept(change: Callable[[bytes, bytes, Limits], bytes], asked: argparse.Namespace) -> bytes:
-    """The document's text changed in place by the text of a patch."""
+def _changed(change: Callable[[bytes, bytes, Limits], _Made], asked: argparse.Namespace) -> _Made:
+    """What is made of the document's text by that of a patch."""
     text, patch = _read(asked.document), _read(asked.patch)
     with _at_fault(asked.patch, asked.document):
         return change(text, patch, _limits(asked))
@@ -242,12 +233,7 @@ def _kept(change: Callable[[bytes, bytes, Limits], bytes], asked: argparse.Names
 
 def _record(asked: argparse.Namespace) -> None:
     """The inverse is written first: where that fails, the document stays."""
-    text = _read(asked.document)
-    with _opened(text, asked) as kept:
-        patch = _read(asked.patch)
-        with _at_fault(asked.patch):
-            inverse = kept._record_text(patch)
-            content = _applied(text, patch, _limits(asked))
+    content, inverse = _changed(recorded, asked)
     _writing(_shown(asked.inverse), lambda: _files.replace(asked.inverse, inverse + b"\n"))
     _put(content, asked)
 
@@ -255,7 +241,7 @@ def _record(asked: argparse.Namespace) -> None:
 def _diff(asked: argparse.Namespace) -> None:
     text, goal = _read(asked.document), _read(asked.goal)
     with _at_fault(asked.goal, asked.document):
-        made = called(LIBRARY.json_patch_diff_text_within, text, goal, _limits(asked))
+        made = called(LIBRARY.json_patch_diff, text, goal, _limits(asked))
     _show(_line(made, asked))
 
 
@@ -269,7 +255,7 @@ def _get(asked: argparse.Namespace) -> None:
 def _check(asked: argparse.Namespace) -> None:
     patch = _read(asked.patch)
     with _at_fault(asked.patch):
-        succeed(LIBRARY.json_patch_check_text, patch, len(patch))
+        expect_patch(patch)
 
 
 _COMMANDS: Dict[str, Callable[[argparse.Namespace], None]] = {

@@ -5,17 +5,19 @@ Nothing here goes by recursion, but for a few levels of a patch, and the object 
 goes with the patch, with what it copies and compares, and with what Python takes to put an item into a list."""
 from __future__ import annotations
 
-from ._calls import expect_patch, fault
+from ._calls import expect_patch, fault, operation_of
 from ._depth import CONTAINERS, is_deeper
 from ._library import OVER, REFUSED, Report
-from ._texts import as_bytes, patch_text, pointer_path, value_of
+from ._texts import as_bytes, exact, is_decimal, pointer_path, text_of, value_of
 from .errors import INSIDE_ITSELF, NOWHERE, NO_SOURCE, TEST_FAILED, TOO_DEEP, TOO_MUCH, JsonPointerException
 from .limits import Limits
 from .pointer import JsonPointer, is_index
 
 TYPE_CHECKING = False
 if TYPE_CHECKING:
-    from typing import Any, Dict, List, Tuple
+    from typing import Any, Dict, List, Optional, Tuple
+
+    from ._texts import Dumps, Loads
 
     # an operation, the names and indexes of its path, and its value, or those of where that comes from
     _Operation = Tuple[str, List[str], Any]
@@ -40,10 +42,10 @@ class _NotPlain(Exception):
     """The library has to say whether this is a patch."""
 
 
-def changed(obj: Any, patch: Any, limits: Limits) -> Any:
+def changed(obj: Any, patch: Any, limits: Limits, dumps: Optional[Dumps] = None, loads: Optional[Loads] = None) -> Any:
     """The object itself, changed by a patch within limits. Where the patch makes another document of it that
     it can't hold, it returns that."""
-    run, operations = _Run(obj, limits), _operations(patch)
+    run, operations = _Run(obj, limits), _operations(patch, dumps, loads)
     made = 0
     try:
         for operation in operations:
@@ -51,7 +53,7 @@ def changed(obj: Any, patch: Any, limits: Limits) -> Any:
             made += 1
     except _Refused as refused:
         run.undo()
-        raise _fault(refused, made, patch) from None
+        raise _fault(refused, made, text_of(patch, dumps)) from None
     except BaseException:
         run.undo()
         raise
@@ -59,21 +61,21 @@ def changed(obj: Any, patch: Any, limits: Limits) -> Any:
     return _filled(obj, run.root)
 
 
-def _fault(refused: _Refused, operation: int, patch: Any) -> Exception:
-    text = patch_text(patch)
-    return fault(refused.status, Report(0, operation, refused.kind), value_of(text)[operation]["path"], text)
+def _fault(refused: _Refused, operation: int, patch: bytes) -> Exception:
+    report = Report(operation=operation, kind=refused.kind)
+    return fault(refused.status, report, operation_of(patch, operation)["path"], patch)
 
 
-def _operations(patch: Any) -> List[_Operation]:
+def _operations(patch: Any, dumps: Optional[Dumps], loads: Optional[Loads]) -> List[_Operation]:
     """The operations of a patch, their values copied. To ask the library takes longer than to make a few."""
     try:
-        if type(patch) is not list:
+        if type(patch) is not list or dumps or loads:
             raise _NotPlain
         return [_read(operation, is_plain=True) for operation in patch]
     except (_NotPlain, KeyError, TypeError, JsonPointerException):
-        text = patch_text(patch)
+        text = text_of(patch, dumps)
         expect_patch(text)
-        return [_read(operation) for operation in value_of(text)]
+        return [_read(operation) for operation in value_of(text, loads, told="patch")]
 
 
 def _read(operation: Any, is_plain: bool = False) -> _Operation:
@@ -92,6 +94,9 @@ def _plain(value: Any, levels: int) -> Any:
     kind = type(value)
     if kind is str and value.isascii() or kind is int and -_PLAIN < value < _PLAIN or kind is bool or value is None:
         return value
+    # nan and the infinities, less themselves, are no zero
+    if kind is float and value - value == 0:
+        return value
     if kind is list and levels:
         return [_plain(item, levels - 1) for item in value]
     if kind is dict and levels and "".join(value).isascii():
@@ -105,7 +110,7 @@ class _Run:
 
     def __init__(self, root: Any, limits: Limits) -> None:
         self.root = root
-        self._depth, self._copied = limits.depth, limits.copied
+        self._depth, self._copied = limits.depth, limits.bytes
         self._log: List[Tuple[Any, ...]] = []
         self._marks: List[Tuple[Dict[str, Any], str]] = []
 
@@ -237,8 +242,8 @@ def _bytes(text: Any) -> int:
 
 
 def _atom(value: Any) -> Any:
-    """What is no list and no dict, as json.dumps would write it."""
-    return value if isinstance(value, _ATOMS) else pointer_path(value)
+    """What is no list and no dict, as json.dumps would write it, and another of the caller's a Decimal."""
+    return value if isinstance(value, _ATOMS) or is_decimal(value) else pointer_path(value)
 
 
 def _copied(value: Any, most: int) -> Tuple[Any, int]:
@@ -295,10 +300,8 @@ def _are_same_atoms(one: Any, other: Any) -> bool:
     """Numbers are compared by what json.dumps writes of them, as in a text: 1e23 is 10**23, and no binary fraction."""
     if isinstance(one, bool) or isinstance(other, bool):
         return one is other
-    if isinstance(one, float) and isinstance(other, int) or isinstance(one, int) and isinstance(other, float):
-        from decimal import Decimal
-
-        one, other = (Decimal(float.__repr__(number)) if isinstance(number, float) else number for number in (one, other))
+    if type(one) is not type(other):
+        one, other = exact(one), exact(other)
     return bool(one == other)
 
 

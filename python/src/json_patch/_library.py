@@ -16,7 +16,7 @@ TYPE_CHECKING = False
 if TYPE_CHECKING:
     from typing import Any, Dict, List
 
-OK, REFUSED, NO_DOCUMENT, NO_PATCH, NO_MEMORY, NO_ROOM, CLOSED, NO_POINTER, NOTHING, OVER = range(10)
+OK, REFUSED, NO_DOCUMENT, NO_PATCH, NO_MEMORY, NO_ROOM, CLOSED, NO_POINTER, NOTHING, OVER, BAD_LIMITS = range(11)
 
 
 class Report(ctypes.Structure):
@@ -24,8 +24,11 @@ class Report(ctypes.Structure):
 
     size: int
     operation: int
+    inverse_size: int
     kind: int
-    _fields_ = [("size", ctypes.c_size_t), ("operation", ctypes.c_size_t), ("kind", ctypes.c_uint8)]
+    _fields_ = [
+        ("size", ctypes.c_size_t), ("operation", ctypes.c_size_t), ("inverse_size", ctypes.c_size_t), ("kind", ctypes.c_uint8),
+    ]
 
 
 class Handle(ctypes.Structure):
@@ -38,15 +41,15 @@ class Handle(ctypes.Structure):
 class Bounds(ctypes.Structure):
     """Limits, as the library takes them."""
 
-    _fields_ = [("depth", ctypes.c_size_t), ("copied", ctypes.c_size_t)]
+    _fields_ = [("size", ctypes.c_size_t), ("depth", ctypes.c_size_t), ("bytes", ctypes.c_size_t)]
 
 
-# no run copies so much
-_MOST_COUNTED: int = ctypes.c_size_t(-1).value
+# nothing takes so many
+_MOST_BYTES: int = ctypes.c_size_t(-1).value
 
 
 def bounds(limits: Limits) -> Bounds:
-    return Bounds(limits.depth, min(limits.copied, _MOST_COUNTED))
+    return Bounds(ctypes.sizeof(Bounds), limits.depth, min(limits.bytes, _MOST_BYTES))
 
 
 _TEXT: List[Any] = [ctypes.c_char_p, ctypes.c_size_t]
@@ -54,17 +57,13 @@ _HANDLE: List[Any] = [ctypes.POINTER(Handle)]
 _BOUNDS: List[Any] = [ctypes.POINTER(Bounds)]
 # what each call is handed before its report
 _CALLS: Dict[str, List[Any]] = {
-    "apply_within": [*_TEXT, *_TEXT, *_BOUNDS, *_TEXT],
-    "record_within": [*_TEXT, *_TEXT, *_BOUNDS, *_TEXT],
-    "merge_within": [*_TEXT, *_TEXT, *_BOUNDS, *_TEXT],
-    "diff_within": [*_TEXT, *_TEXT, *_BOUNDS, *_TEXT],
-    "apply_text_within": [*_TEXT, *_TEXT, *_BOUNDS, *_TEXT],
-    "merge_text_within": [*_TEXT, *_TEXT, *_BOUNDS, *_TEXT],
-    "diff_text_within": [*_TEXT, *_TEXT, *_BOUNDS, *_TEXT],
-    "value_text": [*_TEXT, *_TEXT, *_TEXT],
+    "apply": [*_TEXT, *_TEXT, *_BOUNDS, *_TEXT],
+    "record": [*_TEXT, *_TEXT, *_BOUNDS, *_TEXT, *_TEXT],
+    "merge": [*_TEXT, *_TEXT, *_BOUNDS, *_TEXT],
+    "diff": [*_TEXT, *_TEXT, *_BOUNDS, *_TEXT],
     "check": _TEXT,
-    "check_text": _TEXT,
-    "open_within": [*_HANDLE, *_TEXT, *_BOUNDS],
+    "value": [*_TEXT, *_TEXT, *_BOUNDS, *_TEXT],
+    "open": [*_HANDLE, *_TEXT, *_BOUNDS],
     "update": [*_HANDLE, *_TEXT, *_TEXT],
     "update_recorded": [*_HANDLE, *_TEXT, *_TEXT],
     "update_merged": [*_HANDLE, *_TEXT],
@@ -72,7 +71,7 @@ _CALLS: Dict[str, List[Any]] = {
     "inverse": [*_HANDLE, *_TEXT],
     "diff_to": [*_HANDLE, *_TEXT, *_TEXT],
     "text": [*_HANDLE, *_TEXT],
-    "text_at": [*_HANDLE, *_TEXT, *_TEXT],
+    "value_at": [*_HANDLE, *_TEXT, *_TEXT],
 }
 
 

@@ -7,8 +7,11 @@ from .pointer import JsonPointer
 
 TYPE_CHECKING = False
 if TYPE_CHECKING:
-    from typing import Any, Callable, Type, TypeVar, Union
+    from typing import Any, Callable, Optional, Type, TypeVar, Union
 
+    # of the caller: what writes an object as a JSON text, and what reads one
+    Dumps = Callable[[Any], Union[str, bytes]]
+    Loads = Callable[[str], Any]
     _Read = TypeVar("_Read")
 
 _OPEN, _CLOSE = ("[", "{"), ("]", "}")
@@ -21,34 +24,56 @@ def pointer_path(value: object) -> str:
     raise TypeError(f"{type(value).__name__} can't be written as JSON")
 
 
-def _text(value: object, told: str, no_text: Type[JsonPatchException], not_whole: Type[JsonPatchException]) -> bytes:
-    """The text of an object. Where json.dumps has none: what is told of it, and what is raised for
-    one that holds a number of some thousand digits, and for nan and infinity. How deep it nests is
-    seen before: json.dumps goes by recursion, for which a thread's stack may be too small."""
+def is_decimal(value: object) -> bool:
+    from decimal import Decimal
+
+    return isinstance(value, Decimal)
+
+
+def _number_or_path(value: object) -> Union[int, str]:
+    return 0 if is_decimal(value) else pointer_path(value)
+
+
+def _text(value: object, told: str, is_patch: bool, default: Callable[[Any], object] = pointer_path) -> bytes:
+    """The text of an object, of which this is told where it holds nan, infinity or a number of some thousand
+    digits, for which json.dumps has no text. How deep it nests is seen before: json.dumps goes by recursion,
+    for which a thread's stack may be too small."""
     import json
 
     try:
-        return json.dumps(value, separators=(",", ":"), allow_nan=False, default=pointer_path).encode()
+        return json.dumps(value, separators=(",", ":"), allow_nan=False, default=default).encode()
     except ValueError as error:
         if str(error).startswith("Out of range float"):
-            raise not_whole(f"{told}: NotWhole", kind="NotWhole") from error
-        raise no_text(f"{told}: NotJson", kind="NotJson") from error
+            no_json: Type[JsonPatchException] = _NoPatchText if is_patch else JsonPatchException
+            raise no_json(f"{told}: NotJson", kind="NotJson") from error
+        raise _out_of_range(told, is_patch) from error
 
 
-def document_text(document: object) -> bytes:
+def _out_of_range(told: str, is_patch: bool) -> NumberNotWhole:
+    return (_InvalidNumber if is_patch else NumberNotWhole)(f"{told}: NumberOutOfRange", kind="NumberOutOfRange")
+
+
+def document_text(document: object, dumps: Optional[Dumps] = None) -> bytes:
     if is_deep(document):
         raise TooDeep("document: TooDeep", kind="TooDeep")
-    return _text(document, "document", JsonPatchException, NumberNotWhole)
+    return as_bytes(dumps(document)) if dumps else _text(document, "document", is_patch=False)
 
 
-def patch_text(patch: object) -> bytes:
+def patch_text(patch: object, dumps: Optional[Dumps] = None) -> bytes:
+    """The text of a patch or a merge patch that is an object."""
     expect_patch_depth(patch)
-    return _text(patch, "patch", _NoPatchText, _InvalidNumber)
+    return as_bytes(dumps(patch)) if dumps else _text(patch, "patch", is_patch=True)
 
 
-def merge_patch_text(patch: object) -> bytes:
+def text_of(patch: object, dumps: Optional[Dumps] = None) -> bytes:
+    """The text of a patch, as it is written where it is a text."""
+    return as_bytes(patch) if isinstance(patch, (str, bytes)) else patch_text(patch, dumps)
+
+
+def text_to_check(patch: object) -> bytes:
+    """A text that is a patch exactly where that of an object is, whatever writes its Decimals."""
     expect_patch_depth(patch)
-    return _text(patch, "patch", _NoPatchText, NumberNotWhole)
+    return _text(patch, "patch", is_patch=True, default=_number_or_path)
 
 
 def expect_patch_depth(patch: object) -> None:
@@ -69,11 +94,44 @@ def as_bytes(text: Union[str, bytes]) -> bytes:
     return text.encode(errors="surrogatepass") if isinstance(text, str) else bytes(memoryview(text))
 
 
-def value_of(text: bytes) -> Any:
-    """The object of a text that the library wrote, or has checked."""
+def value_of(text: bytes, loads: Optional[Loads] = None, told: str = "result") -> Any:
+    """The object of a text that the library wrote, or has checked. Of a number with some thousand digits, which
+    json.loads may not read, this is told."""
     import json
 
-    return json.loads(text)
+    if loads:
+        return loads(text.decode())
+    try:
+        return json.loads(text)
+    except ValueError as error:
+        raise _out_of_range(told, is_patch=told == "patch") from error
+
+
+def exact(value: Any) -> Any:
+    """A float as the number that json.dumps writes, which its binary fraction isn't; all else as it is."""
+    if not isinstance(value, float):
+        return value
+    from decimal import Decimal
+
+    return Decimal(float.__repr__(value))
+
+
+def key_of(patch: Any) -> str:
+    """A text that patches share which are equal: numbers by what they say, and members in any order."""
+    import json
+
+    text = json.dumps(patch, default=lambda value: _key_of_number(str(value)) if is_decimal(value) else pointer_path(value))
+    return json.dumps(json.loads(text, parse_int=_key_of_number, parse_float=_key_of_number), sort_keys=True)
+
+
+def _key_of_number(text: str) -> str:
+    """One text for each number, which no string of a patch is: it holds an unpaired surrogate."""
+    mantissa, _, power = text.lower().partition("e")
+    whole, _, fraction = mantissa.partition(".")
+    digits = (whole + fraction).lstrip("-0")
+    kept = digits.rstrip("0")
+    zeros = int(power or 0) - len(fraction) + len(digits) - len(kept)
+    return "\ud800" + (f"{'-' * text.startswith('-')}{kept}e{zeros}" if kept else "0")
 
 
 def indented(text: bytes, spaces: int) -> bytes:

@@ -5,20 +5,18 @@ import warnings
 
 from ._calls import difference, fault, found, succeed, written
 from ._library import LIBRARY, NOTHING, OK, Handle, Report, bounds
-from ._texts import as_bytes, document_text, merge_patch_text, value_of
+from ._texts import as_bytes, document_text, patch_text, text_of, value_of
 from .errors import NothingToUndo
 from .limits import DEFAULT, Limits
-from .patch import JsonPatch, text_of
+from .patch import JsonPatch, operations_of
 
 TYPE_CHECKING = False
 if TYPE_CHECKING:
     from threading import local
     from types import TracebackType
-    from typing import Any, Callable, Optional, Type, TypeVar, Union
+    from typing import Any, Callable, Optional, Type, Union
 
     from .patch import Patch
-
-    _Inverse = TypeVar("_Inverse")
 else:
     # as threading does, which takes longer to import than this package
     from _thread import _local as local
@@ -64,7 +62,7 @@ class Document:
 
     def _open(self, text: bytes, limits: Limits) -> None:
         handle = Handle()
-        succeed(LIBRARY.json_patch_open_within, handle, text, len(text), bounds(limits))
+        succeed(LIBRARY.json_patch_open, handle, text, len(text), bounds(limits))
         self._opened, self._thread, self._is_open = handle, _HERE.thread, True
 
     @property
@@ -74,7 +72,7 @@ class Document:
         return self._opened
 
     def _updated(self, call: Callable[..., int], patch: Patch) -> None:
-        text = text_of(patch)
+        text = text_of(operations_of(patch))
         written(lambda *out: call(self._handle, text, len(text), *out), len(text) + 64, text)
         self._handle.is_recorded = False
 
@@ -85,16 +83,10 @@ class Document:
     def record(self, patch: Patch) -> JsonPatch:
         """The same, and returns the JsonPatch that leads back. Where that can't be made for want of
         memory, the change is taken back."""
-        return self._recorded(patch, lambda text: JsonPatch._of_library(value_of(text)))
-
-    def _record_text(self, patch: Patch) -> bytes:
-        return self._recorded(patch, bytes)
-
-    def _recorded(self, patch: Patch, read: Callable[[bytes], _Inverse]) -> _Inverse:
         self._updated(LIBRARY.json_patch_update_recorded, patch)
         self._handle.is_recorded = True
         try:
-            return read(self._read(LIBRARY.json_patch_inverse))
+            return JsonPatch._of_library(value_of(self._read(LIBRARY.json_patch_inverse)))
         except BaseException:
             self.undo()
             raise
@@ -120,9 +112,7 @@ class Document:
 
     def merge(self, patch: Any) -> None:
         """Merges a merge patch, which is any object and no text of one, into the document."""
-        self._merge_text(merge_patch_text(patch))
-
-    def _merge_text(self, text: bytes) -> None:
+        text = patch_text(patch)
         succeed(LIBRARY.json_patch_update_merged, self._handle, text, len(text))
         self._handle.is_recorded = False
 
@@ -135,18 +125,13 @@ class Document:
         JsonPatch([{'op': 'remove', 'path': '/rows/1'}])
         """
         text = other.to_string().encode() if isinstance(other, Document) else document_text(other)
-        return JsonPatch._of_library(value_of(self._diff_text(text)))
-
-    def _diff_text(self, text: bytes) -> bytes:
-        return difference(lambda *out: LIBRARY.json_patch_diff_to(self._handle, text, len(text), *out), text)
+        made = difference(lambda *out: LIBRARY.json_patch_diff_to(self._handle, text, len(text), *out), text)
+        return JsonPatch._of_library(value_of(made))
 
     def get(self, pointer: str = "") -> Any:
         """What stands where a JSON pointer leads; JsonPointerException, where nothing does."""
-        return value_of(self._text_at(pointer))
-
-    def _text_at(self, pointer: str) -> bytes:
         text = as_bytes(pointer)
-        return found(lambda *out: LIBRARY.json_patch_text_at(self._handle, text, len(text), *out), pointer)
+        return value_of(found(lambda *out: LIBRARY.json_patch_value_at(self._handle, text, len(text), *out), pointer))
 
     def to_string(self) -> str:
         """The document as a JSON text."""

@@ -42,8 +42,8 @@ class JsonPointerException(_Told):
 
 
 class NumberNotWhole(JsonPatchException, ValueError):
-    """A number has a fraction or an exponent, is minus zero, or past 64 bits (but for a whole one past
-    a float's range, which is no JSON), or is nan or infinite."""
+    """A number of a Document, or of a patch for one, has a fraction or an exponent, is minus zero, or past 64 bits;
+    or one has more digits than Python writes and reads, of which `kind` is NumberOutOfRange."""
 
 
 class TooDeep(JsonPatchException, ValueError):
@@ -53,8 +53,8 @@ class TooDeep(JsonPatchException, ValueError):
 
 class OverLimit(JsonPatchException):
     """An operation of a patch is over the limits, and nothing is changed: it would put a value too deep
-    (`kind` is TooDeep), or copy too much, with what was copied before, or in apply_text leave too long a
-    text (TooMuch), as a merge would by merge_text, which has no operation."""
+    (`kind` is TooDeep), or leave too long a text or inverse (TooMuch), or in a Document and in place copy too much,
+    with what was copied before. A merge that would leave too long a text has no operation."""
 
 
 class NothingToUndo(JsonPatchException, IndexError):
@@ -103,6 +103,8 @@ KINDS: Dict[int, Tuple[str, Type[_Told]]] = {
     6: ("CannotMoveInsideItself", _LeadsNowhere),
     7: ("TooDeep", _PatchTooDeep),
     8: ("TooMuch", OverLimit),
+    9: ("UnpairedSurrogate", _NoPatchText),
+    10: ("NumberOutOfRange", _InvalidNumber),
     11: ("NotAList", InvalidJsonPatch),
     12: ("NotAnObject", InvalidJsonPatch),
     13: ("MissingOp", InvalidJsonPatch),

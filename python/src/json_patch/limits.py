@@ -1,46 +1,49 @@
-"""Limits: how many levels a document may have, and how much a patch may copy."""
+"""Limits: how many levels a document may have, and how much a patch may make."""
 from __future__ import annotations
 
-# the most levels that there may be, and the copies where no limit is given, as in json_patch.h
+# the most levels that there may be, and the bytes where no limit is given, as in json_patch.h
 MOST_LEVELS = 124
-MOST_COPIED = 500_000
+MOST_BYTES = 500_000
 
 
 class Limits:
     """What a call keeps to, for patches of strangers: no document has more than `depth` levels, of which
-    1 has none and [[1]] has two, and the copies of one patch add at most `copied`. There a value counts
-    one for each value in it, itself included, and one for each byte of a string or a member's name.
-    Where a patch is recorded, what it moves counts as copied, too.
+    1 has none and [[1]] has two, and what a call makes has at most `bytes` bytes more than the texts that
+    are handed to the library: the document after each operation, a merged one, and an inverse.
+
+    In a Document and in place `bytes` is what the copies of one patch may add. There a value counts one for
+    each value in it, itself included, and one for each byte of a string or a member's name; where the patch is
+    recorded, what it moves counts, too.
 
     >>> Limits(depth=10)
-    Limits(depth=10, copied=500000)
+    Limits(depth=10, bytes=500000)
 
     ValueError, where one is negative, or `depth` more than 124; TypeError, where one is no int.
     """
 
-    def __init__(self, depth: int = MOST_LEVELS, copied: int = MOST_COPIED) -> None:
+    def __init__(self, depth: int = MOST_LEVELS, bytes: int = MOST_BYTES) -> None:
         _expect_number("depth", depth)
-        _expect_number("copied", copied)
+        _expect_number("bytes", bytes)
         if depth > MOST_LEVELS:
             raise ValueError(f"depth is {depth}, and at most {MOST_LEVELS}")
-        self._depth, self._copied = depth, copied
+        self._depth, self._bytes = depth, bytes
 
     @property
     def depth(self) -> int:
         return self._depth
 
     @property
-    def copied(self) -> int:
-        return self._copied
+    def bytes(self) -> int:
+        return self._bytes
 
     def __eq__(self, other: object) -> bool:
-        return isinstance(other, Limits) and (self.depth, self.copied) == (other.depth, other.copied)
+        return isinstance(other, Limits) and (self.depth, self.bytes) == (other.depth, other.bytes)
 
     def __hash__(self) -> int:
-        return hash((self.depth, self.copied))
+        return hash((self.depth, self.bytes))
 
     def __repr__(self) -> str:
-        return f"Limits(depth={self.depth}, copied={self.copied})"
+        return f"Limits(depth={self.depth}, bytes={self.bytes})"
 
 
 def _expect_number(name: str, value: object) -> None:

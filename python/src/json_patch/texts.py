@@ -1,23 +1,24 @@
 """Patches on JSON texts, of which every byte is kept that no operation changes."""
 from __future__ import annotations
 
-from ._calls import called, found, merged
-from ._library import LIBRARY
-from ._texts import as_bytes, merge_patch_text
+from ._calls import applied, found, merged
+from ._library import LIBRARY, bounds
+from ._texts import as_bytes, patch_text, text_of
 from .limits import DEFAULT, Limits
-from .patch import text_of
+from .patch import operations_of
 
 TYPE_CHECKING = False
 if TYPE_CHECKING:
-    from typing import Any, TypeVar
+    from typing import Any, Optional, TypeVar
 
+    from ._texts import Dumps
     from .patch import Patch
 
     # what comes back is what was handed in
     _Text = TypeVar("_Text", str, bytes)
 
 
-def apply_text(text: _Text, patch: Patch, *, limits: Limits = DEFAULT) -> _Text:
+def apply_text(text: _Text, patch: Patch, *, dumps: Optional[Dumps] = None, limits: Limits = DEFAULT) -> _Text:
     """What a patch, as a list of operations, a JSON text or a JsonPatch, leaves of a JSON text. Whitespace,
     the order of members and the way in which numbers and strings are written stay, and what is added
     follows its neighbours: whitespace, or a colon with whitespace, of at most 128 bytes is taken over.
@@ -33,27 +34,22 @@ def apply_text(text: _Text, patch: Patch, *, limits: Limits = DEFAULT) -> _Text:
       "was": 1.50
     }
 
-    It is refused as by apply_patch, and then nothing is changed. The limits are those of texts here: no text
-    on the way nests deeper than `depth`, or is longer than the text, the patch and `copied` bytes together.
+    It is refused as by apply_patch, and then nothing is changed. `dumps` writes a patch that is no text.
     """
-    made = called(LIBRARY.json_patch_apply_text_within, as_bytes(text), text_of(patch), limits)
-    return _like(text, made)
+    return _like(text, applied(as_bytes(text), text_of(operations_of(patch), dumps), limits))
 
 
-def merge_text(text: _Text, patch: Any, *, limits: Limits = DEFAULT) -> _Text:
+def merge_text(text: _Text, patch: Any, *, dumps: Optional[Dumps] = None, limits: Limits = DEFAULT) -> _Text:
     """A JSON text with a merge patch (RFC 7396) merged into it, which is any object and no text of one. What the
     merge doesn't change is kept, and all of the text where it changes nothing.
 
     >>> merge_text('{ "price": 1.50, "tags": ["new"], "old": 1 }', {"old": None, "tags": ["new"], "stock": 5})
     '{ "price": 1.50, "tags": ["new"], "stock": 5 }'
-
-    The limits are those of texts here too: where the text would be longer than both and `copied` bytes
-    together, OverLimit tells so, and no operation.
     """
-    return _like(text, merged(as_bytes(text), merge_patch_text(patch), limits))
+    return _like(text, merged(as_bytes(text), patch_text(patch, dumps), limits))
 
 
-def resolve_text(text: _Text, pointer: str) -> _Text:
+def resolve_text(text: _Text, pointer: str, *, limits: Limits = DEFAULT) -> _Text:
     """The text of the value where a JSON pointer (RFC 6901) leads in a JSON text, as it is written there;
     JsonPointerException, where nothing does.
 
@@ -61,8 +57,8 @@ def resolve_text(text: _Text, pointer: str) -> _Text:
     '1.50'
     """
     given, path = as_bytes(text), as_bytes(pointer)
-    taken = given, len(given), path, len(path)
-    return _like(text, found(lambda *out: LIBRARY.json_patch_value_text(*taken, *out), pointer))
+    taken = given, len(given), path, len(path), bounds(limits)
+    return _like(text, found(lambda *out: LIBRARY.json_patch_value(*taken, *out), pointer))
 
 
 def _like(text: _Text, made: bytes) -> _Text:

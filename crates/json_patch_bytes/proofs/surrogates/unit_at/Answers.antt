@@ -1,0 +1,7 @@
+use Rattle.std.proofs.Common.{arith}
+use Rattle.json.specs.Text.{code_unit}
+use Rattle.json_patch_bytes.proofs.surrogates.unit_at.Goals as goal
+
+pub returns-then-a-b : goal.returns-then-a-b
+unfolding code_unit
+returns-then-a-b c = rw (← c.digit-a.ensures, ← c.digit-b.ensures, ← c.digit-c.ensures, ← c.digit-d.ensures) (grind arith)
