@@ -52,31 +52,6 @@ impl<'a> Cursor<'a> {
             (λ v. left self.old.first self.old.later
             ≡ member name.now (view v.now) (left self.new.first self.new.later)) }
     {
-        match self.first {
-            Some((other, value)) if other.as_str() == name => {
-                self.first = self.later.next();
-                Some(value)
-            }
-            _ => self.find_later(name),
-        }
-    }
-
-    /// The same, where the first member that is left may have another name.
-    #[cold]
-    #[inline(never)]
-    fn find_later(&mut self, name: &str) -> Option<&'a Value>
-        requires { AreMembers (left self.old.first self.old.later) }
-        ensures found { option_map (λ v. view v.now) result
-            ≡ get_member name.now (left self.old.first self.old.later) }
-        ensures document { IfSome result (λ v. IsDocument (view v.now)) }
-        ensures after { left self.new.first self.new.later
-            ≡ after name.now (left self.old.first self.old.later) }
-        ensures in_step { self.new.passed ≡ false → (self.old.passed ≡ false)
-            × MatchOption result
-            (left self.new.first self.new.later ≡ left self.old.first self.old.later)
-            (λ v. left self.old.first self.old.later
-            ≡ member name.now (view v.now) (left self.new.first self.new.later)) }
-    {
         while let Some((other, value)) = self.first {
             if other.as_str() == name {
                 self.first = self.later.next();

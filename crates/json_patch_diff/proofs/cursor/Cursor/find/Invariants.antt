@@ -3,7 +3,7 @@ use Rattle.serde_json.specs.Find.{get_member}
 use Rattle.json_patch.specs.Document.{AreMembers}
 use Rattle.json_patch_diff.specs.Steps.{after, left}
 use Rattle.json_patch_diff.proofs.Ascending.{how_many}
-use Rattle.json_patch_diff.proofs.cursor.Cursor.find_later.Given as goal
+use Rattle.json_patch_diff.proofs.cursor.Cursor.find.Given as goal
 
 abbrev pub invariant-loop-self : goal.invariant-loop-self
 invariant-loop-self l = record {
