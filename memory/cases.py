@@ -378,8 +378,8 @@ SHIFTED = {
     ),
 }
 
-# More than a thousand changes, with an item that shifts on. Past that number json_patch's log doesn't
-# follow where it went (MOST_FOLLOWED in its module `clearing`).
+# A thousand changes, with an element that shifts on: ten times as many as those in which json_patch
+# follows where it went (MOST_FOLLOWED in its module `clearing`).
 MANY = [remove("/9/x"), add("/0", 1), *[add("/0", 2), remove("/0")] * 500]
 LONG = {
     "more than a thousand changes": shifting(behind(9, KEPT), MANY),

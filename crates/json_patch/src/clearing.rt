@@ -22,8 +22,8 @@ use jsonptr::Pointer;
 use serde_json::Value;
 
 /// Following marks takes time as the square of the changes: with more than so many a walk through
-/// some megabytes takes less.
-const MOST_FOLLOWED: usize = 1_000;
+/// 150 kB takes less.
+const MOST_FOLLOWED: usize = 100;
 
 /// Takes out the marks that the changes of the operations left: at the places of the changes; where
 /// some are left, as elements shift, at the places that they have by now; and what is left after that by
