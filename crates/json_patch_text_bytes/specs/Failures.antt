@@ -2,6 +2,8 @@
 use Rattle.std.specs.Prelude.{◌≡◌, ◌⊎◌, ℕ, List, unwrap_or, ⊤}
 use Rattle.json_diff_text.specs.declared.fault.DiffTextFault.{DiffTextFault}
 use Rattle.json_diff_text.specs.declared.fault.DiffTextFault.TheVariants as diff
+use Rattle.json_diff_text.specs.declared.fault.BothTextFault.{BothTextFault}
+use Rattle.json_diff_text.specs.declared.fault.BothTextFault.TheVariants as both
 use Rattle.json_merge_text.specs.declared.fault.MergeTextFault.{MergeTextFault}
 use Rattle.json_merge_text.specs.declared.fault.MergeTextFault.TheVariants as merge
 use Rattle.json_patch.specs.LimitKind.TheVariants as limit
@@ -62,6 +64,12 @@ abbrev pub of_diff_fault : DiffTextFault → Failure
 of_diff_fault (diff.From f) = as_document f
 of_diff_fault (diff.To f) = as_patch f
 of_diff_fault (diff.Memory m) = Memory
+
+-- for that of two merge patches that are joined
+abbrev pub of_both_fault : BothTextFault → Failure
+of_both_fault (both.First f) = as_document f
+of_both_fault (both.Then f) = as_patch f
+of_both_fault (both.Memory m) = Memory
 
 -- ---- what is told
 

@@ -1,3 +1,4 @@
 pub mod Texts
+pub mod MergePatches
 pub mod Reasons
 pub mod Failures

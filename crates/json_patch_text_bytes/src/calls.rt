@@ -1,17 +1,18 @@
 //! What is made of a JSON text.
 
-ghost use Rattle.std.specs.Prelude.{◌≤◌, IfErr, IfOk, string_bytes};
+ghost use Rattle.std.specs.Prelude.{◌≡◌, ◌≤◌, IfErr, IfOk, IfSome, None, string_bytes};
 ghost use Rattle.json_patch_bytes.specs.Failures.{IsFailure};
 ghost use Rattle.json_patch_text_bytes.specs.Failures.{IsLookupFault};
 ghost use Rattle.json_patch_text_bytes.specs.Reasons.{of_check, of_merge, of_patch, of_record, of_two};
 ghost use Rattle.json_patch_text_bytes.specs.Texts.{IsDifference, IsMergedInto, IsPatched, IsRecorded, IsTextPatch, IsValueAt};
+ghost use Rattle.json_patch_text_bytes.specs.MergePatches.{AreNeverJoined, HasNoMergeDifference, IsJoined, IsMergeDifference};
 
-use crate::failures::{of_difference, of_merge, of_reading, of_run};
+use crate::failures::{of_difference, of_joining, of_merge, of_reading, of_run};
 use crate::lookup::LookupFault;
 use crate::texts::{
     MOST_OF_PATCH, checked_text, flat_text, named, text_and_patch, told, two_texts,
 };
-use json_diff_text::diff_text;
+use json_diff_text::{diff_text, merge_both_text, merge_diff_text};
 use json_merge_text::merge_text_within;
 use json_patch::{LimitError, LimitKind, Limits};
 use json_patch_bytes::failure::Failure;
@@ -138,6 +139,57 @@ pub fn differing(alloc: Global, from: &[u8], to: &[u8], limits: Limits) -> Resul
         Err(fault) => {
             let failure = of_difference(fault);
             Err(told(alloc, from, to, limits.depth, failure))
+        }
+    }
+}
+
+/// The merge patch that leads from what one text says to what another says (RFC 7396), or `None` where none
+/// does: merged into the one it leaves a text that says the same as the other, whatever numbers both have.
+///
+/// `NoDocument` where the first's bytes are no UTF-8 or no JSON, or nest deeper than the limit; then
+/// `NoPatch` where the second's are such. Of the limits `depth` alone counts.
+pub fn merge_differing(
+    alloc: Global,
+    from: &[u8],
+    to: &[u8],
+    limits: Limits,
+) -> Result<Option<String>, Failure>
+    requires { limits.depth ≤ 124 }
+    ensures text { IfOk result (λ o. IfSome o (λ s. IsMergeDifference limits from.now to.now (string_bytes s))) }
+    ensures impossible { IfOk result (λ o. o ≡ None → HasNoMergeDifference limits from.now to.now) }
+    ensures failure { IfErr result (IsFailure (of_two limits.depth from.now to.now)) }
+{
+    let (first, second) = two_texts(alloc, from, to, limits.depth)?;
+    match merge_diff_text(alloc, first, second) {
+        Ok(patch) => Ok(patch),
+        Err(fault) => {
+            let failure = of_difference(fault);
+            Err(told(alloc, from, to, limits.depth, failure))
+        }
+    }
+}
+
+/// The merge patch that does what two in turn do (RFC 7396), to each document, or `None` where none does.
+///
+/// `NoDocument` where the first's bytes are no UTF-8 or no JSON, or nest deeper than the limit; then
+/// `NoPatch` where the second's are such. Of the limits `depth` alone counts.
+pub fn joined(
+    alloc: Global,
+    first: &[u8],
+    then: &[u8],
+    limits: Limits,
+) -> Result<Option<String>, Failure>
+    requires { limits.depth ≤ 124 }
+    ensures text { IfOk result (λ o. IfSome o (λ s. IsJoined limits first.now then.now (string_bytes s))) }
+    ensures impossible { IfOk result (λ o. o ≡ None → AreNeverJoined limits first.now then.now) }
+    ensures failure { IfErr result (IsFailure (of_two limits.depth first.now then.now)) }
+{
+    let (one, next) = two_texts(alloc, first, then, limits.depth)?;
+    match merge_both_text(alloc, one, next) {
+        Ok(patch) => Ok(patch),
+        Err(fault) => {
+            let failure = of_joining(fault);
+            Err(told(alloc, first, then, limits.depth, failure))
         }
     }
 }

@@ -1,9 +1,9 @@
 //! The failure for a fault of a text.
 
 ghost use Rattle.std.specs.Prelude.{◌≡◌};
-ghost use Rattle.json_patch_text_bytes.specs.Failures.{as_document, as_patch, of_diff_fault, of_fault, of_merge_fault, of_reading};
+ghost use Rattle.json_patch_text_bytes.specs.Failures.{as_document, as_patch, of_both_fault, of_diff_fault, of_fault, of_merge_fault, of_reading};
 
-use json_diff_text::DiffTextFault;
+use json_diff_text::{BothTextFault, DiffTextFault};
 use json_merge_text::MergeTextFault;
 use json_patch::{LimitError, LimitKind};
 use json_patch_bytes::failure::{Failure, kind_of_reading};
@@ -83,5 +83,16 @@ pub(crate) fn of_difference(fault: DiffTextFault) -> Failure
         DiffTextFault::From(fault) => of_document(fault),
         DiffTextFault::To(fault) => of_patch(fault),
         DiffTextFault::Memory(_) => Failure::Memory,
+    }
+}
+
+/// That of two merge patches that are joined.
+pub(crate) fn of_joining(fault: BothTextFault) -> Failure
+    ensures { result ≡ of_both_fault fault }
+{
+    match fault {
+        BothTextFault::First(fault) => of_document(fault),
+        BothTextFault::Then(fault) => of_patch(fault),
+        BothTextFault::Memory(_) => Failure::Memory,
     }
 }
