@@ -1,6 +1,7 @@
 #!/usr/bin/env python3
-"""The tables of cases of crates/json_patch_vectors, and the rows of crates/json_patch_memory that make the
-patch between two documents, as rows that C and Python read.
+"""The tables of cases of crates/json_patch_vectors, the rows of crates/json_patch_memory that make the patch
+between two documents, and those of crates/json_text_vectors that make merge patches, as rows that C and Python
+read.
 
     c/cases.py           writes c/cases.json anew
     c/cases.py --check   ends with 1 where the file isn't what the tables say
@@ -22,7 +23,7 @@ import texts_model  # noqa: E402
 ROWS = HERE / "cases.json"
 READING = HERE.parent / "crates/json_patch_vectors/src/reading.rt"
 HEADER = HERE / "json_patch.h"
-OK, REFUSED, NO_DOCUMENT, NO_PATCH = 0, 1, 2, 3
+OK, REFUSED, NO_DOCUMENT, NO_PATCH, IMPOSSIBLE = 0, 1, 2, 3, 11
 
 
 class Pairs(tables.Source):
@@ -83,12 +84,24 @@ def of_differences():
         yield ["diff", *texts, OK, 0, 0, answer.split(" leaves ")[0]]
 
 
+def of_merge_patches():
+    """Two texts and the merge patch between them, or two merge patches and the one that does both. (Those with
+    faults, or of more levels than C takes, stand in test.c.)"""
+    for call, name in (("merge_diff", "merge_diff_text"), ("merge_join", "merge_both_text")):
+        for (_, *texts), answer in tables.calls(name, crate="json_text_vectors"):
+            if answer == "nothing":
+                yield [call, *texts, IMPOSSIBLE, 0, 0, ""]
+            elif answer.startswith('"') and all(isinstance(text, str) for text in texts):
+                yield [call, *texts, OK, 0, 0, json.loads(answer)]
+
+
 def rows():
     kinds = numbers()
     for case in tables.vectors():
         yield from of_case(case, kinds)
     yield from of_faults(kinds)
     yield from of_differences()
+    yield from of_merge_patches()
 
 
 def text():

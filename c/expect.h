@@ -4,7 +4,7 @@
 
 enum { GUARD = 8, UNTOUCHED = 0xa5 };
 
-static unsigned long calls, statuses[JSON_PATCH_BAD_LIMITS + 1];
+static unsigned long calls, statuses[JSON_PATCH_IMPOSSIBLE + 1];
 
 /* An output with room for so many bytes, for free. */
 static char *untouched(size_t room) {
@@ -27,7 +27,8 @@ static json_patch_status made(const row *row, char *out, size_t room, char *inve
     static json_patch_status (*const others[])(const char *, size_t, const char *, size_t,
                                                const json_patch_limits *, char *, size_t,
                                                json_patch_report *) = {
-        [APPLY] = json_patch_apply, [MERGE] = json_patch_merge, [DIFF] = json_patch_diff, [VALUE] = json_patch_value};
+        [APPLY] = json_patch_apply, [MERGE] = json_patch_merge, [DIFF] = json_patch_diff,
+        [MERGE_DIFF] = json_patch_merge_diff, [MERGE_JOIN] = json_patch_merge_join, [VALUE] = json_patch_value};
     const text *document = &row->document, *patch = &row->patch;
     calls++;
     if (row->call == RECORD)

@@ -52,7 +52,9 @@ enum {
                                    take back */
     JSON_PATCH_OVER = 9,        /* report->operation is over the limits, for report->kind; in a merge
                                    that is 0 */
-    JSON_PATCH_BAD_LIMITS = 10  /* the size of the struct of limits isn't one that is known */
+    JSON_PATCH_BAD_LIMITS = 10, /* the size of the struct of limits isn't one that is known */
+    JSON_PATCH_IMPOSSIBLE = 11  /* of json_patch_merge_diff and json_patch_merge_join: no merge patch does
+                                   it, of any form */
 };
 
 /* What is at fault. */
@@ -189,6 +191,26 @@ json_patch_status json_patch_merge(const char *document, size_t document_length,
 json_patch_status json_patch_diff(const char *from, size_t from_length, const char *to, size_t to_length,
                                   const json_patch_limits *limits, char *out, size_t out_length,
                                   json_patch_report *report);
+
+/* Writes the merge patch that leads from what the text `from` says to what the text `to` says: the text that
+   json_patch_merge makes of `from`, within the same depth and with enough `bytes`, says the same as `to`. It has
+   no more levels than `to`, and is {} where both say one object. Its numbers are written as in `to`, and members
+   are in byte order of their names. JSON_PATCH_IMPOSSIBLE where no merge patch leads there: `to` has a null, in
+   objects alone, such as {"a": {"b": null}}, and `from` has none there. The other statuses are those of
+   json_patch_diff. */
+json_patch_status json_patch_merge_diff(const char *from, size_t from_length, const char *to, size_t to_length,
+                                        const json_patch_limits *limits, char *out, size_t out_length,
+                                        json_patch_report *report);
+
+/* Writes the merge patch that does to every text what the merge patch `first` and then the merge patch `then` do to
+   it. It has no more levels than the deeper of both. Its numbers are written as they are there, and members are in
+   byte order of their names. JSON_PATCH_IMPOSSIBLE where no merge patch does that: under the same names `first`
+   has a value that is no object, and `then` an object, as {"a": null} and {"a": {}}. JSON_PATCH_NO_DOCUMENT, where
+   `first` is no JSON text, and JSON_PATCH_NO_PATCH, where `then` is none. Of the limits `depth` alone counts.
+   Never JSON_PATCH_REFUSED or JSON_PATCH_OVER. */
+json_patch_status json_patch_merge_join(const char *first, size_t first_length, const char *then, size_t then_length,
+                                        const json_patch_limits *limits, char *out, size_t out_length,
+                                        json_patch_report *report);
 
 /* Reads the patch as json_patch_apply does, and does nothing else. JSON_PATCH_OK, JSON_PATCH_NO_PATCH or
    JSON_PATCH_NO_MEMORY. */

@@ -4,9 +4,9 @@
  *
  *     one_call CALL DOCUMENT TEXT
  *
- * CALL is apply, record, merge, diff, check or value, or of a document that is kept open, update,
- * update_recorded, update_merged, undo, text, value_at, diff_to or inverse. It prints what the call answers with
- * ample memory: the status and the report, what was written, the inverse behind it, and then the text of the
+ * CALL is apply, record, merge, diff, merge_diff, merge_join, check or value, or of a document that is kept open,
+ * update, update_recorded, update_merged, undo, text, value_at, diff_to or inverse. It prints what the call answers
+ * with ample memory: the status and the report, what was written, the inverse behind it, and then the text of the
  * document that is kept; and, in a last line, how many requests there were. Whether a request was refused is told
  * by the functions below that stand in for malloc and realloc: so it is linked with
  * -Wl,--wrap=malloc,--wrap=realloc,--wrap=free. Where all requests after one are refused, too, the limits are
@@ -93,6 +93,10 @@ static json_patch_status called(const input *it, json_patch_document *kept, cons
         return json_patch_merge(document, size, text, length, limits, out, ROOM, report);
     if (strcmp(name, "diff") == 0)
         return json_patch_diff(document, size, text, length, limits, out, ROOM, report);
+    if (strcmp(name, "merge_diff") == 0)
+        return json_patch_merge_diff(document, size, text, length, limits, out, ROOM, report);
+    if (strcmp(name, "merge_join") == 0)
+        return json_patch_merge_join(document, size, text, length, limits, out, ROOM, report);
     if (strcmp(name, "check") == 0)
         return json_patch_check(text, length, report);
     if (strcmp(name, "value") == 0)

@@ -96,6 +96,27 @@ static const row rows[] = {
     MAKES(DIFF, "{\"text\":\"some longer text\",\"b\":1e9,\"a/b\":1.50}", "{\"text\":\"some longer text\",\"b\":1e9}",
           "[{\"op\":\"remove\",\"path\":\"/a~1b\"}]"),
     MAKES(DIFF, "1.51", "1.50", "[{\"op\":\"replace\",\"path\":\"\",\"value\":1.50}]"),
+    /* so is the merge patch between two texts; names are in byte order, and escaped where they have to be */
+    MAKES(MERGE_DIFF, LAYOUT, "{\"b\":[],\"a\":10e399}", "{}"),
+    MAKES(MERGE_DIFF, LAYOUT, "{\"c\":{\"d\" : 1.50},\"b\":[ -0.0 ]}", "{\"a\":null,\"b\":[-0.0],\"c\":{\"d\":1.50}}"),
+    MAKES(MERGE_DIFF, "{}", "{\"\\u00e9\":1E+2,\"\\\"\\\\\\n\\u0001\":\"\\u0041\\/\",\"\":0}",
+          "{\"\":0,\"\\\"\\\\\\n\\u0001\":\"A/\",\"\xc3\xa9\":1E+2}"),
+    MAKES(MERGE_DIFF, "{\"a\":{\"b\":null,\"c\":1}}", "{\"a\":{\"b\":null}}", "{\"a\":{\"c\":null}}"),
+    MAKES(MERGE_DIFF, "[1]", "{\"a\":[null]}", "{\"a\":[null]}"),
+    MAKES(MERGE_DIFF, "1.5", "null", "null"),
+    /* no merge patch makes a member null */
+    NOT(MERGE_DIFF, IMPOSSIBLE, KIND_NONE, "{\"a\":1}", "{\"a\":{\"b\":{\"c\":null}}}"),
+    NOT(MERGE_DIFF, IMPOSSIBLE, KIND_NONE, "null", "{\"a\":null}"),
+    NOT(MERGE_DIFF, IMPOSSIBLE, KIND_NONE, "{\"a\":null,\"b\":1}", "{\"a\":1,\"b\":null}"),
+    /* two merge patches in one: what the second has, and else the first */
+    MAKES(MERGE_JOIN, LAYOUT, "{}", "{\"a\":1e400,\"b\":[]}"),
+    MAKES(MERGE_JOIN, "{\"a\":{\"b\":1.50,\"c\":null},\"d\":1}", "{\"a\":{\"b\":null,\"e\":-0},\"d\":null}",
+          "{\"a\":{\"b\":null,\"c\":null,\"e\":-0},\"d\":null}"),
+    MAKES(MERGE_JOIN, "{\"a\":1}", "[ 1.0 ]", "[1.0]"),
+    /* none makes an object whole, as the first and then the second do */
+    NOT(MERGE_JOIN, IMPOSSIBLE, KIND_NONE, "{\"a\":1.5}", "{\"a\":{\"b\":null}}"),
+    NOT(MERGE_JOIN, IMPOSSIBLE, KIND_NONE, "{\"a\":{\"b\":null}}", "{\"a\":{\"b\":{}}}"),
+    NOT(MERGE_JOIN, IMPOSSIBLE, KIND_NONE, "[]", "{}"),
     /* an operation is refused */
     REFUSES(APPLY, "[1.50]", "[{\"op\":\"test\",\"path\":\"/0\",\"value\":1.51}]", 0, TEST_FAILED, "/0"),
     REFUSES(APPLY, "[1e400]",
@@ -146,6 +167,15 @@ static const row rows[] = {
     NOT(DIFF, NO_PATCH, NOT_JSON, "1.5", "[1.5,]"),
     NOT(DIFF, NO_PATCH, UNPAIRED_SURROGATE, "1.5", "\"\\ud800\""),
     NOT(DIFF, NO_PATCH, TOO_DEEP, "1.5", DEPTH_126),
+    NOT(MERGE_DIFF, NO_DOCUMENT, NOT_JSON, "{", "{\"a\":null}"),
+    NOT(MERGE_DIFF, NO_DOCUMENT, TOO_DEEP, DEPTH_126, "1"),
+    NOT(MERGE_DIFF, NO_PATCH, NOT_JSON, "1.5", "[1.5,]"),
+    NOT(MERGE_DIFF, NO_PATCH, UNPAIRED_SURROGATE, "1.5", "{\"\\ud800\":null}"),
+    NOT(MERGE_DIFF, NO_PATCH, TOO_DEEP, "1.5", DEPTH_126),
+    NOT(MERGE_JOIN, NO_DOCUMENT, NOT_JSON, "[", DEPTH_126),
+    NOT(MERGE_JOIN, NO_DOCUMENT, UNPAIRED_SURROGATE, "\"\\udc00\"", "{"),
+    NOT(MERGE_JOIN, NO_PATCH, NOT_JSON, "1", "\"\xff\""),
+    NOT(MERGE_JOIN, NO_PATCH, TOO_DEEP, "1", DEPTH_126),
     /* where a pointer leads */
     MAKES(VALUE, PLACES, "", "{ \"a\" : [1.50 , 1e400 ] }"),
     MAKES(VALUE, PLACES, "/a", "[1.50 , 1e400 ]"),
@@ -189,6 +219,43 @@ static void expect_check(const row *row) {
 
 enum { ROOM = 1 << 20 };
 
+/* Two texts say the same. */
+static void expect_same(text first, text second) {
+    static char out[ROOM];
+    json_patch_report report;
+    const row between = {DIFF, first, second, 0, 0, 0, {NULL, 0}, NULL};
+    if (made(&between, out, ROOM, NULL, 0, &report) || report.size != 2)
+        fail("%.*s, and not %.*s", (int)first.length, first.bytes, (int)second.length, second.bytes);
+}
+
+/* The text that a merge leaves, in this room. */
+static text merged(text document, text patch, char *out) {
+    const json_patch_limits enough = {sizeof enough, JSON_PATCH_MOST_LEVELS, SIZE_MAX};
+    const row merge = {MERGE, document, patch, 0, 0, 0, {NULL, 0}, &enough};
+    json_patch_report report;
+    if (made(&merge, out, ROOM, NULL, 0, &report))
+        fail("%.*s isn't merged", (int)patch.length, patch.bytes);
+    return (text){out, report.size};
+}
+
+/* The merge patch of two texts leads to the second; one of two does what these do in turn. */
+static void expect_merged(const row *it) {
+    static const text documents[] = {TEXT("null"), TEXT(LAYOUT), TEXT("{\"a\":{\"b\":[],\"x\":1},\"price\":0,\"d\":{\"e\":null}}")};
+    static char made_of[ROOM], out[ROOM], first[ROOM], second[ROOM];
+    json_patch_report report;
+    if ((it->call != MERGE_DIFF && it->call != MERGE_JOIN) || it->status != JSON_PATCH_OK)
+        return;
+    made(it, made_of, ROOM, NULL, 0, &report);
+    const text patch = {made_of, report.size};
+    if (it->call == MERGE_DIFF) {
+        expect_same(merged(it->document, patch, out), it->patch);
+        return;
+    }
+    for (size_t i = 0; i < sizeof documents / sizeof *documents; i++)
+        expect_same(merged(documents[i], patch, out),
+                    merged(merged(documents[i], it->document, first), it->patch, second));
+}
+
 /* The patch of a difference leads to the second text, and an inverse back: the text that it leaves says the
    same. */
 static void expect_led(const row *it) {
@@ -199,14 +266,12 @@ static void expect_led(const row *it) {
         return;
     made(it, out, ROOM, inverse, ROOM, &report);
     const text none = {NULL, 0}, first = {out, report.size}, second = {inverse, report.inverse_size};
-    row applied = {APPLY, first, second, 0, 0, 0, none, &enough}, same = {DIFF, none, it->document, 0, 0, 0, none, NULL};
+    row applied = {APPLY, first, second, 0, 0, 0, none, &enough};
     if (it->call == DIFF)
-        applied.document = it->document, applied.patch = first, same.patch = it->patch;
+        applied.document = it->document, applied.patch = first;
     if (made(&applied, led, ROOM, NULL, 0, &report))
         fail("%.*s is refused", (int)applied.patch.length, applied.patch.bytes);
-    same.document = (text){led, report.size};
-    if (made(&same, out, ROOM, NULL, 0, &report) || report.size != 2)
-        fail("%.*s is led to %.*s", (int)it->document.length, it->document.bytes, (int)same.document.length, led);
+    expect_same((text){led, report.size}, it->call == DIFF ? it->patch : it->document);
 }
 
 /* A row of cases.json. (On a text a number may be any.) */
@@ -216,6 +281,7 @@ static void expect_row(const row *row) {
     expect_at_each_length(row);
     expect_check(row);
     expect_led(row);
+    expect_merged(row);
 }
 
 /* Each value as a document, in a patch, and as a merge patch: a number stays, whatever it is. */
@@ -235,10 +301,14 @@ static void expect_values(void) {
             {MERGE, object, value, 3, 0, values[i].kind, nothing, NULL},
             {DIFF, value, unread, 2, 0, values[i].kind, nothing, NULL},
             {DIFF, object, value, 3, 0, values[i].kind, nothing, NULL},
+            {MERGE_DIFF, value, unread, 2, 0, values[i].kind, nothing, NULL},
+            {MERGE_DIFF, object, value, 3, 0, values[i].kind, nothing, NULL},
+            {MERGE_JOIN, value, unread, 2, 0, values[i].kind, nothing, NULL},
+            {MERGE_JOIN, object, value, 3, 0, values[i].kind, nothing, NULL},
             {VALUE, value, nothing, 2, 0, values[i].kind, nothing, NULL},
             {RECORD, value, unread, 2, 0, values[i].kind, nothing, NULL},
         };
-        const text written[] = {value, in_object, object, value, nothing, put, value, nothing};
+        const text written[] = {value, in_object, object, value, nothing, put, nothing, value, nothing, value, value, nothing};
         for (size_t j = 0; j < sizeof told / sizeof *told; j++) {
             row it = told[j];
             if (is_number)
@@ -295,6 +365,12 @@ static void expect_levels(void) {
     expect_within(DIFF, "[[]]", "1", WITHIN(2, 0), JSON_PATCH_OK, 0, 0);
     expect_within(DIFF, "[[]]", "1", WITHIN(1, 0), JSON_PATCH_NO_DOCUMENT, 0, JSON_PATCH_TOO_DEEP);
     expect_within(DIFF, "1", "[[]]", WITHIN(1, 0), JSON_PATCH_NO_PATCH, 0, JSON_PATCH_TOO_DEEP);
+    for (call call = MERGE_DIFF; call <= MERGE_JOIN; call++) {
+        expect_within(call, "[[]]", "1", WITHIN(2, 0), JSON_PATCH_OK, 0, 0);
+        expect_within(call, "[[]]", "1", WITHIN(1, 0), JSON_PATCH_NO_DOCUMENT, 0, JSON_PATCH_TOO_DEEP);
+        expect_within(call, "1", "[[]]", WITHIN(2, 0), JSON_PATCH_OK, 0, 0);
+        expect_within(call, "1", "[[]]", WITHIN(1, 0), JSON_PATCH_NO_PATCH, 0, JSON_PATCH_TOO_DEEP);
+    }
     expect_within(VALUE, "[[]]", "/0", WITHIN(2, 0), JSON_PATCH_OK, 0, 0);
     expect_within(VALUE, "[[]]", "/0", WITHIN(1, 0), JSON_PATCH_NO_DOCUMENT, 0, JSON_PATCH_TOO_DEEP);
 }
@@ -302,7 +378,8 @@ static void expect_levels(void) {
 /* Those of a call that is given none, and of one that is given more than there may be. */
 static void expect_most(void) {
     char document[2 * (JSON_PATCH_MOST_LEVELS + 1) + 1] = {0};
-    static const char *const others[] = {[APPLY] = "[]", [RECORD] = "[]", [MERGE] = "{}", [DIFF] = "1", [VALUE] = ""};
+    static const char *const others[] = {[APPLY] = "[]", [RECORD] = "[]", [MERGE] = "{}", [DIFF] = "1",
+                                         [MERGE_DIFF] = "1", [MERGE_JOIN] = "1", [VALUE] = ""};
     for (size_t levels = JSON_PATCH_MOST_LEVELS; levels <= JSON_PATCH_MOST_LEVELS + 1; levels++) {
         int fits = levels <= JSON_PATCH_MOST_LEVELS;
         memset(document, '[', levels);
@@ -396,7 +473,8 @@ static void expect_sizes(void) {
         const json_patch_limits *limits = of_size(sizes[i]);
         json_patch_status wanted = i ? JSON_PATCH_BAD_LIMITS : JSON_PATCH_OK;
         const row its[] = {MAKES(APPLY, "1", "[]", "1"), MAKES(RECORD, "1", "[]", "[1,[]]"),
-                           MAKES(MERGE, "1", "{}", "{}"), MAKES(DIFF, "1", "1", "[]"), MAKES(VALUE, "1", "", "1")};
+                           MAKES(MERGE, "1", "{}", "{}"), MAKES(DIFF, "1", "1", "[]"), MAKES(VALUE, "1", "", "1"),
+                           MAKES(MERGE_DIFF, "1", "1", "1"), MAKES(MERGE_JOIN, "1", "1", "1")};
         for (size_t j = 0; j < sizeof its / sizeof *its; j++) {
             row it = its[j];
             it.limits = limits;
@@ -446,7 +524,7 @@ int main(int count, char **words) {
     expect_merged_bytes();
     expect_sizes();
     expect_kinds();
-    for (int status = 0; status <= JSON_PATCH_BAD_LIMITS; status++)
+    for (int status = 0; status <= JSON_PATCH_IMPOSSIBLE; status++)
         if (statuses[status] == 0 && status != JSON_PATCH_NO_MEMORY && status != JSON_PATCH_CLOSED)
             fail("no call returned status %d", status);
     if (!checks[JSON_PATCH_OK] || !checks[JSON_PATCH_NO_PATCH])

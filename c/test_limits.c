@@ -225,6 +225,26 @@ static void expect_deep_value(const text *deep, const char *token, size_t turns,
     free(pointer.bytes);
 }
 
+/* What leads to a deep text from none, and two of it joined, is that text. */
+static void expect_deep_merge_patches(const text *deep, const json_patch_limits *limits, json_patch_kind kind) {
+    json_patch_report report;
+    int fits = kind == JSON_PATCH_KIND_NONE;
+    json_patch_status of_first = fits ? JSON_PATCH_OK : JSON_PATCH_NO_DOCUMENT;
+    json_patch_status of_second = fits ? JSON_PATCH_OK : JSON_PATCH_NO_PATCH;
+    expect(json_patch_merge_diff(OF(*deep), "1", 1, limits, out, ROOM, &report), &report, of_first, 0, kind,
+           "a merge patch from a deep text");
+    expect(json_patch_merge_diff("{}", 2, OF(*deep), limits, out, ROOM, &report), &report, of_second, 0, kind,
+           "a merge patch to a deep text");
+    if (fits)
+        expect_text(OF(*deep), out, report.size, "a merge patch to a deep text");
+    expect(json_patch_merge_join("{}", 2, OF(*deep), limits, out, ROOM, &report), &report, of_second, 0, kind,
+           "a deep merge patch that is joined");
+    expect(json_patch_merge_join(OF(*deep), OF(*deep), limits, out, ROOM, &report), &report, of_first, 0, kind,
+           "two deep merge patches");
+    if (fits)
+        expect_text(OF(*deep), out, report.size, "two deep merge patches");
+}
+
 /* A text of so many turns, as a document, a merge patch and a patch. */
 static void expect_deep(const nest *by, size_t turns, const json_patch_limits *limits) {
     text deep = nested(by, turns), none = {"[]", 2, 0};
@@ -257,6 +277,7 @@ static void expect_deep(const nest *by, size_t turns, const json_patch_limits *l
         free(pointer.bytes);
     }
     json_patch_close(&kept);
+    expect_deep_merge_patches(&deep, limits, kind);
     expect_deep_value(&deep, by->token, turns, levels, limits);
     expect_deep_value(&deep, by->token, turns, levels, NULL);
     free(deep.bytes);
@@ -298,6 +319,27 @@ static text expect_led(const char *from, size_t length, const text *to, const js
     return patch;
 }
 
+/* The merge patch between the two has what stands innermost alone, and leads there; that there is none is told
+   where it has to be a null. */
+static void expect_merge_difference(const text *from, const text *to, size_t levels, const json_patch_limits *limits) {
+    text innermost = nested(&nests[0], levels), null = {NULL, 0, 0};
+    json_patch_report report;
+    innermost.bytes[levels * strlen(nests[0].open)] = '1';
+    expect(json_patch_merge_diff(OF(*from), OF(*to), limits, other, ROOM, &report), &report, JSON_PATCH_OK, 0, 0,
+           "a deep merge patch");
+    expect_text(OF(innermost), other, report.size, "a deep merge patch");
+    expect(json_patch_merge(OF(*from), other, report.size, limits, out, ROOM, &report), &report, JSON_PATCH_OK, 0, 0,
+           "a deep merge patch that is merged");
+    expect_text(OF(*to), out, report.size, "a deep merge patch that is merged");
+    put_times(&null, nests[0].open, levels);
+    put(&null, "null");
+    put_times(&null, nests[0].close, levels);
+    expect(json_patch_merge_diff(OF(*from), OF(null), limits, out, ROOM, &report), &report,
+           levels ? JSON_PATCH_IMPOSSIBLE : JSON_PATCH_OK, 0, 0, "a deep null");
+    free(innermost.bytes);
+    free(null.bytes);
+}
+
 static void expect_difference(size_t levels, const json_patch_limits *limits) {
     text from = made_of(levels, 0), to = made_of(levels, 1);
     int fits = levels <= limits->depth && levels <= MOST;
@@ -321,6 +363,7 @@ static void expect_difference(size_t levels, const json_patch_limits *limits) {
         expect(json_patch_diff("7.5", 3, OF(to), limits, out, ROOM, &report), &report, JSON_PATCH_OK, 0, 0,
                "a deep whole");
         expect_text(OF(whole), out, report.size, "a deep whole");
+        expect_merge_difference(&from, &to, levels, limits);
         free(patch.bytes);
         free(whole.bytes);
     }

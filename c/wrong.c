@@ -76,6 +76,8 @@ json_patch_status json_patch_update(json_patch_document *document, const char *p
 UNUSED_TEXTS(json_patch_apply)
 UNUSED_TEXTS(json_patch_merge)
 UNUSED_TEXTS(json_patch_diff)
+UNUSED_TEXTS(json_patch_merge_diff)
+UNUSED_TEXTS(json_patch_merge_join)
 UNUSED_TEXTS(json_patch_value)
 
 json_patch_status json_patch_record(const char *document, size_t document_length, const char *patch,

@@ -16,7 +16,6 @@ from patches import compact, test  # noqa: E402
 from reasons import KINDS, REFUSAL  # noqa: E402
 
 VECTORS = os.path.join(TOP, "crates/json_patch_vectors/src/*.rt")
-CALLS = os.path.join(TOP, "crates/json_patch_memory")
 ITEM = re.compile(r"^const (\w+): &(?:str|\[Case\]) = ", re.MULTILINE)
 LEXEME = re.compile(
     r'r(?P<hashes>#*)"(?P<raw>.*?)"(?P=hashes)|"(?P<text>(?:\\.|[^"\\])*)"|(?P<word>\w+(?:::\w+)*!?)'
@@ -92,9 +91,10 @@ def vectors():
         yield from constants.get("CASES", [])
 
 
-def calls(*names):
-    """The rows of these calls that json_patch_memory is run on, each with the line that answers it."""
-    with open(f"{CALLS}/stdin", encoding="utf-8") as asked, open(f"{CALLS}/stdout", encoding="utf-8") as told:
+def calls(*names, crate="json_patch_memory"):
+    """The rows of these calls that the crate is run on, each with the line that answers it."""
+    at = os.path.join(TOP, "crates", crate)
+    with open(f"{at}/stdin", encoding="utf-8") as asked, open(f"{at}/stdout", encoding="utf-8") as told:
         for line, answer in zip(asked, told, strict=True):
             if not line.startswith("#") and json.loads(line)[0] in names:
                 yield json.loads(line), answer.rstrip("\n")

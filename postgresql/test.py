@@ -148,7 +148,8 @@ class Calls(Sql):
     def test_cases_of_the_tables(self):
         counts = {}
         for case in json.loads((TOP / "c/cases.json").read_text()):
-            if case[5] == VALUE_NOT_WHOLE:  # of a document that is kept: here a number may be any
+            # of a document that is kept: here a number may be any; and merge patches aren't joined
+            if case[5] == VALUE_NOT_WHOLE or case[0] not in NAMES:
                 continue
             for kind in ("json", "jsonb"):
                 key = case[0], kind, self.check_case(kind, case)

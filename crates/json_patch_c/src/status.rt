@@ -22,3 +22,5 @@ pub const NOTHING: u8 = 8;
 pub const OVER: u8 = 9;
 /// The struct of limits has a size that isn't known.
 pub const BAD_LIMITS: u8 = 10;
+/// No merge patch does what is asked.
+pub const IMPOSSIBLE: u8 = 11;

@@ -4,13 +4,14 @@ ghost use Rattle.std.specs.Prelude.{◌≡◌, ◌≢◌, ◌≤◌, ◌⊎◌, 
 ghost use Rattle.json_patch_bytes.specs.Texts.{IsNoPointer};
 ghost use Rattle.json_patch_c.specs.Limits.{limits_of};
 ghost use Rattle.json_patch_c.specs.Reports.{IsBadLimits, IsBothWritten, IsTextWritten, IsTold, Tells};
-ghost use Rattle.json_patch_c.specs.declared.status.TheConstants.{BAD_LIMITS, NO_MEMORY, NO_POINTER, NO_ROOM, NOTHING, OK, OVER};
+ghost use Rattle.json_patch_c.specs.declared.status.TheConstants.{BAD_LIMITS, IMPOSSIBLE, NO_MEMORY, NO_POINTER, NO_ROOM, NOTHING, OK, OVER};
+ghost use Rattle.json_patch_text_bytes.specs.MergePatches.{AreNeverJoined, HasNoMergeDifference, IsJoined, IsMergeDifference};
 ghost use Rattle.json_patch_text_bytes.specs.Reasons.{of_check, of_merge, of_patch, of_record, of_text, of_two};
 ghost use Rattle.json_patch_text_bytes.specs.Texts.{IsDifference, IsMergedInto, IsNothingAt, IsPatched, IsRecorded, IsTextPatch, IsValueAt};
 
 use crate::given::GivenLimits;
 use crate::report::{Report, answer, refuse, tell, write, write_both};
-use crate::status::{BAD_LIMITS, NO_POINTER, NOTHING, OK};
+use crate::status::{BAD_LIMITS, IMPOSSIBLE, NO_POINTER, NOTHING, OK};
 use json_patch_text_bytes::calls;
 use json_patch_text_bytes::lookup::LookupFault;
 use std::alloc::Global;
@@ -139,6 +140,69 @@ pub extern "C" fn json_patch_diff(
         return tell(BAD_LIMITS, 0, 0, report);
     };
     answer(calls::differing(alloc, from, to, limits), out, report)
+}
+
+/// Writes the merge patch that leads from what one text says to what another says (RFC 7396). Of the
+/// limits `depth` alone counts.
+#[tactic(auto, using(crate::proofs::Answered::text_put, crate::proofs::Answered::text_apart, crate::proofs::Answered::told_both, crate::proofs::Answered::told_failure, crate::proofs::Answered::told_apart))]
+#[unsafe(no_mangle)]
+pub extern "C" fn json_patch_merge_diff(
+    alloc: Global,
+    from: &[u8],
+    to: &[u8],
+    limits: GivenLimits,
+    out: &mut [u8],
+    report: &mut Report,
+) -> u8
+    ensures written { IfOk (limits_of limits.given) (λ l.
+        IsTextWritten (IsMergeDifference l from.now to.now) result out.old out.new report.new) }
+    // NO_DOCUMENT: `from` is no JSON text. NO_PATCH: `to` is none.
+    ensures told { IfOk (limits_of limits.given) (λ l.
+        IsTold (of_two l.depth from.now to.now) result out.old out.new report.new) }
+    ensures impossible { IfOk (limits_of limits.given) (λ l. result ≡ IMPOSSIBLE
+        → HasNoMergeDifference l from.now to.now × Tells 0 0 0 report.new) }
+    ensures bad_limits { IsBadLimits (limits_of limits.given) result out.old out.new report.new }
+    ensures status { (result ≤ NO_ROOM) ⊎ ((OVER ≤ result) × (result ≤ IMPOSSIBLE)) }
+{
+    let Ok(limits) = limits.limits() else {
+        return tell(BAD_LIMITS, 0, 0, report);
+    };
+    match calls::merge_differing(alloc, from, to, limits) {
+        Ok(Some(patch)) => write(patch.as_bytes(), out, report),
+        Ok(None) => tell(IMPOSSIBLE, 0, 0, report),
+        Err(failure) => refuse(&failure, out, report),
+    }
+}
+
+/// Writes the merge patch that does what two in turn do (RFC 7396). Of the limits `depth` alone counts.
+#[tactic(auto, using(crate::proofs::Answered::text_put, crate::proofs::Answered::text_apart, crate::proofs::Answered::told_both, crate::proofs::Answered::told_failure, crate::proofs::Answered::told_apart))]
+#[unsafe(no_mangle)]
+pub extern "C" fn json_patch_merge_join(
+    alloc: Global,
+    first: &[u8],
+    then: &[u8],
+    limits: GivenLimits,
+    out: &mut [u8],
+    report: &mut Report,
+) -> u8
+    ensures written { IfOk (limits_of limits.given) (λ l.
+        IsTextWritten (IsJoined l first.now then.now) result out.old out.new report.new) }
+    // NO_DOCUMENT: `first` is no JSON text. NO_PATCH: `then` is none.
+    ensures told { IfOk (limits_of limits.given) (λ l.
+        IsTold (of_two l.depth first.now then.now) result out.old out.new report.new) }
+    ensures impossible { IfOk (limits_of limits.given) (λ l. result ≡ IMPOSSIBLE
+        → AreNeverJoined l first.now then.now × Tells 0 0 0 report.new) }
+    ensures bad_limits { IsBadLimits (limits_of limits.given) result out.old out.new report.new }
+    ensures status { (result ≤ NO_ROOM) ⊎ ((OVER ≤ result) × (result ≤ IMPOSSIBLE)) }
+{
+    let Ok(limits) = limits.limits() else {
+        return tell(BAD_LIMITS, 0, 0, report);
+    };
+    match calls::joined(alloc, first, then, limits) {
+        Ok(Some(both)) => write(both.as_bytes(), out, report),
+        Ok(None) => tell(IMPOSSIBLE, 0, 0, report),
+        Err(failure) => refuse(&failure, out, report),
+    }
 }
 
 /// Writes the text of the value where a pointer leads (RFC 6901), as it stands in the document's text. Of

@@ -16,7 +16,7 @@ TYPE_CHECKING = False
 if TYPE_CHECKING:
     from typing import Any, Dict, List
 
-OK, REFUSED, NO_DOCUMENT, NO_PATCH, NO_MEMORY, NO_ROOM, CLOSED, NO_POINTER, NOTHING, OVER, BAD_LIMITS = range(11)
+OK, REFUSED, NO_DOCUMENT, NO_PATCH, NO_MEMORY, NO_ROOM, CLOSED, NO_POINTER, NOTHING, OVER, BAD_LIMITS, IMPOSSIBLE = range(12)
 
 
 class Report(ctypes.Structure):
@@ -61,6 +61,8 @@ _CALLS: Dict[str, List[Any]] = {
     "record": [*_TEXT, *_TEXT, *_BOUNDS, *_TEXT, *_TEXT],
     "merge": [*_TEXT, *_TEXT, *_BOUNDS, *_TEXT],
     "diff": [*_TEXT, *_TEXT, *_BOUNDS, *_TEXT],
+    "merge_diff": [*_TEXT, *_TEXT, *_BOUNDS, *_TEXT],
+    "merge_join": [*_TEXT, *_TEXT, *_BOUNDS, *_TEXT],
     "check": _TEXT,
     "value": [*_TEXT, *_TEXT, *_BOUNDS, *_TEXT],
     "open": [*_HANDLE, *_TEXT, *_BOUNDS],
