@@ -126,6 +126,21 @@ class Command(unittest.TestCase):
             written, _, status = self.run_lines(f"json-patch diff {arguments} < d.json")
             self.assertEqual((written, status), ("", 64), arguments)
 
+    def test_diff_merge(self):
+        self.write("to.json", '{"b": [1.0, 2], "c": {"d": 1.50}}')
+        made = '{"a":null,"c":{"d":1.50}}\n'
+        self.assertDoes("json-patch diff --merge d.json to.json", made)
+        self.assertDoes("json-patch diff -m d.json < to.json", made)
+        self.assertDoes("json-patch diff -m --indent 1 --limit-depth 2 - to.json < d.json", json.dumps({"a": None, "c": {"d": 1.5}}, indent=1).replace("1.5", "1.50") + "\n")
+        self.assertDoes("json-patch diff -m d.json to.json | json-patch merge d.json", '{ "b": [1, 2], "c": {"d":1.50} }')
+        self.assertDoes("json-patch diff -m d.json d.json", "{}\n")
+        self.write("to.json", '{"a": {"b": null}}')
+        self.assertEnds(1, "to.json: Impossible", "json-patch diff -m d.json to.json")
+        self.assertEnds(1, "standard input: Impossible", "json-patch diff -m d.json < to.json")
+        self.write("bad", "[1")
+        for told, arguments in (("bad: NotJson", "bad to.json"), ("bad: NotJson", "d.json bad"), ("to.json: TooDeep", "--limit-depth 1 - to.json <<< 1")):
+            self.assertEnds(2, told, f"json-patch diff -m {arguments}")
+
     def test_get(self):
         self.assertDoes("json-patch get d.json /b", "[1, 2]\n")
         self.assertDoes("json-patch get - '' < d.json", DOCUMENT + "\n")

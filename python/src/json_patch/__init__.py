@@ -29,6 +29,11 @@ Of two documents the patch is made that leads from the one to the other:
 >>> make_patch({"name": "a", "rows": [1, 2, 3]}, {"name": "a", "rows": [1, 3]})
 JsonPatch([{'op': 'remove', 'path': '/rows/1'}])
 
+Merge patches (RFC 7396) are merged in, made from two documents, and joined, two in one:
+
+>>> merge_patch({"a": 1, "b": 2}, make_merge_patch({"a": 1, "b": 2}, {"b": 2, "c": 3}))
+{'b': 2, 'c': 3}
+
 A JSON text, such as a file's, is patched with every other byte kept:
 
 >>> apply_text('{ "price": 1.50, "rows": [1, 2] }', [{"op": "remove", "path": "/rows/0"}])
@@ -72,13 +77,14 @@ from .errors import (
     JsonPatchException,
     JsonPatchTestFailed,
     JsonPointerException,
+    NoMergePatch,
     NothingToUndo,
     NumberNotWhole,
     OverLimit,
     TooDeep,
 )
 from .limits import Limits
-from .patch import JsonPatch, apply_patch, make_patch, merge_patch, record_patch
+from .patch import JsonPatch, apply_patch, join_merge_patches, make_merge_patch, make_patch, merge_patch, record_patch
 from .pointer import EndOfList, JsonPointer, resolve_pointer, set_pointer
 from .texts import apply_text, merge_text, resolve_text
 
@@ -93,6 +99,7 @@ __all__ = [
     "JsonPointer",
     "JsonPointerException",
     "Limits",
+    "NoMergePatch",
     "NothingToUndo",
     "NumberNotWhole",
     "OverLimit",
@@ -100,6 +107,8 @@ __all__ = [
     "__version__",
     "apply_patch",
     "apply_text",
+    "join_merge_patches",
+    "make_merge_patch",
     "make_patch",
     "merge_patch",
     "merge_text",

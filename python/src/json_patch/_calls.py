@@ -4,10 +4,11 @@ from __future__ import annotations
 import ctypes
 
 from ._library import (
-    CLOSED, LIBRARY, NO_DOCUMENT, NO_MEMORY, NO_PATCH, NO_POINTER, NO_ROOM, NOTHING, OK, OVER, REFUSED, Report, bounds,
+    CLOSED, IMPOSSIBLE, LIBRARY, NO_DOCUMENT, NO_MEMORY, NO_PATCH, NO_POINTER, NO_ROOM, NOTHING, OK, OVER, REFUSED, Report, bounds,
 )
 from .errors import (
-    KINDS, NOT_A_LIST, JsonPatchException, JsonPointerException, NumberNotWhole, OverLimit, TooDeep, _LeadsNowhere, _TestsNothing,
+    KINDS, NOT_A_LIST, JsonPatchException, JsonPointerException, NoMergePatch, NumberNotWhole, OverLimit, TooDeep, _LeadsNowhere,
+    _TestsNothing,
 )
 from .limits import Limits
 
@@ -48,6 +49,8 @@ def fault(status: int, report: Report, path: Optional[str] = None, patch: bytes 
         return MemoryError("out of memory")
     if status == CLOSED:
         return ValueError("the document is closed")
+    if status == IMPOSSIBLE:
+        return NoMergePatch("no merge patch does this", kind="Impossible")
     kind, error = KINDS[report.kind]
     if status == NO_DOCUMENT:
         return _of_document(kind, error)
@@ -133,6 +136,17 @@ def difference(call: Callable[..., int], to: bytes) -> bytes:
         return NO_DOCUMENT if status == NO_PATCH else status
 
     return written(told, len(to) + _SPARE)
+
+
+def joined(first: bytes, then: bytes, limits: Limits) -> bytes:
+    """The text of the merge patch that does what two do, of which the first is told as a patch, too."""
+    given = first, len(first), then, len(then), bounds(limits)
+
+    def told(*out: Any) -> int:
+        status: int = LIBRARY.json_patch_merge_join(*given, *out)
+        return NO_PATCH if status == NO_DOCUMENT else status
+
+    return written(told, len(first) + len(then) + _SPARE)
 
 
 def succeed(call: Callable[..., int], *arguments: Any) -> None:

@@ -15,7 +15,7 @@ from ._library import LIBRARY
 from ._texts import indented
 from ._version import __version__
 from .errors import (
-    InvalidJsonPatch, JsonPatchConflict, JsonPatchException, JsonPatchTestFailed, JsonPointerException, OverLimit,
+    InvalidJsonPatch, JsonPatchConflict, JsonPatchException, JsonPatchTestFailed, JsonPointerException, NoMergePatch, OverLimit,
 )
 from .limits import MOST_BYTES, MOST_LEVELS, Limits
 from .texts import resolve_text
@@ -37,7 +37,8 @@ nothing else. Numbers may be any.
 
 exit status:
   0   done
-  1   the patch is refused or over the limits, or the pointer leads nowhere: nothing is changed
+  1   the patch is refused or over the limits, no merge patch leads to TO, or the pointer leads nowhere:
+      nothing is changed
   2   DOCUMENT, PATCH, FROM, TO or POINTER can't be read, isn't one, or nests too deep
   3   out of memory
   4   the output can't be written
@@ -95,6 +96,7 @@ def _parser() -> argparse.ArgumentParser:
     differing = command("diff", "write the patch that leads from a document to another, [] where they are equal")
     differing.add_argument("document", metavar="FROM", help="the file of the document that the patch is for, or -")
     differing.add_argument("goal", metavar="TO", nargs="?", default="-", help="the file of the one to which it leads, or - (the default)")
+    differing.add_argument("-m", "--merge", action="store_true", help="write a merge patch, {} where they are equal objects; none makes a member null")
     _add_output(differing)
     _add_levels(differing)
     getting = command("get", "write what stands where a pointer leads in a document")
@@ -178,7 +180,7 @@ def _at_fault(name: str, document: Optional[str] = None) -> Iterator[None]:
     try:
         yield
     except (JsonPatchException, JsonPointerException) as error:
-        refused = isinstance(error, (JsonPatchConflict, JsonPatchTestFailed, OverLimit)) or error.kind == "Nothing"
+        refused = isinstance(error, (JsonPatchConflict, JsonPatchTestFailed, NoMergePatch, OverLimit)) or error.kind == "Nothing"
         if document is not None and not refused and not isinstance(error, InvalidJsonPatch):
             name = document
         raise _Failure(REFUSED if refused else UNREADABLE, _one_line(error, name)) from error
@@ -241,7 +243,7 @@ def _record(asked: argparse.Namespace) -> None:
 def _diff(asked: argparse.Namespace) -> None:
     text, goal = _read(asked.document), _read(asked.goal)
     with _at_fault(asked.goal, asked.document):
-        made = called(LIBRARY.json_patch_diff, text, goal, _limits(asked))
+        made = called(LIBRARY.json_patch_merge_diff if asked.merge else LIBRARY.json_patch_diff, text, goal, _limits(asked))
     _show(_line(made, asked))
 
 

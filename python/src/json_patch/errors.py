@@ -57,6 +57,11 @@ class OverLimit(JsonPatchException):
     with what was copied before. A merge that would leave too long a text has no operation."""
 
 
+class NoMergePatch(JsonPatchException, ValueError):
+    """No merge patch does what is asked: it can't make a member null, nor can it put an object whole, as
+    `{"a": 1}` and then `{"a": {"b": 2}}` do, since of one that is there it keeps the other members."""
+
+
 class NothingToUndo(JsonPatchException, IndexError):
     """The last change of a Document wasn't recorded, or has been taken back."""
 

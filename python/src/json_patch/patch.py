@@ -1,7 +1,7 @@
 """Patches, and the calls that apply them to Python's objects."""
 from __future__ import annotations
 
-from ._calls import applied, difference, expect_patch, merged, recorded
+from ._calls import applied, difference, expect_patch, joined, merged, recorded
 from ._in_place import changed
 from ._depth import shown
 from ._library import LIBRARY, bounds
@@ -219,3 +219,36 @@ def merge_patch(
     {'b': 2, 'c': [3]}
     """
     return value_of(merged(document_text(doc, dumps), patch_text(patch, dumps), limits), loads)
+
+
+def make_merge_patch(
+    src: Any, dst: Any, *, dumps: Optional[Dumps] = None, loads: Optional[Loads] = None, limits: Limits = DEFAULT
+) -> Any:
+    """The merge patch that leads from one document to another: merge_patch makes the other of the one by it. It
+    says no more than it has to, and is {} where both are equal dicts; members are in byte order of their names.
+
+    >>> make_merge_patch({"a": 1, "b": {"c": 2, "d": 3}}, {"b": {"c": 2, "d": 4}})
+    {'a': None, 'b': {'d': 4}}
+
+    NoMergePatch, where there is none: a None in it removes a member, so it makes none None that isn't already.
+    """
+    texts = document_text(src, dumps), document_text(dst, dumps)
+    given = texts[0], len(texts[0]), texts[1], len(texts[1]), bounds(limits)
+    return value_of(difference(lambda *out: LIBRARY.json_patch_merge_diff(*given, *out), texts[1]), loads)
+
+
+def join_merge_patches(
+    first: Any, then: Any, *, dumps: Optional[Dumps] = None, loads: Optional[Loads] = None, limits: Limits = DEFAULT
+) -> Any:
+    """The merge patch that does to every document what two do in turn. Its members are in byte order of their names.
+
+    >>> join_merge_patches({"a": 1, "b": None}, {"a": {"c": 2}})
+    Traceback (most recent call last):
+    json_patch.errors.NoMergePatch: no merge patch does this
+    >>> join_merge_patches({"b": None, "a": {"d": 1}}, {"a": {"c": 2}})
+    {'a': {'c': 2, 'd': 1}, 'b': None}
+
+    NoMergePatch, where there is none: where `first` removes or has what is no dict, and `then` has a dict, both make
+    exactly that dict, and one merge patch keeps what else a dict has that is there.
+    """
+    return value_of(joined(patch_text(first, dumps), patch_text(then, dumps), limits), loads)
