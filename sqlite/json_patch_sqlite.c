@@ -6,12 +6,13 @@
  *     json_patch_inverse(document, patch)    the patch that takes this one back
  *     json_patch_merge(document, patch)      the document with the merge patch merged into it
  *     json_patch_diff(document, goal)        the patch that leads from the one to the other
+ *     json_patch_merge_diff(document, goal)  the merge patch that leads there
  *     json_patch_check(patch)                NULL, or what is wrong with the patch
  *
- * The first four also take two limits, depth and bytes, as json_patch.h has them. A NULL among the
- * arguments gives NULL. What isn't a text, or says no document or, but for json_patch_check, no patch,
- * and a patch that is refused or over the limits are errors of the statement. json_patch_apply and json_patch_merge
- * keep the text where they don't change it. Numbers may be any. A result depends on the arguments alone, and no
+ * All but the last also take two limits, depth and bytes, as json_patch.h has them. A NULL among the
+ * arguments gives NULL. What isn't a text, or says no document or, but for json_patch_check, no patch, a goal
+ * to which no merge patch leads, and a patch that is refused or over the limits are errors of the statement.
+ * json_patch_apply and json_patch_merge keep the text where they don't change it. Numbers may be any. A result depends on the arguments alone, and no
  * call reads or writes anything else; so the functions may stand in indexes, generated columns, CHECKs and
  * triggers.
  *
@@ -83,6 +84,13 @@ static json_patch_status write_difference(const arguments *given, char *out, siz
 {
     return json_patch_diff(given->first.bytes, given->first.length, given->second.bytes,
                            given->second.length, &given->limits, out, room, report);
+}
+
+static json_patch_status write_merge_difference(const arguments *given, char *out, size_t room,
+                                                json_patch_report *report)
+{
+    return json_patch_merge_diff(given->first.bytes, given->first.length, given->second.bytes,
+                                 given->second.length, &given->limits, out, room, report);
 }
 
 /* The new text goes to the second half of the room: nobody asks for it. */
@@ -173,6 +181,8 @@ static char *fault(const function *of, json_patch_status status, const char *out
         return fault_of_text(of->first, report);
     case JSON_PATCH_NO_PATCH:
         return fault_of_text(of->texts == 1 ? of->first : of->second, report);
+    case JSON_PATCH_IMPOSSIBLE:
+        return sqlite3_mprintf("no merge patch leads to the %s: it would have to make a member null", of->second);
     default:
         return NULL;
     }
@@ -301,6 +311,7 @@ static const function FUNCTIONS[] = {
     {"json_patch_inverse", 2, "document", "patch", write_inverse},
     {"json_patch_merge", 2, "document", "merge patch", write_merged},
     {"json_patch_diff", 2, "document", "goal", write_difference},
+    {"json_patch_merge_diff", 2, "document", "goal", write_merge_difference},
     {"json_patch_check", 1, "patch", NULL, write_nothing},
 };
 

@@ -69,6 +69,8 @@ static const char *const STATEMENTS[] = {
     "UPDATE t SET d = json_patch_inverse(d, '[{\"op\":\"copy\",\"from\":\"\",\"path\":\"/b\"},{\"op\":\"copy\",\"from\":\"\",\"path\":\"/c\"},"
     "{\"op\":\"copy\",\"from\":\"\",\"path\":\"/d\"},{\"op\":\"copy\",\"from\":\"\",\"path\":\"/e\"}]')",
     "UPDATE t SET d = json_patch_diff(d, '{\"a\":[1,3,\"xx\"],\"b\":{}}')",
+    "UPDATE t SET d = json_patch_merge_diff(d, '{\"a\":[1,3,\"xx\"],\"b\":{}}')",
+    "UPDATE t SET d = json_patch_merge_diff(d, '{\"b\":{\"c\":null}}')",
     "UPDATE t SET d = coalesce(json_patch_check('[{\"op\":\"add\",\"path\":\"/b\",\"value\":[{}]}]'), d || ' ')",
     "UPDATE t SET d = json_patch_check('[{\"op\":\"add\",\"path\":\"b\",\"value\":[{}]}]')",
     "UPDATE t SET d = json_patch_apply(d, '[{\"op\":\"remove\",\"path\":\"/none\"}]')",

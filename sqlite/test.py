@@ -24,7 +24,7 @@ from model import copied  # noqa: E402
 
 LIBRARY = None
 APPLY, MERGE, INVERSE, CHECK = ("json_patch_apply", "json_patch_merge", "json_patch_inverse", "json_patch_check")
-DIFF = "json_patch_diff"
+DIFF, MERGE_DIFF = "json_patch_diff", "json_patch_merge_diff"
 CHANGES = 10_000
 ROWS, WRONG_ROW = 100_000, 50_000
 THREADS, EACH = 4, 200
@@ -63,7 +63,7 @@ class Calls(Sql):
         counts = {}
         for call, document, patch, status, operation, kind, written in json.loads((TOP / "c/cases.json").read_text()):
             counts[call, status] = counts.get((call, status), 0) + 1
-            name = {"apply": APPLY, "merge": MERGE, "record": INVERSE}.get(call)
+            name = {"apply": APPLY, "merge": MERGE, "record": INVERSE, "merge_diff": MERGE_DIFF}.get(call)
             if name is None or kind in NUMBERS_OF_KEPT:
                 continue
             if status == 0:
@@ -76,7 +76,8 @@ class Calls(Sql):
             told = str(caught.exception)
             if status == 1:
                 self.assertIn(f"operation {operation} failed at path '{written}': ", told)
-        self.assertGreater(min(counts["apply", 0], counts["apply", 1], counts["apply", 3], counts["merge", 0]), 10, counts)
+        kinds = ("apply", 0), ("apply", 1), ("apply", 3), ("merge", 0), ("merge_diff", 0)
+        self.assertGreater(min(counts[kind] for kind in kinds), 10, counts)
 
     def test_kinds_of_refusal(self):
         for told, document, operation in [
@@ -100,7 +101,7 @@ class Calls(Sql):
         self.assertFails("operation 0 failed at path '/a\\u0000b': value did not match", INVERSE, '{"a\\u0000b":1}', '[{"op":"test","path":"/a\\u0000b","value":2}]')
 
     def test_what_is_no_document_or_patch(self):
-        for name in (APPLY, INVERSE, MERGE, DIFF):
+        for name in (APPLY, INVERSE, MERGE, DIFF, MERGE_DIFF):
             self.assertFails("document is not JSON", name, "{", "[]")
             self.assertFails("document holds an unpaired surrogate", name, '["\\ud800"]', "[]")
         self.assertFails("document nests too deep", APPLY, "[" * 125 + "]" * 125, "[]")
@@ -109,18 +110,19 @@ class Calls(Sql):
         self.assertFails("patch is not a list", APPLY, "{}", "{}")
         self.assertFails("patch: operation 1: member \"op\" is missing", APPLY, "1", '[{"op":"test","path":"","value":1},{}]')
         self.assertFails("merge patch is not JSON", MERGE, "{}", "")
-        self.assertFails("goal is not JSON", DIFF, "1", "1e")
-        self.assertFails("goal nests too deep", DIFF, "1", "[" * 125 + "]" * 125)
+        for name in (DIFF, MERGE_DIFF):
+            self.assertFails("goal is not JSON", name, "1", "1e")
+            self.assertFails("goal nests too deep", name, "1", "[" * 125 + "]" * 125)
 
     def test_what_is_no_text(self):
-        for name, which in [(APPLY, "patch"), (MERGE, "merge patch"), (INVERSE, "patch"), (DIFF, "goal")]:
+        for name, which in [(APPLY, "patch"), (MERGE, "merge patch"), (INVERSE, "patch"), (DIFF, "goal"), (MERGE_DIFF, "goal")]:
             for value in (1, 1.5, b"[]"):
                 self.assertFails("document is not a text", name, value, "[]")
                 self.assertFails(f"{which} is not a text", name, "{}", value)
         self.assertFails("patch is not a text", CHECK, b"[]")
 
     def test_null_gives_null(self):
-        for name in (APPLY, MERGE, INVERSE, DIFF):
+        for name in (APPLY, MERGE, INVERSE, DIFF, MERGE_DIFF):
             for given in [(None, "[]"), ("[]", None), (None, None), ("[", None), (None, "[]", 1, 1), ("[]", "[]", None, 1), ("[]", "[]", 1, None)]:
                 self.assertIsNone(self.of(name, *given), (name, given))
         self.assertIsNone(self.of(CHECK, None))
@@ -150,6 +152,26 @@ class Calls(Sql):
         self.assertEqual(self.of(DIFF, d, e), '[{"op":"add","path":"/was/1","value":2.50}]')
         self.assertEqual(self.of(APPLY, d, self.of(DIFF, d, e)), '{"price": 1.50, "large": 1e400, "was": [0.1, 2.50, 7]}')
         self.assertEqual(self.of(APPLY, e, self.of(DIFF, e, d)), '{"large": 10e399, "price": 1.5, "was": [0.1, 7]}')
+
+    def test_merge_patches_lead_there(self):
+        d, e = '{"price": 1.50, "large": 1e400, "a": {"b": null, "c": [1]}}', '{"a": {"c": [1.0, 2.50], "b": null}, "price": 15e-1, "was": 1.50}'
+        patch = self.of(MERGE_DIFF, d, e)
+        self.assertEqual(patch, '{"a":{"c":[1.0,2.50]},"large":null,"was":1.50}')
+        self.assertEqual(self.of(MERGE, d, patch), '{"price": 1.50, "a": {"b": null, "c": [1.0,2.50]}, "was": 1.50}')
+        self.assertEqual(self.of(MERGE_DIFF, d, d), "{}")
+        self.assertEqual(self.of(MERGE_DIFF, "[1]", "{}"), "{}")
+        self.assertEqual(self.of(MERGE_DIFF, "[1]", " [ 1 ] "), "[1]")
+        found = self.database.execute(f"SELECT json_array({MERGE_DIFF}('{{}}', '[]'), '[]')").fetchone()[0]
+        self.assertEqual(found, '[[],"[]"]')
+
+    def test_where_no_merge_patch_leads(self):
+        """A null of a merge patch removes (RFC 7396, section 2), so a member that is to be null is made by none."""
+        told = "no merge patch leads to the goal: it would have to make a member null"
+        for d, e in [("{}", '{"a":null}'), ('{"a":1}', '{"a":{"b":{"c":null}}}'), ("1", '{"a":1,"b":null}')]:
+            self.assertFails(told, MERGE_DIFF, d, e)
+            self.assertFails(told, MERGE_DIFF, d, e, 3, 0)
+        self.assertEqual(self.of(MERGE_DIFF, '{"a":null,"b":1}', '{"a":null}'), '{"b":null}')
+        self.assertEqual(self.of(MERGE_DIFF, "{}", '{"a":[null]}'), '{"a":[null]}')
 
     def test_inverses_of_any_numbers(self):
         """What was there comes back as it was written, such as a price."""
@@ -221,7 +243,9 @@ class Calls(Sql):
         self.assertFails("depth is not a whole number from 0 on", APPLY, "[]", "[]", -1, 1)
         self.assertFails("bytes is not a whole number from 0 on", APPLY, "[]", "[]", 1, "1")
         self.assertFails("merge patch nests too deep", MERGE, "[]", "[[]]", 1, 1)
-        self.assertFails("goal nests too deep", DIFF, "[]", "[[]]", 1, 1)
+        for name in (DIFF, MERGE_DIFF):
+            self.assertFails("goal nests too deep", name, "[]", "[[]]", 1, 1)
+        self.assertEqual(self.of(MERGE_DIFF, "[]", "[[]]", 2, 0), "[[]]")
         # 9 bytes and 7 are merged to 17
         self.assertEqual(self.of(MERGE, '{ "a": 1}', '{"b":2}', 1, 1), '{ "a": 1, "b": 2}')
         self.assertFails("merge patch is over the limits: it leaves too much", MERGE, '{ "a": 1}', '{"b":2}', 1, 0)
