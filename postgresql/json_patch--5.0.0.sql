@@ -99,6 +99,14 @@ CREATE FUNCTION json_patch_merge(document jsonb, patch jsonb) RETURNS jsonb
     LANGUAGE c IMMUTABLE STRICT PARALLEL SAFE COST 500 AS 'MODULE_PATHNAME', 'pg_json_patch_merge';
 COMMENT ON FUNCTION json_patch_merge(jsonb, jsonb) IS 'the document with the merge patch merged into it (RFC 7396)';
 
+CREATE FUNCTION json_patch_merge_diff(document json, goal json) RETURNS json
+    LANGUAGE c IMMUTABLE STRICT PARALLEL SAFE COST 500 AS 'MODULE_PATHNAME', 'pg_json_patch_merge_diff';
+COMMENT ON FUNCTION json_patch_merge_diff(json, json) IS 'the merge patch that leads from the document to the goal';
+
+CREATE FUNCTION json_patch_merge_diff(document jsonb, goal jsonb) RETURNS jsonb
+    LANGUAGE c IMMUTABLE STRICT PARALLEL SAFE COST 500 AS 'MODULE_PATHNAME', 'pg_json_patch_merge_diff';
+COMMENT ON FUNCTION json_patch_merge_diff(jsonb, jsonb) IS 'the merge patch that leads from the document to the goal';
+
 CREATE FUNCTION json_patch_value(document json, pointer text) RETURNS json
     LANGUAGE c IMMUTABLE STRICT PARALLEL SAFE COST 500 AS 'MODULE_PATHNAME', 'pg_json_patch_value';
 COMMENT ON FUNCTION json_patch_value(json, text) IS 'what stands where the pointer leads (RFC 6901), NULL where it leads nowhere';

@@ -42,6 +42,7 @@ PG_MODULE_MAGIC;
 #define NO_DOCUMENT MAKE_SQLSTATE('J', 'P', '0', '1', '0')
 #define NO_PATCH MAKE_SQLSTATE('J', 'P', '0', '1', '1')
 #define NO_POINTER MAKE_SQLSTATE('J', 'P', '0', '1', '2')
+#define NO_MERGE_PATCH MAKE_SQLSTATE('J', 'P', '0', '1', '3')
 #define TOO_DEEP MAKE_SQLSTATE('J', 'P', '0', '2', '0')
 #define TOO_MUCH MAKE_SQLSTATE('J', 'P', '0', '2', '1')
 
@@ -116,6 +117,14 @@ static json_patch_status write_difference(const arguments *given, const texts_wr
                            report);
 }
 
+static json_patch_status write_merge_difference(const arguments *given, const texts_written *to,
+                                                json_patch_report *report)
+{
+    return json_patch_merge_diff(given->first.bytes, given->first.length, given->second.bytes,
+                                 given->second.length, &given->limits, bytes_of(&to->text),
+                                 to->text.size, report);
+}
+
 static json_patch_status write_record(const arguments *given, const texts_written *to,
                                       json_patch_report *report)
 {
@@ -142,6 +151,7 @@ static json_patch_status write_nothing(const arguments *given, const texts_writt
 static const function APPLY = {"document", "patch", write_applied};
 static const function MERGE = {"document", "merge patch", write_merged};
 static const function DIFF = {"document", "goal", write_difference};
+static const function MERGE_DIFF = {"document", "goal", write_merge_difference};
 static const function RECORD = {"document", "patch", write_record};
 static const function VALUE = {"document", "pointer", write_value};
 static const function CHECK = {"document", "patch", write_nothing};
@@ -349,6 +359,12 @@ static void refuse_text(const char *which, int code, const json_patch_report *re
              hint_of_text(report->kind)));
 }
 
+/* Whether the second text is a document, and no patch. */
+static bool is_difference(const function *of)
+{
+    return of->write == write_difference || of->write == write_merge_difference;
+}
+
 /* Raises the error of a call that wrote nothing. A refused operation's path is in out. */
 static void refuse(const function *of, json_patch_status status, const char *out,
                    const json_patch_report *report)
@@ -364,7 +380,13 @@ static void refuse(const function *of, json_patch_status status, const char *out
         refuse_text(of->first, NO_DOCUMENT, report);
         break;
     case JSON_PATCH_NO_PATCH:
-        refuse_text(of->second, of->write == write_difference ? NO_DOCUMENT : NO_PATCH, report);
+        refuse_text(of->second, is_difference(of) ? NO_DOCUMENT : NO_PATCH, report);
+        break;
+    case JSON_PATCH_IMPOSSIBLE:
+        ereport(ERROR,
+                (errcode(NO_MERGE_PATCH),
+                 errmsg("no merge patch leads to the %s", of->second),
+                 errhint("A null in a merge patch removes a member: none makes one null.")));
         break;
     case JSON_PATCH_NO_POINTER:
         ereport(ERROR,
@@ -539,6 +561,7 @@ static json_patch_status checked(FunctionCallInfo fcinfo, json_patch_report *rep
 PG_FUNCTION_INFO_V1(pg_json_patch_apply);
 PG_FUNCTION_INFO_V1(pg_json_patch_merge);
 PG_FUNCTION_INFO_V1(pg_json_patch_diff);
+PG_FUNCTION_INFO_V1(pg_json_patch_merge_diff);
 PG_FUNCTION_INFO_V1(pg_json_patch_inverse);
 PG_FUNCTION_INFO_V1(pg_json_patch_record);
 PG_FUNCTION_INFO_V1(pg_json_patch_value);
@@ -559,6 +582,11 @@ Datum pg_json_patch_merge(PG_FUNCTION_ARGS)
 Datum pg_json_patch_diff(PG_FUNCTION_ARGS)
 {
     return given_back(fcinfo, &DIFF);
+}
+
+Datum pg_json_patch_merge_diff(PG_FUNCTION_ARGS)
+{
+    return given_back(fcinfo, &MERGE_DIFF);
 }
 
 Datum pg_json_patch_value(PG_FUNCTION_ARGS)

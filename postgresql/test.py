@@ -35,9 +35,10 @@ CHANGES, PAIRS = 3_000, 3_000
 CLIENTS, EACH, ROWS = 8, 120, 20
 UNTIL_ENDED = 1_000_000
 APPLY, INVERSE, MERGE, DIFF = "json_patch_apply", "json_patch_inverse", "json_patch_merge", "json_patch_diff"
-NAMES = {"apply": APPLY, "record": INVERSE, "merge": MERGE, "diff": DIFF}
+MERGE_DIFF = "json_patch_merge_diff"
+NAMES = {"apply": APPLY, "record": INVERSE, "merge": MERGE, "diff": DIFF, "merge_diff": MERGE_DIFF}
 # the statuses and kinds of c/json_patch.h
-OK, REFUSED, NO_DOCUMENT, NO_PATCH = 0, 1, 2, 3
+OK, REFUSED, NO_DOCUMENT, NO_PATCH, IMPOSSIBLE = 0, 1, 2, 3, 11
 STATES = {3: "JP001", 5: "JP002", 4: "JP003", 6: "JP004"}
 VALUE_NOT_WHOLE = 23
 # what the server itself refuses: a text that is no JSON, and an escape that jsonb can't hold
@@ -135,6 +136,8 @@ class Calls(Sql):
                 self.assertEqual(state, STATES[fault], case)
                 number, path = re.fullmatch(r"Operation (\d+), path (.*)\.", told, re.DOTALL).groups()
                 self.assertEqual((int(number), json.loads(path)), (operation, written), case)
+            elif status == IMPOSSIBLE:
+                self.assertEqual((state, told), ("JP013", None), case)
             else:
                 self.assertEqual((state, status), ("JP011", NO_PATCH), case)
                 self.assertEqual(told, f"Operation {operation}." if fault >= 12 else None, case)
@@ -217,7 +220,8 @@ class Calls(Sql):
         for document in ("json", "jsonb"):
             for patch in ("json", "jsonb"):
                 kinds = self.rows(f"SELECT pg_typeof(json_patch_apply(d, p))::text, pg_typeof(json_patch_inverse(d, p))::text, pg_typeof(json_patch_merge(d, p))::text,"
-                                  f" pg_typeof((json_patch_record(d, p)).inverse)::text, pg_typeof(json_patch_diff(d, d))::text, pg_typeof(json_patch_value(d, ''))::text"
+                                  f" pg_typeof((json_patch_record(d, p)).inverse)::text, pg_typeof(json_patch_diff(d, d))::text, pg_typeof(json_patch_value(d, ''))::text,"
+                                  f" pg_typeof(json_patch_merge_diff(d, d))::text"
                                   f" FROM (SELECT '[]'::{document}, '[]'::{patch}) v (d, p)")
                 self.assertEqual(set(kinds[0]), {document})
 
@@ -250,7 +254,8 @@ class Calls(Sql):
         self.rows("""CREATE FUNCTION deep(n int) RETURNS int LANGUAGE plpgsql AS $$
             DECLARE d json := (repeat('[', 124) || repeat(']', 124))::json;
             BEGIN
-                PERFORM json_patch_apply(d, '[]'), json_patch_inverse(d, '[]'), json_patch_diff(d, '[]'), json_patch_merge(d, '[]'), json_patch_value(d, '/0');
+                PERFORM json_patch_apply(d, '[]'), json_patch_inverse(d, '[]'), json_patch_diff(d, '[]'), json_patch_merge(d, '[]'), json_patch_value(d, '/0'),
+                    json_patch_merge_diff(d, '[]'), json_patch_merge_diff('[]', d);
                 RETURN deep(n + 1);
             EXCEPTION WHEN statement_too_complex THEN RETURN n;
             END$$""")
@@ -569,14 +574,15 @@ class Clients(Sql):
 
 class Memory(Sql):
     CALLS = [(APPLY, '[{"op":"copy","from":"/a","path":"/b"},{"op":"move","from":"/a/0","path":"/a/-"}]'), (APPLY, '[{"op":"remove","path":"/none"}]'),
-             (MERGE, '{"a":null,"c":{"d":["e"]}}'), (INVERSE, '[{"op":"remove","path":"/a/0"}]'), (DIFF, '{"a":[1,3,"xx"],"b":{}}')]
+             (MERGE, '{"a":null,"c":{"d":["e"]}}'), (INVERSE, '[{"op":"remove","path":"/a/0"}]'), (DIFF, '{"a":[1,3,"xx"],"b":{}}'),
+             (MERGE_DIFF, '{"a":[1,3,"xx"],"b":{}}'), (MERGE_DIFF, '{"a":{"b":null}}')]
 
     def test_each_request_of_the_library_refused(self):
         """Then and only then the statement fails for that. A session that has json_patch_refuse has no json_patch."""
         document, total = '{"a":[1,{"b":"text"},[[]]]}', 0
         with session(self.name) as run:
             run.execute("CREATE SCHEMA refusing; CREATE FUNCTION refusing.refuse(int) RETURNS int LANGUAGE c AS '$libdir/json_patch_refuse', 'pg_json_patch_refuse'")
-            for name in (APPLY, MERGE, INVERSE, DIFF, "json_patch_value", "json_patch_check"):
+            for name in (APPLY, MERGE, INVERSE, DIFF, MERGE_DIFF, "json_patch_value", "json_patch_check"):
                 kinds, gives = {"json_patch_value": ("json, text", "json"), "json_patch_check": ("json", "text")}.get(name, ("json, json", "json"))
                 run.execute(f"CREATE FUNCTION refusing.{name}({kinds}) RETURNS {gives} LANGUAGE c AS '$libdir/json_patch_refuse', 'pg_{name}'")
             for query in [f"SELECT refusing.{name}('{document}', '{patch}')::text" for name, patch in self.CALLS] + [

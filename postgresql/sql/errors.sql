@@ -22,17 +22,21 @@ SELECT told($$SELECT json_patch_inverse('{}'::json, '[{"op":"test","path":"","va
 -- what is no document, patch or pointer
 SELECT told($$SELECT json_patch_apply('"\ud800"'::json, '[]')$$);
 SELECT told($$SELECT json_patch_diff('1'::json, '"\ud800"')$$);
+SELECT told($$SELECT json_patch_merge_diff('1'::json, '"\ud800"')$$);
 SELECT told($$SELECT json_patch_merge('1'::json, '"\ud800"')$$);
 SELECT told($$SELECT json_patch_inverse('1'::json, '[{"op":"add","path":"","value":"\ud800"}]')$$);
 SELECT told($$SELECT json_patch_apply('{}'::jsonb, '{}')$$);
 SELECT told($$SELECT json_patch_apply('{}'::jsonb, '[{"op":"test","path":"","value":{}},{"op":"add","path":"/a"}]')$$);
 SELECT told($$SELECT json_patch_value('{}'::jsonb, 'a')$$);
+-- where no merge patch leads
+SELECT told($$SELECT json_patch_merge_diff('{"a":1}'::jsonb, '{"a":{"b":null}}')$$);
 -- limits
 SET json_patch.max_depth = 1;
 SELECT told($$SELECT json_patch_apply('[]'::jsonb, '[{"op":"copy","from":"","path":"/0"}]')$$);
 SELECT told($$SELECT json_patch_apply('[[]]'::jsonb, '[]')$$);
 SELECT told($$SELECT json_patch_merge('[]'::jsonb, '[[]]')$$);
 SELECT told($$SELECT json_patch_diff('[]'::jsonb, '[[]]')$$);
+SELECT told($$SELECT json_patch_merge_diff('[]'::jsonb, '[[]]')$$);
 SELECT told($$SELECT json_patch_value('[[]]'::jsonb, '/0')$$);
 SELECT told($$SELECT json_patch_inverse('[]'::jsonb, '[{"op":"copy","from":"","path":"/0"}]')$$);
 RESET json_patch.max_depth;

@@ -47,7 +47,7 @@ SELECT count(*) FROM rfc6901, (SELECT expected FROM rfc6901 WHERE pointer = '') 
 SELECT json_patch_value('{"a":null}'::jsonb, '/a'), json_patch_value('{"a":null}'::jsonb, '/b'), json_patch_value('[1, 2 ]'::json, '/1'), json_patch_value('[1]'::json, '/-');
 -- NULL of SQL, and null of JSON
 SELECT json_patch_apply(NULL::jsonb, '[]'), json_patch_apply('{}'::jsonb, NULL), json_patch_inverse('{}'::json, NULL), json_patch_diff(NULL::json, '1'),
-    json_patch_merge('{}'::jsonb, NULL), json_patch_value('{}'::jsonb, NULL), json_patch_check(NULL::jsonb), json_patch_is_valid(NULL::json);
+    json_patch_merge('{}'::jsonb, NULL), json_patch_merge_diff(NULL::jsonb, '1'), json_patch_merge_diff('1'::json, NULL), json_patch_value('{}'::jsonb, NULL), json_patch_check(NULL::jsonb), json_patch_is_valid(NULL::json);
 SELECT json_patch_merge('{"a":1}'::jsonb, 'null'), json_patch_apply('1'::jsonb, '[{"op":"replace","path":"","value":null}]'), json_patch_diff('null'::jsonb, 'null');
 -- of json every byte stays that nothing changes
 SELECT json_patch_apply('{ "price": 1.50, "tags": ["new"],
@@ -57,6 +57,10 @@ SELECT json_patch_apply('{ "b": 1, "a": 2 }'::json, '[{"op":"remove","path":"/a"
 SELECT json_patch_apply('{"price": 1.50, "n": 1}'::jsonb, '[{"op":"test","path":"/price","value":1.5},{"op":"replace","path":"/n","value":2.500}]');
 SELECT json_patch_diff('{"price": 1.50}'::jsonb, '{"price": 1.5}'), json_patch_diff('[18446744073709551616]'::json, '[18446744073709551617]');
 SELECT json_patch_diff('{"price": 1.50, "large": 1e400, "was": [0.1, 7]}'::json, '{"large": 10e399, "price": 1.5, "was": [0.1, 2.50, 7]}');
+-- the merge patch between two documents leads there
+SELECT count(*) FROM rfc7396 WHERE json_patch_merge(document::jsonb, json_patch_merge_diff(document::jsonb, expected::jsonb)) = expected::jsonb
+    AND json_patch_merge(document::json, json_patch_merge_diff(document::json, expected::json))::jsonb = expected::jsonb;
+SELECT json_patch_merge_diff('{"price": 1.50, "old": 1, "a": {"b": null}}'::json, '{"a": {"c": 1e400, "b": null}, "price": 15e-1}'), json_patch_merge_diff('{"a": [1]}'::jsonb, '{"a": [1, null]}');
 -- what an operation displaced comes back with the bytes that it had
 SELECT document, inverse, json_patch_apply(document, inverse) FROM json_patch_record('{ "price": 1.50, "large": 1e400 }'::json, '[{"op":"replace","path":"/price","value":2.00},{"op":"remove","path":"/large"}]');
 SELECT document, inverse, json_patch_apply(document, inverse), json_patch_inverse('{"price": 1.50}'::jsonb, '[]') FROM json_patch_record('{"price": 1.50, "t": [0.10, true]}'::jsonb, '[{"op":"replace","path":"/price","value":2},{"op":"remove","path":"/t"}]');
