@@ -11,6 +11,11 @@ ALL_ROWS = json.loads((C / "cases.json").read_text(encoding="utf-8"))
 # those of merge patches that are made are in test_merge_patches.py
 ROWS = [row for row in ALL_ROWS if row[0] in CALLS]
 OK, REFUSED, IMPOSSIBLE = 0, 1, 11
+# what messages say of these kinds
+SAYS = {
+    "NotJson": "is not JSON", "UnpairedSurrogate": "holds an unpaired surrogate", "TooDeep": "nests too deep", "TooMuch": "leaves too much",
+    "NotWhole": "holds a number that is not whole", "NumberOutOfRange": "holds a number that is out of range",
+}
 # what the package asks a thread to have
 SMALL_STACK = 256 * 1024
 

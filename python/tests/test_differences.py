@@ -7,7 +7,7 @@ import unittest
 from json_patch import (
     Document, InvalidJsonPatch, JsonPatch, JsonPatchException, JsonPointer, Limits, NumberNotWhole, TooDeep, apply_patch, make_patch,
 )
-from support import NO_NUMBERS, NOT_WHOLE, PAST_FLOATS, ROWS, holding_itself, nested, on_another_thread, on_each_stack
+from support import NO_NUMBERS, NOT_WHOLE, PAST_FLOATS, ROWS, SAYS, holding_itself, nested, on_another_thread, on_each_stack
 
 STAYS = "a text that is long enough to stay"
 
@@ -204,7 +204,7 @@ class Differences(unittest.TestCase):
             with self.assertRaises(JsonPatchException) as caught:
                 call()
             self.assertNotIsInstance(caught.exception, InvalidJsonPatch)
-            self.assertEqual((str(caught.exception), caught.exception.kind), (f"document: {kind}", kind))
+            self.assertEqual((str(caught.exception), caught.exception.kind), (f"document {SAYS[kind]}", kind))
             self.assertEqual(isinstance(caught.exception, NumberNotWhole), "Number" in kind or "Whole" in kind)
 
     def test_any_numbers(self):

@@ -12,7 +12,7 @@ from json_patch import (
 )
 from json_patch._library import LIBRARY, NO_MEMORY
 from json_patch.limits import MOST_LEVELS
-from support import holding_itself, nested
+from support import SAYS, holding_itself, nested
 
 COPY = {"op": "copy", "from": "/a", "path": "/b"}
 MOVE, BACK = {"op": "move", "from": "/a", "path": "/b"}, {"op": "move", "from": "/b", "path": "/a"}
@@ -58,7 +58,7 @@ class Within(unittest.TestCase):
             self.assertEqual((error.operation, error.kind, error.path), (operation, kind, patch[operation]["path"]))
             self.assertIsInstance(error, JsonPatchException)
             self.assertNotIsInstance(error, (TooDeep, JsonPatchConflict))
-            self.assertEqual(str(error), f"operation {operation} is over the limits at path {error.path!r}: {kind}")
+            self.assertEqual(str(error), f"operation {operation} at path {error.path!r} is over the limits: it {SAYS[kind]}")
             self.assertEqual(vars(pickle.loads(pickle.dumps(error))), vars(error))
 
     def assertMakes(self, document, patch, limits, wanted, calls=each_call):

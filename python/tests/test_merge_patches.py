@@ -9,7 +9,7 @@ from decimal import Decimal
 from json_patch import (
     InvalidJsonPatch, JsonPatchException, Limits, NoMergePatch, TooDeep, join_merge_patches, make_merge_patch, merge_patch,
 )
-from support import ALL_ROWS, IMPOSSIBLE, NO_NUMBERS, OK, holding_itself, nested, on_each_stack
+from support import ALL_ROWS, IMPOSSIBLE, NO_NUMBERS, OK, SAYS, holding_itself, nested, on_each_stack
 
 CALLS = {"merge_diff": make_merge_patch, "merge_join": join_merge_patches}
 
@@ -190,7 +190,7 @@ class MergePatches(unittest.TestCase):
                 for given in ((value, 1), ({}, [value])):
                     with self.assertRaises(JsonPatchException) as caught:
                         call(*given)
-                    self.assertEqual((str(caught.exception), caught.exception.kind), (f"{told}: {kind}", kind))
+                    self.assertEqual((str(caught.exception), caught.exception.kind), (f"{told} {SAYS[kind]}", kind))
                     self.assertEqual(isinstance(caught.exception, InvalidJsonPatch), told == "patch")
 
     def test_what_the_callers_functions_do(self):
@@ -198,7 +198,7 @@ class MergePatches(unittest.TestCase):
             for call, told in ((make_merge_patch, "document"), (join_merge_patches, "patch")):
                 with self.assertRaises(JsonPatchException) as caught:
                     call({}, {}, dumps=lambda value: text)
-                self.assertEqual(str(caught.exception), f"{told}: {kind}")
+                self.assertEqual(str(caught.exception), f"{told} {SAYS[kind]}")
 
         def fails(_):
             raise KeyError("of the caller")

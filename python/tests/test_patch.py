@@ -10,7 +10,7 @@ from json_patch import (
     JsonPointerException, Limits, NumberNotWhole, apply_patch, apply_text, make_patch, merge_patch, merge_text, record_patch,
     resolve_pointer, resolve_text,
 )
-from support import NO_NUMBERS, NOT_WHOLE, PAST_FLOATS, nested, on_each_stack
+from support import NO_NUMBERS, NOT_WHOLE, PAST_FLOATS, SAYS, nested, on_each_stack
 
 
 class Patches(unittest.TestCase):
@@ -81,7 +81,7 @@ class Patches(unittest.TestCase):
             with self.assertRaises(JsonPatchException) as caught:
                 call()
             self.assertNotIsInstance(caught.exception, InvalidJsonPatch)
-            self.assertEqual((str(caught.exception), caught.exception.kind), (f"document: {kind}", kind))
+            self.assertEqual((str(caught.exception), caught.exception.kind), (f"document {SAYS[kind]}", kind))
         document = {}
         for call in (
             lambda: apply_patch({}, patch), lambda: apply_patch(document, patch, in_place=True), lambda: record_patch({}, patch),
@@ -89,7 +89,7 @@ class Patches(unittest.TestCase):
         ):
             with self.assertRaises(InvalidJsonPatch) as caught:
                 call()
-            self.assertEqual((str(caught.exception), caught.exception.kind), (f"patch: {kind}", kind))
+            self.assertEqual((str(caught.exception), caught.exception.kind), (f"patch {SAYS[kind]}", kind))
             self.assertIsInstance(caught.exception, ValueError)
         self.assertEqual(document, {})
 
@@ -286,7 +286,7 @@ class Callers(unittest.TestCase):
         for text, kind in (("nan", "NotJson"), ('"\ud800"', "NotJson"), ('"\\ud800"', "UnpairedSurrogate"), ("[" * 200, "TooDeep")):
             with self.assertRaises(JsonPatchException) as caught:
                 apply_patch({}, "[]", dumps=lambda value: text)
-            self.assertEqual((str(caught.exception), caught.exception.kind), (f"document: {kind}", kind))
+            self.assertEqual((str(caught.exception), caught.exception.kind), (f"document {SAYS[kind]}", kind))
 
         def fails(_):
             raise KeyError("of the caller")

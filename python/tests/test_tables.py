@@ -43,6 +43,7 @@ class Tables(unittest.TestCase):
                     with self.assertRaises(JsonPatchException) as caught:
                         (self.kept if name in KEPT_KINDS else self.made)(call, document, patch)
                     self.assertEqual(caught.exception.kind, name)
+                    self.assertTrue(str(caught.exception).endswith(f" {_library.kind_text(kind)}"), caught.exception)
                     self.assertEqual(caught.exception.operation, None if name == "NotAList" else operation)
                     self.assertEqual(caught.exception.path, path if status == REFUSED else None)
 

@@ -17,7 +17,7 @@ path:
 ...     apply_patch({"a": 1}, [{"op": "test", "path": "/a", "value": 1}, {"op": "remove", "path": "/b"}])
 ... except JsonPatchConflict as error:
 ...     print(error, error.operation, error.kind, error.path)
-operation 1 failed at path '/b': InvalidPointer 1 InvalidPointer /b
+operation 1 failed at path '/b': path is invalid 1 InvalidPointer /b
 
 A patch that is recorded returns the patch that leads back:
 
@@ -53,7 +53,7 @@ keeps to Limits, those of `limits` or Limits(). OverLimit tells which operation 
 ...     apply_patch([], [{"op": "copy", "from": "", "path": "/-"}] * 9, limits=Limits(bytes=100))
 ... except OverLimit as error:
 ...     print(error)
-operation 7 is over the limits at path '/-': TooMuch
+operation 7 at path '/-' is over the limits: it leaves too much
 
 A document is what json.dumps writes of an object, and what comes back is what json.loads reads: new lists and
 dicts, the members in their order, a key 1 as "1". `dumps` and `loads` name other functions, as for Decimals. Numbers

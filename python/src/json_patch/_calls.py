@@ -5,6 +5,7 @@ import ctypes
 
 from ._library import (
     CLOSED, IMPOSSIBLE, LIBRARY, NO_DOCUMENT, NO_MEMORY, NO_PATCH, NO_POINTER, NO_ROOM, NOTHING, OK, OVER, REFUSED, Report, bounds,
+    kind_text,
 )
 from .errors import (
     KINDS, NOT_A_LIST, JsonPatchException, JsonPointerException, NoMergePatch, NumberNotWhole, OverLimit, TooDeep, _LeadsNowhere,
@@ -21,9 +22,12 @@ if TYPE_CHECKING:
 _SPARE = 64
 
 
-def _of_document(kind: str, error: type) -> Exception:
-    made = next((named for named in (NumberNotWhole, TooDeep) if issubclass(error, named)), JsonPatchException)
-    return made(f"document: {kind}", kind=kind)
+def of_text(told: str, kind: int) -> Exception:
+    """The exception where a text is no patch, or is told of as another, for this kind."""
+    name, error = KINDS[kind]
+    if told != "patch":
+        error = next((named for named in (NumberNotWhole, TooDeep) if issubclass(error, named)), JsonPatchException)
+    return error(f"{told} {kind_text(kind)}", kind=name)
 
 
 def operation_of(patch: bytes, number: int) -> Dict[str, Any]:
@@ -34,12 +38,12 @@ def operation_of(patch: bytes, number: int) -> Dict[str, Any]:
     return operation
 
 
-def _over(operation: int, kind: str, patch: bytes) -> Exception:
+def _over(report: Report, kind: str, patch: bytes) -> Exception:
+    told = f"is over the limits: it {kind_text(report.kind)}"
     if not patch:
-        return OverLimit(f"the merge is over the limits: {kind}", kind=kind)
-    path = operation_of(patch, operation)["path"]
-    told = f"operation {operation} is over the limits at path {path!r}: {kind}"
-    return OverLimit(told, operation=operation, kind=kind, path=path)
+        return OverLimit(f"the merge {told}", kind=kind)
+    number, path = report.operation, operation_of(patch, report.operation)["path"]
+    return OverLimit(f"operation {number} at path {path!r} {told}", operation=number, kind=kind, path=path)
 
 
 def fault(status: int, report: Report, path: Optional[str] = None, patch: bytes = b"") -> Exception:
@@ -51,19 +55,20 @@ def fault(status: int, report: Report, path: Optional[str] = None, patch: bytes 
         return ValueError("the document is closed")
     if status == IMPOSSIBLE:
         return NoMergePatch("no merge patch does this", kind="Impossible")
-    kind, error = KINDS[report.kind]
     if status == NO_DOCUMENT:
-        return _of_document(kind, error)
+        return of_text("document", report.kind)
+    kind, error = KINDS[report.kind]
     if status == OVER:
-        return _over(report.operation, kind, patch)
+        return _over(report, kind, patch)
     if status == REFUSED:
         if error is _LeadsNowhere and operation_of(patch, report.operation)["op"] == "test":
             error = _TestsNothing
-        told = f"operation {report.operation} failed at path {path!r}: {kind}"
+        told = f"operation {report.operation} failed at path {path!r}: {kind_text(report.kind)}"
         return error(told, operation=report.operation, kind=kind, path=path)
     if report.kind <= NOT_A_LIST:
-        return error(f"patch: {kind}", kind=kind)
-    return error(f"patch: operation {report.operation}: {kind}", operation=report.operation, kind=kind)
+        return of_text("patch", report.kind)
+    told = f"patch: operation {report.operation}: {kind_text(report.kind)}"
+    return error(told, operation=report.operation, kind=kind)
 
 
 def called(call: Callable[..., int], document: bytes, patch: bytes, limits: Limits) -> bytes:

@@ -104,7 +104,14 @@ def _declared(library: ctypes.CDLL) -> ctypes.CDLL:
         call.argtypes = [*arguments, ctypes.POINTER(Report)]
         call.restype = ctypes.c_uint8
     library.json_patch_close.argtypes, library.json_patch_close.restype = _HANDLE, None
+    library.json_patch_kind_text.argtypes, library.json_patch_kind_text.restype = [ctypes.c_uint8], ctypes.c_char_p
     return library
 
 
 LIBRARY = _declared(_loaded())
+
+
+def kind_text(kind: int) -> str:
+    """What a kind says, such as "path is invalid"."""
+    text: bytes = LIBRARY.json_patch_kind_text(kind)
+    return text.decode()

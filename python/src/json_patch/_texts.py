@@ -1,13 +1,14 @@
 """From objects to the texts that the library reads, and back."""
 from __future__ import annotations
 
+from ._calls import of_text
 from ._depth import is_deep
-from .errors import JsonPatchException, NumberNotWhole, TooDeep, _InvalidNumber, _NoPatchText, _PatchTooDeep
+from .errors import NOT_JSON, OUT_OF_RANGE, TOO_DEEP
 from .pointer import JsonPointer
 
 TYPE_CHECKING = False
 if TYPE_CHECKING:
-    from typing import Any, Callable, Optional, Type, TypeVar, Union
+    from typing import Any, Callable, Optional, TypeVar, Union
 
     # of the caller: what writes an object as a JSON text, and what reads one
     Dumps = Callable[[Any], Union[str, bytes]]
@@ -34,7 +35,7 @@ def _number_or_path(value: object) -> Union[int, str]:
     return 0 if is_decimal(value) else pointer_path(value)
 
 
-def _text(value: object, told: str, is_patch: bool, default: Callable[[Any], object] = pointer_path) -> bytes:
+def _text(value: object, told: str, default: Callable[[Any], object] = pointer_path) -> bytes:
     """The text of an object, of which this is told where it holds nan, infinity or a number of some thousand
     digits, for which json.dumps has no text. How deep it nests is seen before: json.dumps goes by recursion,
     for which a thread's stack may be too small."""
@@ -43,26 +44,19 @@ def _text(value: object, told: str, is_patch: bool, default: Callable[[Any], obj
     try:
         return json.dumps(value, separators=(",", ":"), allow_nan=False, default=default).encode()
     except ValueError as error:
-        if str(error).startswith("Out of range float"):
-            no_json: Type[JsonPatchException] = _NoPatchText if is_patch else JsonPatchException
-            raise no_json(f"{told}: NotJson", kind="NotJson") from error
-        raise _out_of_range(told, is_patch) from error
-
-
-def _out_of_range(told: str, is_patch: bool) -> NumberNotWhole:
-    return (_InvalidNumber if is_patch else NumberNotWhole)(f"{told}: NumberOutOfRange", kind="NumberOutOfRange")
+        raise of_text(told, NOT_JSON if str(error).startswith("Out of range float") else OUT_OF_RANGE) from error
 
 
 def document_text(document: object, dumps: Optional[Dumps] = None) -> bytes:
     if is_deep(document):
-        raise TooDeep("document: TooDeep", kind="TooDeep")
-    return as_bytes(dumps(document)) if dumps else _text(document, "document", is_patch=False)
+        raise of_text("document", TOO_DEEP)
+    return as_bytes(dumps(document)) if dumps else _text(document, "document")
 
 
 def patch_text(patch: object, dumps: Optional[Dumps] = None) -> bytes:
     """The text of a patch or a merge patch that is an object."""
     expect_patch_depth(patch)
-    return as_bytes(dumps(patch)) if dumps else _text(patch, "patch", is_patch=True)
+    return as_bytes(dumps(patch)) if dumps else _text(patch, "patch")
 
 
 def text_of(patch: object, dumps: Optional[Dumps] = None) -> bytes:
@@ -73,12 +67,12 @@ def text_of(patch: object, dumps: Optional[Dumps] = None) -> bytes:
 def text_to_check(patch: object) -> bytes:
     """A text that is a patch exactly where that of an object is, whatever writes its Decimals."""
     expect_patch_depth(patch)
-    return _text(patch, "patch", is_patch=True, default=_number_or_path)
+    return _text(patch, "patch", default=_number_or_path)
 
 
 def expect_patch_depth(patch: object) -> None:
     if is_deep(patch):
-        raise _PatchTooDeep("patch: TooDeep", kind="TooDeep")
+        raise of_text("patch", TOO_DEEP)
 
 
 def by_callers_code(call: Callable[[Any], _Read], patch: Any) -> _Read:
@@ -86,7 +80,7 @@ def by_callers_code(call: Callable[[Any], _Read], patch: Any) -> _Read:
     try:
         return call(patch)
     except RecursionError as error:
-        raise _PatchTooDeep("patch: TooDeep", kind="TooDeep") from error
+        raise of_text("patch", TOO_DEEP) from error
 
 
 def as_bytes(text: Union[str, bytes]) -> bytes:
@@ -104,7 +98,7 @@ def value_of(text: bytes, loads: Optional[Loads] = None, told: str = "result") -
     try:
         return json.loads(text)
     except ValueError as error:
-        raise _out_of_range(told, is_patch=told == "patch") from error
+        raise of_text(told, OUT_OF_RANGE) from error
 
 
 def exact(value: Any) -> Any:

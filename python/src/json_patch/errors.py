@@ -126,5 +126,7 @@ KINDS: Dict[int, Tuple[str, Type[_Told]]] = {
 }
 # the kinds of an operation that isn't made
 TEST_FAILED, NO_SOURCE, NOWHERE, INSIDE_ITSELF, TOO_DEEP, TOO_MUCH = range(3, 9)
+# those of a text that Python tells of without the library
+NOT_JSON, OUT_OF_RANGE = 1, 10
 # up to this kind a patch is at fault as a whole, and after it by one of its operations
 NOT_A_LIST = 11

@@ -34,7 +34,7 @@ class JsonPatch:
     >>> JsonPatch([{"op": "add", "path": "a"}])
     Traceback (most recent call last):
         ...
-    json_patch.errors._InvalidPointer: patch: operation 0: BadPath
+    json_patch.errors._InvalidPointer: patch: operation 0: member "path" is not a pointer
     """
 
     def __init__(self, patch: Union[JsonPatch, Sequence[Operation]]) -> None:
