@@ -145,9 +145,9 @@ pub fn patch_text(alloc: Global, text: &str, patch: &str) -> Result<String, Patc
 /// they put in is exchanged or removed again.
 ///
 /// The first operation that would leave another text, or with which more is copied, is `Over`, with its
-/// number: `TooDeep` where that text nests deeper, and else `TooMuch`. An operation that is refused leaves no text, and is never
-/// over. Where `text` itself nests deeper than `limits.depth`, it is refused as a document that is too
-/// deep.
+/// number: `TooDeep` where that text nests deeper, and else `TooMuch`. An operation that is refused leaves
+/// no text, and is never over. Where `text` itself nests deeper than `limits.depth`, it is refused as a
+/// document that is too deep.
 ///
 /// ```rust
 /// let text = r#"{"a": [1, 2]}"#;
