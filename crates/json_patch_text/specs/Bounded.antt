@@ -51,7 +51,7 @@ abbrev pub StepOverBy : Option Bounds → List ℕ → Log → LimitKind → Typ
 StepOverBy None text log kind = ⊥
 StepOverBy (Some b) text log kind = IsStepOver b text log kind
 
--- the operations make new of the text, within the limits if there are any, and then copy n bytes
+-- the operations make new of the text; if there are limits, within them, and n bytes are copied in all
 abbrev pub AreMadeUnder : Option Bounds → List ℕ → List TextOperation → List ℕ → ℕ → Type 0
 AreMadeUnder None text os new n = AreMadeIn text os new
 AreMadeUnder (Some b) text os new n = AreMadeWithin b.limits (most_of b) text os new n
