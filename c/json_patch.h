@@ -76,8 +76,8 @@ enum {
                                 nests more than 127 arrays and objects in one another; an operation
                                 would put a value deeper than the limit */
     /* of JSON_PATCH_OVER */
-    JSON_PATCH_TOO_MUCH = 8, /* an operation or a merge would leave too many bytes; in a document that is
-                                kept the patch would copy too much, with what it copied before */
+    JSON_PATCH_TOO_MUCH = 8, /* an operation or a merge would leave too many bytes, or the patch would copy too
+                                much, with what it copied before */
     /* of JSON_PATCH_REFUSED */
     JSON_PATCH_TEST_FAILED = 3,
     JSON_PATCH_INVALID_FROM_POINTER = 4,
@@ -139,7 +139,8 @@ typedef struct {
  * `size` is that of the struct, so that a later version can have more limits: JSON_PATCH_BAD_LIMITS where
  * it isn't known. In each text that a call leaves at most `depth` arrays and objects are open at once; more
  * than JSON_PATCH_MOST_LEVELS counts as that. What a call makes of texts has at most as many bytes as these
- * and `bytes` together: the new text, after each operation and after a merge, and the inverse. The first
+ * and `bytes` together: the new text, after each operation and after a merge, and the inverse. Nor do all
+ * copies of a patch together copy more, also where what they put in is exchanged or removed again. The first
  * operation with which this isn't so is over: JSON_PATCH_OVER, and nothing is changed. One that is refused
  * leaves no text, and is not over.
  *

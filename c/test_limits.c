@@ -490,6 +490,18 @@ static void expect_copies_in_text(size_t bytes, size_t copies, const json_patch_
     free(patch.bytes);
 }
 
+/* Copies over one member of a text, which stays short: what they copy counts together. */
+static void expect_copies_over(size_t bytes, size_t copies, const json_patch_limits *limits) {
+    static const char copy[] = "{\"op\":\"copy\",\"from\":\"/a\",\"path\":\"/b\"}";
+    text document = of_bytes("{\"a\":", bytes, "}"), patch = by_turns(copies, copy, copy);
+    size_t most = (document.length + patch.length + limits->bytes) / (bytes + 2);
+    int fits = copies <= most;
+    expect_applied(&document, &patch, limits, fits ? JSON_PATCH_OK : JSON_PATCH_OVER, fits ? 0 : most,
+                   fits ? JSON_PATCH_KIND_NONE : JSON_PATCH_TOO_MUCH, "copies over a member of a text");
+    free(document.bytes);
+    free(patch.bytes);
+}
+
 /* Copies of a list into itself, each of which doubles it, with a comma between: too much long before
    it is too deep. */
 static void expect_growth(size_t bytes, size_t copies, const json_patch_limits *limits) {
@@ -688,6 +700,10 @@ static void *made(void *unused) {
     expect_copies_in_text(1036, 1, &small);
     expect_copies_in_text(1037, 1, &small);
     expect_copies_in_text(1000, 250, &larger);
+    /* six copies have as many bytes as a text may have, or five more */
+    expect_copies_over(245, 6, &small);
+    expect_copies_over(246, 6, &small);
+    expect_copies_over(50000, 1400, &usual);
     expect_moves_back(9, 100, &small);
     expect_moves_back(9, 101, &small);
     expect_moves_back(1000, 500, &usual);

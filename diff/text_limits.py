@@ -5,8 +5,8 @@
 
 c/build has to have built the library, which is called in this process. Texts and patches are those of
 diff/texts.py, with more copies and moves, and the model is that of the bytes (`texts_model`): after each
-operation it counts how deep the new text nests, and how many bytes it has and the inverse. The limits of a case
-lie about where one of its operations would be over, mostly. The answer has to be the model's, byte by byte, or
+operation it counts how deep the new text nests, and how many bytes it has, the inverse, and all that was copied.
+The limits of a case lie about where one of its operations would be over, mostly. The answer has to be the model's, byte by byte, or
 name the operation that is refused or over, and why; and an inverse has to lead back to a text that says the same.
 A merge of another text into each, which diff/merges.py makes without limits, has to come to the same within
 them, or to be over where it is longer. The run fails where an answer is another, and where a kind of answer
@@ -18,9 +18,9 @@ from collections import Counter
 import library
 from library import MOST_BYTES, MOST_LEVELS, TOO_DEEP, TOO_MUCH
 from texts import Texts
-from texts_model import Refused, plain, read, recorded, step
+from texts_model import Refused, at_tokens, plain, read, recorded, step, stretch, tokens_of
 
-KINDS = ("ok", "refused", f"over: {TOO_DEEP}", f"over: {TOO_MUCH}", "over where recorded", "document", "merge: ok", "merge: over",
+KINDS = ("ok", "refused", f"over: {TOO_DEEP}", f"over: {TOO_MUCH}", "over by copies", "over where recorded", "document", "merge: ok", "merge: over",
          "merge: document", "merge: patch")
 LARGE = 5_000
 
@@ -34,6 +34,22 @@ def levels(node):
 
 def size(text):
     return len(text.encode())
+
+
+def copied_by(text, operation):
+    """How many bytes of the text an accepted operation copies."""
+    if operation["op"] != "copy":
+        return 0
+    return size(stretch(text, at_tokens(read(text), tokens_of(operation["from"]))))
+
+
+def states(text, operations):
+    """After each operation, up to the one that is refused: the text, the inverse and how many bytes were copied."""
+    now, copied = text, 0
+    for number, (operation, put) in enumerate(operations):
+        before, now = now, step(now, operation, put)
+        copied += copied_by(before, operation)
+        yield now, recorded(text, operations[: number + 1])[0][1], copied
 
 
 class LimitedTexts(Texts):
@@ -58,20 +74,27 @@ class LimitedTexts(Texts):
                     made.pop()
         return made
 
+    def copies(self):
+        """A text with a long member, and operations that copy it, mostly over another."""
+        long = '"' + "x" * self.random.randrange(50, 400) + '"'
+        text = self.row("{}", ['"a":' + self.value(2), '"b":' + long])
+        count = self.random.randrange(2, 8)
+        return text, [({"op": "copy", "path": self.random.choice(("/a", "/a", "/c")), "from": "/b"}, None) for _ in range(count)]
+
     def next(self):
-        text = self.text(4)
-        operations = self.operations(text)
+        if self.random.random() < 0.2:
+            text, operations = self.copies()
+        else:
+            text = self.text(4)
+            operations = self.operations(text)
         patch = self.written(operations)
         spare, deep = [0], [levels(read(text))]
-        now = text
-        for operation, put in operations:
-            try:
-                now = step(now, operation, put)
-            except Refused:
-                break
-            back = recorded(text, operations[: len(deep)])[0][1]
-            spare += [max(0, size(made) - size(text) - size(patch)) for made in (now, back)]
-            deep.append(levels(read(now)))
+        try:
+            for now, back, copied in states(text, operations):
+                spare += [max(0, bytes - size(text) - size(patch)) for bytes in (size(now), size(back), copied)]
+                deep.append(levels(read(now)))
+        except Refused:
+            pass
         return text, operations, patch, self.about(deep, MOST_LEVELS), self.about(spare, MOST_BYTES)
 
     def about(self, counts, most):
@@ -81,21 +104,21 @@ class LimitedTexts(Texts):
         return min(most, max(0, self.random.choice((self.random.choice(counts), max(counts))) + self.random.choice((-1, -1, 0, 1))))
 
 
-def expected(name, text, operations, patch, depth, spare):
+def expected(came, name, text, operations, patch, depth, spare):
     if levels(read(text)) > depth:
         return ("document", TOO_DEEP)
-    most, now = size(text) + size(patch) + spare, text
-    for number, (operation, put) in enumerate(operations):
-        try:
-            now = step(now, operation, put)
-        except Refused as refused:
-            return ("refused", number, operation["path"], str(refused))
-        if levels(read(now)) > depth:
-            return ("over", number, TOO_DEEP)
-        made = recorded(text, operations[: number + 1])[0][: 1 + (name == "record")]
-        if any(size(it) > most for it in made):
-            return ("over", number, TOO_MUCH)
-    return ("ok", *recorded(text, operations)[0][: 1 + (name == "record")])
+    most, made, number = size(text) + size(patch) + spare, (text, "[]"), -1
+    try:
+        for number, (*made, copied) in enumerate(states(text, operations)):
+            if levels(read(made[0])) > depth:
+                return ("over", number, TOO_DEEP)
+            largest = max(map(size, made[: 1 + (name == "record")]))
+            if max(largest, copied) > most:
+                came["over by copies"] += largest <= most
+                return ("over", number, TOO_MUCH)
+    except Refused as refused:
+        return ("refused", number + 1, operations[number + 1][0]["path"], str(refused))
+    return ("ok", *made[: 1 + (name == "record")])
 
 
 def merged(texts, text, depth):
@@ -125,7 +148,7 @@ def main():
     texts, came, wrong = LimitedTexts(asked.seed), Counter(), []
     for _ in range(asked.cases):
         text, operations, patch, *limits = texts.next()
-        cases = {name: (patch, limits, expected(name, text, operations, patch, *limits)) for name in ("apply", "record")}
+        cases = {name: (patch, limits, expected(came, name, text, operations, patch, *limits)) for name in ("apply", "record")}
         cases["merge"] = merged(texts, text, limits[0])
         answers = [right for *_, right in cases.values()]
         came.update(f"over: {it[2]}" if it[0] == "over" else it[0] for it in answers[:2])

@@ -1,5 +1,5 @@
 -- Laws of limits: what an operation makes says one tree, so it nests one way; and one that is over isn't refused.
-use Rattle.std.proofs.Common.{◌≡◌, ◌<◌, ◌≤◌, ◌⊎◌, inl, inr, ⊎_elim, ℕ, zero, suc, List, [], ◌∷◌, length, take, Some, refl, sym, ap, ◌∙◌, subst, arith}
+use Rattle.std.proofs.Common.{◌≡◌, ◌<◌, ◌≤◌, ◌+◌, ◌⊎◌, inl, inr, ⊎_elim, ℕ, zero, suc, List, [], ◌∷◌, length, take, Some, refl, sym, ap, ◌∙◌, subst, arith}
 use Rattle.std.specs.Prelude.{slice_get}
 use Rattle.std.proofs.lemmas.Bool.{cases_lt}
 use Rattle.std.proofs.lemmas.Option.{none-some, same_Some}
@@ -14,7 +14,7 @@ use Rattle.json_patch_operation.specs.declared.error.PatchErrorKind.{PatchErrorK
 use Rattle.json_patch_text.specs.Made.{AreMadeIn, IsMadeIn}
 use Rattle.json_patch_text.specs.Operations.{TreeOperation, all_under}
 use Rattle.json_patch_text.specs.Run.{RefusesTextAt}
-use Rattle.json_patch_text.specs.Within.{AreMadeWithin, IsTextOver, IsTextOverAt, IsTextWithin}
+use Rattle.json_patch_text.specs.Within.{AreMadeCopying, AreMadeWithin, IsTextOver, IsTextOverAt, IsTextWithin}
 use Rattle.json_patch_text.specs.declared.operation.TextOperation.{TextOperation}
 use Rattle.json_patch_text.specs.declared.operation.TextOperation.TheVariants.{Add, Remove, Replace, Move, Copy, Test}
 use Rattle.json_patch_text.proofs.Agree.{removed_tree}
@@ -83,31 +83,33 @@ made_at text left new (x ∷ os) zero o at h s = (new, subst (λ y. IsMadeIn tex
 made_at text left new (x ∷ os) (suc k) o at (next, m, rest) s = (next, m, made_at next left new os k o at rest s)
 
 -- of what is made within the limits, the first k operations are
-front_within : (l : Limits) (most : ℕ) (text new : List ℕ) (os : List TextOperation) (n k : ℕ) → k ≤ n → AreMadeWithin l most text (take n os) new → (left : List ℕ) × AreMadeWithin l most text (take k os) left
-front_within l most text new [] zero zero e h = (new, h)
-front_within l most text new [] (suc n) zero e h = (text, (h.0, refl))
-front_within l most text new [] (suc n) (suc k) e h = (new, h)
-front_within l most text new [] zero (suc k) e h = absurd (omega arith)
-front_within l most text new (o ∷ os) zero zero e h = (new, h)
-front_within l most text new (o ∷ os) (suc n) zero e h = (text, (h.0, refl))
-front_within l most text new (o ∷ os) (suc n) (suc k) e (w, (next, m, rest)) = let (left, made) = front_within l most next new os n k (omega arith) rest in (left, (w, (next, m, made)))
-front_within l most text new (o ∷ os) zero (suc k) e h = absurd (omega arith)
+front_within : (l : Limits) (most : ℕ) (text new : List ℕ) (os : List TextOperation) (n k m : ℕ) → k ≤ n → AreMadeCopying l most text (take n os) new m → (left : List ℕ) × (fewer : ℕ) × AreMadeCopying l most text (take k os) left fewer
+front_within l most text new [] zero zero m e h = (new, m, h)
+front_within l most text new [] (suc n) zero m e h = (text, 0, (h.0, refl, refl))
+front_within l most text new [] (suc n) (suc k) m e h = (new, m, h)
+front_within l most text new [] zero (suc k) m e h = absurd (omega arith)
+front_within l most text new (o ∷ os) zero zero m e h = (new, m, h)
+front_within l most text new (o ∷ os) (suc n) zero m e h = (text, 0, (h.0, refl, refl))
+front_within l most text new (o ∷ os) (suc n) (suc k) m e (w, (next, a, rest, made, copied, further, sum)) =
+    let (left, fewer, front) = front_within l most next new os n k rest (omega arith) further in
+    (left, a + fewer, (w, (next, a, fewer, made, copied, front, refl)))
+front_within l most text new (o ∷ os) zero (suc k) m e h = absurd (omega arith)
 
 -- after an operation that leaves too deep a text nothing is made within
-not_after : (l : Limits) (most : ℕ) (text left : List ℕ) (os : List TextOperation) (ops : List TreeOperation) (k n : ℕ) → IsTextOverAt l most text os ops k limit.TooDeep → AreMadeWithin l most text (take n os) left → suc k ≤ n → ⊥
-not_after l most text left os ops k n h made less =
+not_after : (l : Limits) (most : ℕ) (text left : List ℕ) (os : List TextOperation) (ops : List TreeOperation) (k m n : ℕ) → IsTextOverAt l most text os ops k limit.TooDeep → AreMadeWithin l most text (take n os) left m → suc k ≤ n → ⊥
+not_after l most text left os ops k m n h made less =
     let (i, j, said, after, accepts) = h.accepted in
-    let (o, at, step) = h.made in
-    let (x, to_x) = front_within l most text left os n (suc k) less made in
-    let here = made_at text h.left h.new os k o at (within_made l most text (take k os) h.left h.before) step in
-    let (b, x_says, new_says) = all_made (take (suc k) os) text text x h.new (i, said, said) (within_made l most text (take (suc k) os) x to_x) here in
+    let (o, at, step, copied) = h.made in
+    let (x, fewer, to_x) = front_within l most text left os n (suc k) m less made.0 in
+    let here = made_at text h.left h.new os k o at (within_made l most text (take k os) h.left h.n h.before.0) step in
+    let (b, x_says, new_says) = all_made (take (suc k) os) text text x h.new (i, said, said) (within_made l most text (take (suc k) os) x fewer to_x) here in
     let e : nesting x ≡ nesting h.new = nests x b x_says ∙ sym (nests h.new b new_says) in
-    let shallow : nesting x ≤ l.depth = (last_within l most text (take (suc k) os) x to_x).0 in
+    let shallow : nesting x ≤ l.depth = (last_within l most text (take (suc k) os) x fewer to_x).0 in
     let deep : l.depth < nesting h.new = h.over in
     absurd (omega arith)
 
-pub deep_last : (l : Limits) (most : ℕ) (text left : List ℕ) (os : List TextOperation) (ops : List TreeOperation) (k n : ℕ) → IsTextOverAt l most text os ops k limit.TooDeep → AreMadeWithin l most text (take n os) left → n ≤ k
-deep_last l most text left os ops k n h made = ⊎_elim (λ more. absurd (not_after l most text left os ops k n h made (omega arith))) (λ less. less) (cases_lt k n)
+pub deep_last : (l : Limits) (most : ℕ) (text left : List ℕ) (os : List TextOperation) (ops : List TreeOperation) (k m n : ℕ) → IsTextOverAt l most text os ops k limit.TooDeep → AreMadeWithin l most text (take n os) left m → n ≤ k
+deep_last l most text left os ops k m n h made = ⊎_elim (λ more. absurd (not_after l most text left os ops k m n h made (omega arith))) (λ less. less) (cases_lt k n)
 
 -- ---- not refused
 
@@ -128,16 +130,18 @@ over_accepted l most text os ops k n kind other h r = ⊎_elim (λ more. more) (
 
 -- ---- within, or over in one way
 
-pub within_or_over : (l : Limits) (most : ℕ) (text : List ℕ) → IsTextWithin l most text ⊎ ((kind : LimitKind) × IsTextOver l most text kind)
-within_or_over l most text =
-    ⊎_elim (λ deep. inr (limit.TooDeep, deep)) (λ shallow. ⊎_elim (λ long. inr (limit.TooMuch, (shallow, long))) (λ short. inl (shallow, short)) (cases_lt most (length text))) (cases_lt l.depth (nesting text))
+pub within_or_over : (l : Limits) (most n : ℕ) (text : List ℕ) → (IsTextWithin l most text × (n ≤ most)) ⊎ ((kind : LimitKind) × IsTextOver l most text n kind)
+within_or_over l most n text =
+    ⊎_elim (λ deep. inr (limit.TooDeep, deep)) (λ shallow. ⊎_elim (λ long. inr (limit.TooMuch, (shallow, inl long))) (λ short. ⊎_elim (λ many. inr (limit.TooMuch, (shallow, inr many))) (λ few. inl ((shallow, short), few)) (cases_lt most n)) (cases_lt most (length text)))
+    (cases_lt l.depth (nesting text))
 
-pub over_alone : (l : Limits) (most : ℕ) (text : List ℕ) (kind : LimitKind) → IsTextOver l most text kind → IsTextWithin l most text → ⊥
-over_alone l most text limit.TooDeep h w = let deep : l.depth < nesting text = h in let shallow = w.0 in absurd (omega arith)
-over_alone l most text limit.TooMuch h w = let long = h.1 in let short = w.1 in absurd (omega arith)
+pub over_alone : (l : Limits) (most n : ℕ) (text : List ℕ) (kind : LimitKind) → IsTextOver l most text n kind → IsTextWithin l most text → n ≤ most → ⊥
+over_alone l most n text limit.TooDeep h w few = let deep : l.depth < nesting text = h in let shallow = w.0 in absurd (omega arith)
+over_alone l most n text limit.TooMuch (low, inl long) w few = let short = w.1 in absurd (omega arith)
+over_alone l most n text limit.TooMuch (low, inr many) w few = absurd (omega arith)
 
-pub one_kind : (l : Limits) (most : ℕ) (text : List ℕ) (kind other : LimitKind) → IsTextOver l most text kind → IsTextOver l most text other → other ≡ kind
-one_kind l most text limit.TooDeep limit.TooDeep h w = refl
-one_kind l most text limit.TooMuch limit.TooMuch h w = refl
-one_kind l most text limit.TooDeep limit.TooMuch h w = let deep : l.depth < nesting text = h in let shallow = w.0 in absurd (omega arith)
-one_kind l most text limit.TooMuch limit.TooDeep h w = let deep : l.depth < nesting text = w in let shallow = h.0 in absurd (omega arith)
+pub one_kind : (l : Limits) (most n : ℕ) (text : List ℕ) (kind other : LimitKind) → IsTextOver l most text n kind → IsTextOver l most text n other → other ≡ kind
+one_kind l most n text limit.TooDeep limit.TooDeep h w = refl
+one_kind l most n text limit.TooMuch limit.TooMuch h w = refl
+one_kind l most n text limit.TooDeep limit.TooMuch h w = let deep : l.depth < nesting text = h in let shallow = w.0 in absurd (omega arith)
+one_kind l most n text limit.TooMuch limit.TooDeep h w = let deep : l.depth < nesting text = w in let shallow = h.0 in absurd (omega arith)

@@ -74,8 +74,8 @@ over_by_size n text patch keeps l e le (os, ops, says, written, in_patch, over) 
     by : (kind : LimitKind) → e.kind ≡ kind → IsTextOverAt l (most_bytes l text patch) text os ops e.operation kind → e.kind ≡ limit.TooMuch
     by limit.TooMuch is over = is
     by limit.TooDeep is over =
-        let (o, at, step) = over.made in
-        let made = made_at text over.left over.new os e.operation o at (within_made l (most_bytes l text patch) text (take e.operation os) over.left over.before) step in
+        let (o, at, step, copied) = over.made in
+        let made = made_at text over.left over.new os e.operation o at (within_made l (most_bytes l text patch) text (take e.operation os) over.left over.n over.before.0) step in
         let low : nesting over.new ≤ n = keeps os (suc e.operation) over.new (ops, says, written, in_patch) made in
         let deep : l.depth < nesting over.new = over.over in
         absurd (omega (arith, low, deep, le))

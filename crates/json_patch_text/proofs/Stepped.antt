@@ -1,12 +1,14 @@
 -- What a step leaves, from what the call for its operation does.
-use Rattle.std.proofs.Common.{◌≡◌, ℕ, List, [], ◌∷◌, Bool, true, false, Result, Ok, Err, IfOk, IfErr, Bor, ◌∙◌, sym, subst}
+use Rattle.std.proofs.Common.{◌≡◌, ℕ, List, [], ◌∷◌, Bool, true, false, Result, Ok, Err, IfOk, IfErr, Bor, ◌∙◌, sym, subst, arith}
 use Rattle.json.specs.Json.{Json}
 use Rattle.jsonptr.specs.Text.{Pointer}
-use Rattle.json_patch_text.specs.Made.{IsLeft, IsNotMade, IsStepped, IsStopped}
+use Rattle.json_patch_text.specs.Logs.{Counts}
+use Rattle.json_patch_text.specs.Made.{Copies, HasBytesAt, IsLeft, IsNotMade, IsStepped, IsStopped}
 use Rattle.json_patch_text.specs.Operations.{TreeOperation, add, remove, replace, move, copy, test}
 use Rattle.json_patch_text.specs.Step.{ComesTo}
 use Rattle.json_patch_text.specs.TextOperations.{IsWrittenAs}
 use Rattle.json_patch_text.specs.Undos.{IsMovedBack, IsTakenFrom, PutsBack, TakesBack}
+use Rattle.json_patch_text.specs.declared.log.Log.{Log}
 use Rattle.json_patch_text.specs.declared.undo.Undo.{Undo}
 use Rattle.json_patch_text.specs.declared.fault.StepFault.{StepFault}
 use Rattle.json_patch_text.specs.declared.operation.TextOperation.{TextOperation}
@@ -138,3 +140,13 @@ taken_replace text o P Q v us is p back = subst (λ x. IsTakenFrom text x us) (s
 
 pub taken_move : (text : List ℕ) (o : TextOperation) (F G P Q : Pointer) (us : List Undo) → o ≡ Move G Q → F ≡ G → P ≡ Q → IsMovedBack text F P us → IsTakenFrom text o us
 taken_move text o F G P Q us is f p back = subst (λ x. IsTakenFrom text x us) (sym is) (subst (λ X. IsMovedBack text G X us) p (subst (λ X. IsMovedBack text X P us) f back))
+
+-- ---- what it copies
+
+pub copies_none : {A E : Type 0} (text : List ℕ) (o : TextOperation) (old new : Log) (r : Result A E) → Copies text o 0 → IfOk r (λ done. new.copied ≡ old.copied) → IfOk r (λ done. Counts old (Copies text o) new)
+copies_none text o old new (Ok x) none same = (0, none, omega (arith, same))
+copies_none text o old new (Err f) none same = tt
+
+pub copies_some : {A E : Type 0} (text : List ℕ) (o : TextOperation) (F P Q : Pointer) (old new : Log) (r : Result A E) → o ≡ Copy F Q → P ≡ F → IfOk r (λ done. Counts old (HasBytesAt text P) new) → IfOk r (λ done. Counts old (Copies text o) new)
+copies_some text o F P Q old new (Ok x) is f (n, bytes, sum) = (n, subst (λ y. Copies text y n) (sym is) (subst (λ X. HasBytesAt text X n) f bytes), sum)
+copies_some text o F P Q old new (Err e) is f counts = tt

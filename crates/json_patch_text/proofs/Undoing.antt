@@ -15,12 +15,12 @@ use Rattle.json_patch_operation.specs.declared.error.PatchErrorKind.{PatchErrorK
 use Rattle.json_patch_operation.specs.declared.error.PatchErrorKind.TheVariants.{CannotMoveInsideItself}
 use Rattle.json_patch_text.specs.Changed.{removed}
 use Rattle.json_patch_text.specs.Inverses.{undo_added, Undoes, IsTreeInverse}
-use Rattle.json_patch_text.specs.Made.{IsLeft, IsMadeIn}
+use Rattle.json_patch_text.specs.Made.{IsLeft, IsMadeIn, Stands}
 use Rattle.json_patch_text.specs.Operations.{TreeOperation, add, remove, replace, move, copy, test}
 use Rattle.json_patch_text.specs.Run.{AcceptsTree}
 use Rattle.json_patch_text.specs.Step.{ComesTo, Tests, after_move}
 use Rattle.json_patch_text.specs.TextOperations.{AreWrittenAs, IsWrittenAs}
-use Rattle.json_patch_text.specs.Undos.{AreTakenFrom, IsTakenFrom, IsUndo, PutsBack, Stands, TakesBack}
+use Rattle.json_patch_text.specs.Undos.{AreTakenFrom, IsTakenFrom, IsUndo, PutsBack, TakesBack}
 use Rattle.json_patch_text.specs.declared.operation.TextOperation.{TextOperation}
 use Rattle.json_patch_text.specs.declared.operation.TextOperation.TheVariants.{Add, Remove, Replace, Move, Copy, Test}
 use Rattle.json_patch_text.specs.declared.undo.Undo.{Undo}
@@ -180,18 +180,18 @@ pub record IsBack (i : Json) (ops : List TreeOperation) (n : ℕ) (us : List Und
   pub said : AreSaid (reverse us) back
   pub low : AreLow n back
 
-pub back_found : (Fits : List ℕ → Type 0) (n : ℕ) (os : List TextOperation) (ops : List TreeOperation) (text new : List ℕ) (us : List Undo) (i j : Json) → ((t : List ℕ) → Fits t → nesting t ≤ max_depth → IsLowText n t) → AreTakenFrom Fits text os new us → AreWrittenAs os ops → Says text i → AcceptsTree i ops j
+pub back_found : (Fits : List ℕ → Type 0) (n : ℕ) (os : List TextOperation) (ops : List TreeOperation) (text new : List ℕ) (us : List Undo) (i j : Json) (m : ℕ) → ((t : List ℕ) → Fits t → nesting t ≤ max_depth → IsLowText n t) → AreTakenFrom Fits text os new us m → AreWrittenAs os ops → Says text i → AcceptsTree i ops j
     → IsBack i ops n us
-back_found Fits n [] [] text new us i j low (fits, e, none) w said a = record {
+back_found Fits n [] [] text new us i j m low (fits, e, none, zero_bytes) w said a = record {
   back = [];
   inverse = inverse_first i;
   said = subst (λ vs. AreSaid (reverse vs) []) (sym none) tt;
   low = tt;
 }
-back_found Fits n (o ∷ os) (op ∷ ops) text new us i j low (fits, shallow, (next, vs, ws, made, taken, rest, e)) w said a =
+back_found Fits n (o ∷ os) (op ∷ ops) text new us i j all low (fits, shallow, (next, vs, ws, here, fewer, made, taken, copied, rest, e, sum)) w said a =
     let (m, comes) = first_accepted i j op ops a in
     let further = accepts_rest i m j op ops comes a in
-    let more : IsBack m ops n ws = back_found Fits n os ops next new ws m j low rest w.1 (next_says text next o op i m said w.0 made comes) further in
+    let more : IsBack m ops n ws = back_found Fits n os ops next new ws m j fewer low rest w.1 (next_says text next o op i m said w.0 made comes) further in
     let (B, undoes, b_said, b_low) = undone text o op i n vs said w.0 taken (low text fits shallow i said) in
     record {
       back = more.back ++ B;
@@ -199,5 +199,5 @@ back_found Fits n (o ∷ os) (op ∷ ops) text new us i j low (fits, shallow, (n
       said = subst (λ l. AreSaid l (more.back ++ B)) (sym (ap reverse e ∙ reverse-append vs ws)) (said_append (reverse ws) (reverse vs) more.back B more.said b_said);
       low = low_append n more.back B more.low b_low;
     }
-back_found Fits n [] (op ∷ ops) text new us i j low t w said a = absurd w
-back_found Fits n (o ∷ os) [] text new us i j low t w said a = absurd w
+back_found Fits n [] (op ∷ ops) text new us i j m low t w said a = absurd w
+back_found Fits n (o ∷ os) [] text new us i j m low t w said a = absurd w

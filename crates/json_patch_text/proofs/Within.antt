@@ -8,7 +8,7 @@ use Rattle.json_patch_text.specs.Stopped.{IsRunFault}
 use Rattle.json_patch_text.specs.Operations.{TreeOperation}
 use Rattle.json_patch_text.specs.Patched.{HasTexts, IsPatchTextFault, IsPatchedText}
 use Rattle.json_patch_text.specs.TextOperations.{AreWrittenAs}
-use Rattle.json_patch_text.specs.Within.{AreMadeWithin, IsFaultWithin, IsTextLimitFault, IsTextOverAt, IsTextWithin, most_bytes}
+use Rattle.json_patch_text.specs.Within.{AreMadeWithin, IsFaultWithin, IsPatchedWithin, IsTextLimitFault, IsTextOverAt, IsTextWithin, most_bytes}
 use Rattle.json_patch_text.specs.declared.bounds.Bounds.{Bounds}
 use Rattle.json_patch_text.specs.declared.fault.PatchTextFault.{PatchTextFault}
 use Rattle.json_patch_text.specs.declared.fault.PatchTextFault.TheVariants.{Document, Patch, Unreadable, Refused, TooDeep, Memory}
@@ -32,12 +32,12 @@ patch_fault b text patch os (Document f) most (ops, says, w, in_patch) runs = ab
 patch_fault b text patch os (Patch f) most (ops, says, w, in_patch) runs = absurd (runs ops w).0
 patch_fault b text patch os (Unreadable e) most (ops, says, w, in_patch) runs = absurd (runs ops w).0
 patch_fault b text patch os (Refused e) most (ops, says, w, in_patch) runs =
-    let (names, (left, made)) = runs ops w in
-    ((ops, says, names), (os, left, (ops, says, w, in_patch), subst (λ n. AreMadeWithin b.limits n text (take e.operation os) left) most made))
+    let (names, (left, n, made)) = runs ops w in
+    ((ops, says, names), (os, left, n, (ops, says, w, in_patch), subst (λ x. AreMadeWithin b.limits x text (take e.operation os) left n) most made))
 patch_fault b text patch os (TooDeep k) most (ops, says, w, in_patch) runs =
-    let (found, (left, made, deep)) = runs ops w in
-    let shallow : nesting left ≤ b.limits.depth = (last_within b.limits (most_of b) text (take k os) left made).0 in
-    (omega arith, (os, (ops, says, w, in_patch), found.0, found.1), (os, left, (ops, says, w, in_patch), subst (λ n. AreMadeWithin b.limits n text (take k os) left) most made))
+    let (found, (left, n, made, deep)) = runs ops w in
+    let shallow : nesting left ≤ b.limits.depth = (last_within b.limits (most_of b) text (take k os) left n made.0).0 in
+    (omega arith, (os, (ops, says, w, in_patch), found.0, found.1), (os, left, n, (ops, says, w, in_patch), subst (λ x. AreMadeWithin b.limits x text (take k os) left n) most made))
 patch_fault b text patch os (Memory m) most h runs = tt
 
 fault_within : (b : Bounds) (text patch : List ℕ) (os : List TextOperation) (f : TextLimitFault) → most_of b ≡ most_bytes b.limits text patch → HasTexts patch os → ((ops : List TreeOperation) → AreWrittenAs os ops → IsRunFaultUnder false (Some b) text os ops f) → IsTextLimitFault b.limits text patch f
@@ -54,8 +54,8 @@ records_before : (b : Bounds) (text patch : List ℕ) (os : List TextOperation) 
 records_before b text patch os (Document f) most h r = tt
 records_before b text patch os (Patch f) most h r = tt
 records_before b text patch os (Unreadable e) most h r = tt
-records_before b text patch os (Refused e) most h (left, us, recorded) = (os, left, us, h, subst (λ n. AreRecordedWithin b.limits n text (take e.operation os) left us) most recorded)
-records_before b text patch os (TooDeep k) most h (left, us, recorded) = (os, left, us, h, subst (λ n. AreRecordedWithin b.limits n text (take k os) left us) most recorded)
+records_before b text patch os (Refused e) most h (left, us, n, (taken, short)) = (os, left, us, n, h, subst (λ x. AreRecordedWithin b.limits x text (take e.operation os) left us n) most (taken, short.0, short.1))
+records_before b text patch os (TooDeep k) most h (left, us, n, (taken, short)) = (os, left, us, n, h, subst (λ x. AreRecordedWithin b.limits x text (take k os) left us n) most (taken, short.0, short.1))
 records_before b text patch os (Memory m) most h r = tt
 
 pub record_fault : (b : Bounds) (text patch : List ℕ) (os : List TextOperation) (f : TextLimitFault) → most_of b ≡ most_bytes b.limits text patch → HasTexts patch os → ((ops : List TreeOperation) → AreWrittenAs os ops → IsRunFaultUnder true (Some b) text os ops f) → IsRecordLimitFault b.limits text patch f
@@ -66,10 +66,15 @@ record_fault b text patch os (within.Patch f) most h runs =
     (patch_fault b text patch os f most h (λ others v. let (fault, left, before) = runs others v in (fault, left)), records_before b text patch os f most h (before refl))
 
 -- they are all made
-pub kept : {A : Type 0} (b : Bounds) (text patch : List ℕ) (os : List TextOperation) (r : Result (String A) TextLimitFault) → HasTexts patch os → IfOk r (λ new. AreMadeUnder (Some b) text os (string_bytes new)) → IfOk r (λ new. IsPatchedText text patch (string_bytes new))
-kept b text patch os (Ok new) h made = (os, h, within_made b.limits (most_of b) text os (string_bytes new) made)
-kept b text patch os (Err f) h made = tt
+pub kept : {A : Type 0} (b : Bounds) (text patch : List ℕ) (os : List TextOperation) (n : ℕ) (r : Result (String A) TextLimitFault) → HasTexts patch os → IfOk r (λ new. AreMadeUnder (Some b) text os (string_bytes new) n) → IfOk r (λ new. IsPatchedText text patch (string_bytes new))
+kept b text patch os n (Ok new) h made = (os, h, within_made b.limits (most_of b) text os (string_bytes new) n made.0)
+kept b text patch os n (Err f) h made = tt
 
-pub bounded : {A : Type 0} (b : Bounds) (text : List ℕ) (os : List TextOperation) (r : Result (String A) TextLimitFault) → IfOk r (λ new. AreMadeUnder (Some b) text os (string_bytes new)) → IfOk r (λ new. IsTextWithin b.limits (most_of b) (string_bytes new))
-bounded b text os (Ok new) made = last_within b.limits (most_of b) text os (string_bytes new) made
-bounded b text os (Err f) made = tt
+pub all_within : {A : Type 0} (b : Bounds) (text patch : List ℕ) (os : List TextOperation) (n : ℕ) (r : Result (String A) TextLimitFault) → most_of b ≡ most_bytes b.limits text patch → HasTexts patch os → IfOk r (λ new. AreMadeUnder (Some b) text os (string_bytes new) n)
+    → IfOk r (λ new. IsPatchedWithin b.limits text patch (string_bytes new))
+all_within b text patch os n (Ok new) most h made = (os, n, h, subst (λ x. AreMadeWithin b.limits x text os (string_bytes new) n) most made)
+all_within b text patch os n (Err f) most h made = tt
+
+pub bounded : {A : Type 0} (b : Bounds) (text : List ℕ) (os : List TextOperation) (n : ℕ) (r : Result (String A) TextLimitFault) → IfOk r (λ new. AreMadeUnder (Some b) text os (string_bytes new) n) → IfOk r (λ new. IsTextWithin b.limits (most_of b) (string_bytes new))
+bounded b text os n (Ok new) made = last_within b.limits (most_of b) text os (string_bytes new) n made.0
+bounded b text os n (Err f) made = tt

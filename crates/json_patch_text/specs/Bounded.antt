@@ -34,9 +34,9 @@ abbrev pub IsUnder : Option Bounds → List ℕ → Type 0
 IsUnder None text = ⊤
 IsUnder (Some b) text = IsTextWithin b.limits (most_of b) text
 
--- the undo's text, if one is to be kept, is no longer than a text may be
+-- no more was copied than a text may have, nor has the undo's text more, if one is to be kept
 abbrev pub IsLogShort : Bounds → Log → Type 0
-IsLogShort b log = log.kept ≡ true → log.size ≤ most_of b
+IsLogShort b log = (log.copied ≤ most_of b) × (log.kept ≡ true → log.size ≤ most_of b)
 
 abbrev pub IsLogUnder : Option Bounds → Log → Type 0
 IsLogUnder None log = ⊤
@@ -45,48 +45,48 @@ IsLogUnder (Some b) log = IsLogShort b log
 -- how a text and what is kept are over the limits
 abbrev pub IsStepOver : Bounds → List ℕ → Log → LimitKind → Type 0
 IsStepOver b text log limit.TooDeep = b.limits.depth < nesting text
-IsStepOver b text log limit.TooMuch = (nesting text ≤ b.limits.depth) × ((most_of b < length text) ⊎ ((log.kept ≡ true) × (most_of b < log.size)))
+IsStepOver b text log limit.TooMuch = (nesting text ≤ b.limits.depth) × ((most_of b < length text) ⊎ ((most_of b < log.copied) ⊎ ((log.kept ≡ true) × (most_of b < log.size))))
 
 abbrev pub StepOverBy : Option Bounds → List ℕ → Log → LimitKind → Type 0
 StepOverBy None text log kind = ⊥
 StepOverBy (Some b) text log kind = IsStepOver b text log kind
 
--- the operations make new of the text, within the limits if there are any
-abbrev pub AreMadeUnder : Option Bounds → List ℕ → List TextOperation → List ℕ → Type 0
-AreMadeUnder None text os new = AreMadeIn text os new
-AreMadeUnder (Some b) text os new = AreMadeWithin b.limits (most_of b) text os new
+-- the operations make new of the text; if there are limits, within them, and n bytes are copied in all
+abbrev pub AreMadeUnder : Option Bounds → List ℕ → List TextOperation → List ℕ → ℕ → Type 0
+AreMadeUnder None text os new n = AreMadeIn text os new
+AreMadeUnder (Some b) text os new n = AreMadeWithin b.limits (most_of b) text os new n
 
 abbrev pub IsOverUnder : Option Bounds → List ℕ → List TextOperation → List TreeOperation → ℕ → LimitKind → Type 0
 IsOverUnder None text os ops k kind = ⊥
 IsOverUnder (Some b) text os ops k kind = IsTextOverAt b.limits (most_of b) text os ops k kind
 
 -- the first k operations have made new of the text so
-abbrev pub IsReachedUnder : Option Bounds → List ℕ → List TextOperation → ℕ → List ℕ → Type 0
-IsReachedUnder b text os k new = IsReached text os k new × AreMadeUnder b text (take k os) new
+abbrev pub IsReachedUnder : Option Bounds → List ℕ → List TextOperation → ℕ → List ℕ → ℕ → Type 0
+IsReachedUnder b text os k new n = IsReached text os k new × AreMadeUnder b text (take k os) new n
 
 -- what was made before a run ended early
 abbrev pub IsLeftUnder : Option Bounds → List ℕ → List TextOperation → PatchTextFault → Type 0
 IsLeftUnder b text os (Document f) = ⊤
 IsLeftUnder b text os (Patch f) = ⊤
 IsLeftUnder b text os (Unreadable e) = ⊤
-IsLeftUnder b text os (Refused e) = (left : List ℕ) × AreMadeUnder b text (take e.operation os) left
-IsLeftUnder b text os (TooDeep k) = (left : List ℕ) × AreMadeUnder b text (take k os) left × (max_depth < nesting left)
+IsLeftUnder b text os (Refused e) = (left : List ℕ) × (n : ℕ) × AreMadeUnder b text (take e.operation os) left n
+IsLeftUnder b text os (TooDeep k) = (left : List ℕ) × (n : ℕ) × AreMadeUnder b text (take k os) left n × (max_depth < nesting left)
 IsLeftUnder b text os (Memory m) = ⊤
 
--- the undo of these is no longer than a text may be
-abbrev pub IsShort : Option Bounds → List Undo → Type 0
-IsShort None us = ⊤
-IsShort (Some b) us = length (undo_list us) ≤ most_of b
+-- the undo of these is no longer than a text may be, and n bytes are no more
+abbrev pub AreShort : Option Bounds → List Undo → ℕ → Type 0
+AreShort None us n = ⊤
+AreShort (Some b) us n = (length (undo_list us) ≤ most_of b) × (n ≤ most_of b)
 
 -- and the same with what takes the operations back
-abbrev pub AreRecordedUnder : Option Bounds → List ℕ → List TextOperation → List ℕ → List Undo → Type 0
-AreRecordedUnder b text os new us = AreTakenFrom (IsUnder b) text os new us × IsShort b us
+abbrev pub AreRecordedUnder : Option Bounds → List ℕ → List TextOperation → List ℕ → List Undo → ℕ → Type 0
+AreRecordedUnder b text os new us n = AreTakenFrom (IsUnder b) text os new us n × AreShort b us n
 
 abbrev pub IsLoggedUnder : Option Bounds → List ℕ → List TextOperation → List ℕ → Log → Type 0
-IsLoggedUnder b text os new log = log.kept ≡ true → (us : List Undo) × HasLog log us × AreRecordedUnder b text os new us
+IsLoggedUnder b text os new log = log.kept ≡ true → (us : List Undo) × HasLog log us × AreRecordedUnder b text os new us log.copied
 
 abbrev pub IsRecordedUntil : Option Bounds → List ℕ → List TextOperation → ℕ → Type 0
-IsRecordedUntil b text os k = (left : List ℕ) × (us : List Undo) × AreRecordedUnder b text (take k os) left us
+IsRecordedUntil b text os k = (left : List ℕ) × (us : List Undo) × (n : ℕ) × AreRecordedUnder b text (take k os) left us n
 
 abbrev pub IsRecordedBefore : Option Bounds → List ℕ → List TextOperation → PatchTextFault → Type 0
 IsRecordedBefore b text os (Document f) = ⊤

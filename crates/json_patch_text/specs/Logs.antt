@@ -1,5 +1,5 @@
 -- For private clauses: what a run keeps to take its operations back.
-use Rattle.std.specs.Prelude.{◌≡◌, ℕ, zero, suc, List, [], ◌∷◌, ◌++◌, length, map, true}
+use Rattle.std.specs.Prelude.{◌≡◌, ◌+◌, ℕ, zero, suc, List, [], ◌∷◌, ◌++◌, length, map, true}
 use Rattle.std.specs.String.{string_bytes}
 use Rattle.json_patch_text.specs.Undos.{undo_list, undo_text}
 use Rattle.json_patch_text.specs.declared.log.Log.{Log}
@@ -21,3 +21,7 @@ AreLogged old vs new = (us : List Undo) → HasLog old us → HasLog new (us ++ 
 -- what is so is logged, if anything is to be
 abbrev pub Logs : Log → (List Undo → Type 0) → Log → Type 0
 Logs old Is new = (new.kept ≡ old.kept) × (old.kept ≡ true → (vs : List Undo) × Is vs × AreLogged old vs new)
+
+-- so many bytes more are counted as copied
+abbrev pub Counts : Log → (ℕ → Type 0) → Log → Type 0
+Counts old Are new = (n : ℕ) × Are n × (new.copied ≡ old.copied + n)

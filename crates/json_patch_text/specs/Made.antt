@@ -1,5 +1,5 @@
 -- What an operation makes of a text, in trees and byte by byte (RFC 6902, section 4).
-use Rattle.std.specs.Prelude.{◌≡◌, ◌<◌, ◌≤◌, Bool, false, ℕ, List, [], ◌∷◌, take, Result, Ok, Err, ⊤}
+use Rattle.std.specs.Prelude.{◌≡◌, ◌<◌, ◌≤◌, Bool, false, ℕ, List, [], ◌∷◌, length, take, Result, Ok, Err, ⊤}
 use Rattle.json.specs.Json.{Json, max_depth}
 use Rattle.jsonptr.specs.Text.{Pointer}
 use Rattle.json_patch_operation.specs.declared.error.PatchErrorKind.TheVariants.{InvalidPointer}
@@ -41,6 +41,23 @@ IsMadeIn text (Test P s) new = new ≡ text
 abbrev pub AreMadeIn : List ℕ → List TextOperation → List ℕ → Type 0
 AreMadeIn text [] new = new ≡ text
 AreMadeIn text (o ∷ os) new = (next : List ℕ) × IsMadeIn text o next × AreMadeIn next os new
+
+-- ---- how much is copied
+
+-- s is what stands in the text where P leads, as it is written
+abbrev pub Stands : List ℕ → Pointer → List ℕ → Type 0
+Stands text P s = (i : Json) × Says text i × IsWrittenAt text i P s
+
+-- what stands there has n bytes
+abbrev pub HasBytesAt : List ℕ → Pointer → ℕ → Type 0
+HasBytesAt text P n = (s : List ℕ) × Stands text P s × (n ≡ length s)
+
+-- the operation copies n bytes of the text: a `copy` what stands at its `from`, any other none
+abbrev pub Copies : List ℕ → TextOperation → ℕ → Type 0
+Copies text (Copy F P) n = HasBytesAt text F n
+Copies text o n = n ≡ 0
+
+-- ---- too deep
 
 -- the operations before the one at k leave a text in which more than 128 objects and arrays are open at once
 abbrev pub IsTooDeepAt : List ℕ → List TextOperation → ℕ → Type 0

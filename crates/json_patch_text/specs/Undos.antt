@@ -1,5 +1,5 @@
 -- What takes back operations on a text, with the values as they stood in it; and its text.
-use Rattle.std.specs.Prelude.{◌≡◌, ◌≤◌, ℕ, List, [], ◌∷◌, ◌++◌, map, codes, reverse, Bool, true, false, Option, Some, None, String, option_map, if◌then◌else◌}
+use Rattle.std.specs.Prelude.{◌≡◌, ◌≤◌, ◌+◌, ℕ, List, [], ◌∷◌, ◌++◌, map, codes, reverse, Bool, true, false, Option, Some, None, String, option_map, if◌then◌else◌}
 use Rattle.std.specs.String.{string_bytes}
 use Rattle.std.specs.declared.alloc.Global.{Global}
 use Rattle.json.specs.Json.{Json, max_depth}
@@ -9,7 +9,7 @@ use Rattle.json_lexemes.specs.Skipped.{nesting}
 use Rattle.json_lexemes.specs.Spelled.{Says}
 use Rattle.json_patch_document.specs.ChangeComputed.{front_of}
 use Rattle.json_patch_text.specs.Inverses.{undo_added}
-use Rattle.json_patch_text.specs.Made.{IsMadeIn}
+use Rattle.json_patch_text.specs.Made.{Copies, IsMadeIn, Stands}
 use Rattle.json_patch_text.specs.Operations.{TreeOperation, add, remove, replace}
 use Rattle.json_patch_text.specs.declared.operation.TextOperation.{TextOperation}
 use Rattle.json_patch_text.specs.declared.operation.TextOperation.TheVariants.{Add, Remove, Replace, Move, Copy, Test}
@@ -30,10 +30,6 @@ IsUndo text i (undo.Add P s) (add Q w) = (Q ≡ P) × (tree_at P i ≡ Some w) �
 IsUndo text i (undo.Remove P) (remove Q) = Q ≡ P
 IsUndo text i (undo.Replace P s) (replace Q w) = (Q ≡ P) × (tree_at P i ≡ Some w) × IsWrittenAt text i P (string_bytes s)
 IsUndo text i u op = ⊥
-
--- s is what stands in the text where P leads, as it is written
-abbrev pub Stands : List ℕ → Pointer → List ℕ → Type 0
-Stands text P s = (i : Json) × Says text i × IsWrittenAt text i P s
 
 -- u takes back an addition to the text at P
 abbrev pub TakesBack : List ℕ → Pointer → Undo → Type 0
@@ -59,10 +55,10 @@ IsTakenFrom text (Test P v) us = us ≡ []
 -- ---- a list of operations
 
 -- new is the text with each operation made in turn, on a text of at most 128 levels, and us what takes them back, the last of us first;
--- each text on the way is so
-abbrev pub AreTakenFrom : (List ℕ → Type 0) → List ℕ → List TextOperation → List ℕ → List Undo → Type 0
-AreTakenFrom Fits text [] new us = Fits text × (new ≡ text) × (us ≡ [])
-AreTakenFrom Fits text (o ∷ os) new us = Fits text × (nesting text ≤ max_depth) × ((next : List ℕ) × (vs : List Undo) × (ws : List Undo) × IsMadeIn text o next × IsTakenFrom text o vs × AreTakenFrom Fits next os new ws × (us ≡ vs ++ ws))
+-- each text on the way is so, and n bytes are copied in all
+abbrev pub AreTakenFrom : (List ℕ → Type 0) → List ℕ → List TextOperation → List ℕ → List Undo → ℕ → Type 0
+AreTakenFrom Fits text [] new us n = Fits text × (new ≡ text) × (us ≡ []) × (n ≡ 0)
+AreTakenFrom Fits text (o ∷ os) new us n = Fits text × (nesting text ≤ max_depth) × ((next : List ℕ) × (vs : List Undo) × (ws : List Undo) × (m : ℕ) × (rest : ℕ) × IsMadeIn text o next × IsTakenFrom text o vs × Copies text o m × AreTakenFrom Fits next os new ws rest × (us ≡ vs ++ ws) × (n ≡ m + rest))
 
 -- ---- its text
 

@@ -8,7 +8,7 @@ use Rattle.json_patch_limits.specs.declared.limits.LimitKind.{LimitKind}
 use Rattle.json_patch_limits.specs.declared.limits.LimitKind.TheVariants as limit
 use Rattle.json_patch_limits.specs.declared.limits.Limits.{Limits}
 use Rattle.json_patch_text.specs.Inverses.{IsTreeInverse}
-use Rattle.json_patch_text.specs.Made.{IsMadeIn}
+use Rattle.json_patch_text.specs.Made.{Copies, IsMadeIn}
 use Rattle.json_patch_text.specs.Operations.{TreeOperation, SaysOperations, all_under}
 use Rattle.json_patch_text.specs.Patched.{HasTexts}
 use Rattle.json_patch_text.specs.Run.{AcceptsText, AcceptsTree}
@@ -42,41 +42,44 @@ pub record IsRecorded (text patch new undo : List ℕ) : Type 0 where
 
 -- the undo has each value as it stood in the text before the operation that displaced it
 abbrev pub IsUndoText : List ℕ → List ℕ → List ℕ → List ℕ → Type 0
-IsUndoText text patch new undo = (os : List TextOperation) × (us : List Undo) × HasTexts patch os × AreTakenFrom (λ t. ⊤) text os new us × (undo ≡ undo_list us)
+IsUndoText text patch new undo = (os : List TextOperation) × (us : List Undo) × (n : ℕ) × HasTexts patch os × AreTakenFrom (λ t. ⊤) text os new us n × (undo ≡ undo_list us)
 
 -- ---- within limits
 
--- the operations make new of the text, and us takes them back; each text on the way is within the limits, and the undo is no longer
-abbrev pub AreRecordedWithin : Limits → ℕ → List ℕ → List TextOperation → List ℕ → List Undo → Type 0
-AreRecordedWithin l most text os new us = AreTakenFrom (IsTextWithin l most) text os new us × (length (undo_list us) ≤ most)
+-- the operations make new of the text, and us takes them back; each text on the way is within the limits, and neither the undo nor what
+-- they copy together, n bytes, is more than a text may have
+abbrev pub AreRecordedWithin : Limits → ℕ → List ℕ → List TextOperation → List ℕ → List Undo → ℕ → Type 0
+AreRecordedWithin l most text os new us n = AreTakenFrom (IsTextWithin l most) text os new us n × (length (undo_list us) ≤ most) × (n ≤ most)
 
 -- the undo nests two levels deeper than a text may, at the most, and has no more bytes
 abbrev pub IsUndoWithin : Limits → ℕ → List ℕ → Type 0
 IsUndoWithin l most undo = (nesting undo ≤ 2 + l.depth) × (length undo ≤ most)
 
--- how a new text and its undo's are over the limits
-abbrev pub IsRecordOver : Limits → ℕ → List ℕ → List ℕ → LimitKind → Type 0
-IsRecordOver l most new undo limit.TooDeep = l.depth < nesting new
-IsRecordOver l most new undo limit.TooMuch = (nesting new ≤ l.depth) × ((most < length new) ⊎ (most < length undo))
+-- how a new text is over the limits, or its undo's, or the n bytes that were copied for it
+abbrev pub IsRecordOver : Limits → ℕ → List ℕ → List ℕ → ℕ → LimitKind → Type 0
+IsRecordOver l most new undo n limit.TooDeep = l.depth < nesting new
+IsRecordOver l most new undo n limit.TooMuch = (nesting new ≤ l.depth) × ((most < length new) ⊎ ((most < n) ⊎ (most < length undo)))
 
 -- those before the one at k are recorded so, and with it the list is accepted, but this is over the limits
 pub record IsRecordOverAt (l : Limits) (most : ℕ) (text : List ℕ) (os : List TextOperation) (ops : List TreeOperation) (k : ℕ) (kind : LimitKind) : Type 0 where
   pub left : List ℕ
   pub us : List Undo
-  pub before : AreRecordedWithin l most text (take k os) left us
+  pub n : ℕ
+  pub before : AreRecordedWithin l most text (take k os) left us n
   pub new : List ℕ
   pub vs : List Undo
-  pub made : (o : TextOperation) × (slice_get os k ≡ Some o) × IsMadeIn left o new × IsTakenFrom left o vs
+  pub m : ℕ
+  pub made : (o : TextOperation) × (slice_get os k ≡ Some o) × IsMadeIn left o new × IsTakenFrom left o vs × Copies left o m
   pub accepted : AcceptsText text (take (suc k) ops) new
-  pub over : IsRecordOver l most new (undo_list (us ++ vs)) kind
+  pub over : IsRecordOver l most new (undo_list (us ++ vs)) (n + m) kind
 
 -- the patch's text says operations that are recorded within the limits
 abbrev pub IsRecordedWithin : Limits → List ℕ → List ℕ → List ℕ → List ℕ → Type 0
-IsRecordedWithin l text patch new undo = (os : List TextOperation) × (us : List Undo) × HasTexts patch os × AreRecordedWithin l (most_bytes l text patch) text os new us × (undo ≡ undo_list us)
+IsRecordedWithin l text patch new undo = (os : List TextOperation) × (us : List Undo) × (n : ℕ) × HasTexts patch os × AreRecordedWithin l (most_bytes l text patch) text os new us n × (undo ≡ undo_list us)
 
 -- those before the one at k are
 abbrev pub RecordsWithin : Limits → List ℕ → List ℕ → ℕ → Type 0
-RecordsWithin l text patch k = (os : List TextOperation) × (left : List ℕ) × (us : List Undo) × HasTexts patch os × AreRecordedWithin l (most_bytes l text patch) text (take k os) left us
+RecordsWithin l text patch k = (os : List TextOperation) × (left : List ℕ) × (us : List Undo) × (n : ℕ) × HasTexts patch os × AreRecordedWithin l (most_bytes l text patch) text (take k os) left us n
 
 -- where the operation at this one's number was refused, or found too deep a text, those before it
 abbrev pub RecordsBefore : Limits → List ℕ → List ℕ → PatchTextFault → Type 0

@@ -1,11 +1,11 @@
--- A JSON text patched within limits: how deep each text on the way nests, and how long it is.
+-- A JSON text patched within limits: how deep each text on the way nests, how long it is, and how much is copied.
 use Rattle.std.specs.Prelude.{◌≡◌, ◌⊎◌, ◌≤◌, ◌<◌, ◌+◌, ℕ, suc, List, [], ◌∷◌, length, take, Some, slice_get}
 use Rattle.json.specs.Json.{Json, max_depth}
 use Rattle.json_patch_limits.specs.declared.limits.LimitError.{LimitError}
 use Rattle.json_patch_limits.specs.declared.limits.LimitKind.{LimitKind}
 use Rattle.json_patch_limits.specs.declared.limits.LimitKind.TheVariants as limit
 use Rattle.json_patch_limits.specs.declared.limits.Limits.{Limits}
-use Rattle.json_patch_text.specs.Made.{IsMadeIn}
+use Rattle.json_patch_text.specs.Made.{Copies, IsMadeIn}
 use Rattle.json_patch_text.specs.Operations.{TreeOperation, SaysOperations}
 use Rattle.json_patch_text.specs.Patched.{HasTexts, IsPatchTextFault}
 use Rattle.json_patch_text.specs.Run.{AcceptsText}
@@ -22,7 +22,7 @@ use Rattle.json_text.specs.declared.fault.TextFault.TheVariants as fault
 
 -- ---- a text and the limits
 
--- how many bytes a text may have: as many as the document's and the patch's together, and as many again as may be copied
+-- how many bytes a text may have, and the `copy`s may copy together: as many as the document's text and the patch's, and `copied` more
 abbrev pub most_bytes : Limits → List ℕ → List ℕ → ℕ
 most_bytes l text patch = length text + (length patch + l.copied)
 
@@ -30,40 +30,48 @@ most_bytes l text patch = length text + (length patch + l.copied)
 abbrev pub IsTextWithin : Limits → ℕ → List ℕ → Type 0
 IsTextWithin l most text = (nesting text ≤ l.depth) × (length text ≤ most)
 
--- or how it is over them
-abbrev pub IsTextOver : Limits → ℕ → List ℕ → LimitKind → Type 0
-IsTextOver l most text limit.TooDeep = l.depth < nesting text
-IsTextOver l most text limit.TooMuch = (nesting text ≤ l.depth) × (most < length text)
+-- or how it is over them, or the n bytes that were copied for it
+abbrev pub IsTextOver : Limits → ℕ → List ℕ → ℕ → LimitKind → Type 0
+IsTextOver l most text n limit.TooDeep = l.depth < nesting text
+IsTextOver l most text n limit.TooMuch = (nesting text ≤ l.depth) × ((most < length text) ⊎ (most < n))
 
 -- ---- a list of operations
 
--- new is the text with each operation made in turn, and each text on the way is within the limits, the first and the last too
-abbrev pub AreMadeWithin : Limits → ℕ → List ℕ → List TextOperation → List ℕ → Type 0
-AreMadeWithin l most text [] new = IsTextWithin l most text × (new ≡ text)
-AreMadeWithin l most text (o ∷ os) new = IsTextWithin l most text × ((next : List ℕ) × IsMadeIn text o next × AreMadeWithin l most next os new)
+-- new is the text with each operation made in turn, each text on the way is within the limits, the first and the last too, and n bytes are
+-- copied in all
+abbrev pub AreMadeCopying : Limits → ℕ → List ℕ → List TextOperation → List ℕ → ℕ → Type 0
+AreMadeCopying l most text [] new n = IsTextWithin l most text × (new ≡ text) × (n ≡ 0)
+AreMadeCopying l most text (o ∷ os) new n = IsTextWithin l most text × ((next : List ℕ) × (m : ℕ) × (rest : ℕ) × IsMadeIn text o next × Copies text o m × AreMadeCopying l most next os new rest × (n ≡ m + rest))
 
--- those before the one at k are made so, and with it the list is accepted, but the text that it would leave is over the limits, by this
+-- and these are no more than a text may have
+abbrev pub AreMadeWithin : Limits → ℕ → List ℕ → List TextOperation → List ℕ → ℕ → Type 0
+AreMadeWithin l most text os new n = AreMadeCopying l most text os new n × (n ≤ most)
+
+-- those before the one at k are made so, and with it the list is accepted, but the text that it would leave is over the limits, or what is
+-- copied with it, by this
 pub record IsTextOverAt (l : Limits) (most : ℕ) (text : List ℕ) (os : List TextOperation) (ops : List TreeOperation) (k : ℕ) (kind : LimitKind) : Type 0 where
   pub left : List ℕ
-  pub before : AreMadeWithin l most text (take k os) left
+  pub n : ℕ
+  pub before : AreMadeWithin l most text (take k os) left n
   pub new : List ℕ
-  pub made : (o : TextOperation) × (slice_get os k ≡ Some o) × IsMadeIn left o new
+  pub m : ℕ
+  pub made : (o : TextOperation) × (slice_get os k ≡ Some o) × IsMadeIn left o new × Copies left o m
   pub accepted : AcceptsText text (take (suc k) ops) new
-  pub over : IsTextOver l most new kind
+  pub over : IsTextOver l most new (n + m) kind
 
 -- ---- the text of a patch
 
 -- the patch's text says operations that make new of the text within the limits
 abbrev pub IsPatchedWithin : Limits → List ℕ → List ℕ → List ℕ → Type 0
-IsPatchedWithin l text patch new = (os : List TextOperation) × HasTexts patch os × AreMadeWithin l (most_bytes l text patch) text os new
+IsPatchedWithin l text patch new = (os : List TextOperation) × (n : ℕ) × HasTexts patch os × AreMadeWithin l (most_bytes l text patch) text os new n
 
--- e names the first of them that would leave a text over the limits, and how
+-- e names the first of them with which they would be over the limits, and how
 abbrev pub NamesFirstOver : Limits → List ℕ → List ℕ → LimitError → Type 0
 NamesFirstOver l text patch e = (os : List TextOperation) × (ops : List TreeOperation) × SaysOperations patch ops × AreWrittenAs os ops × AreWrittenIn patch os × IsTextOverAt l (most_bytes l text patch) text os ops e.operation e.kind
 
 -- those before the one at k are made within the limits
 abbrev pub ReachesWithin : Limits → List ℕ → List ℕ → ℕ → Type 0
-ReachesWithin l text patch k = (os : List TextOperation) × (left : List ℕ) × HasTexts patch os × AreMadeWithin l (most_bytes l text patch) text (take k os) left
+ReachesWithin l text patch k = (os : List TextOperation) × (left : List ℕ) × (n : ℕ) × HasTexts patch os × AreMadeWithin l (most_bytes l text patch) text (take k os) left n
 
 -- why the document's text isn't read within the limits
 abbrev pub IsNoTextWithin : Limits → List ℕ → TextFault → Type 0

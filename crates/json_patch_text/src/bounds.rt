@@ -1,4 +1,4 @@
-//! How deep and how long a text may be that a patch leaves.
+//! How deep and how long a text may be that a patch leaves, and how much it may copy.
 
 ghost use Rattle.std.specs.Prelude.{◌≡◌, ◌<◌, ◌≤◌, false, IfOk, MatchOption};
 ghost use Rattle.std.specs.Bool.{Decides};
@@ -47,7 +47,7 @@ impl Bounds {
         more.saturating_sub(self.patch) > self.limits.copied
     }
 
-    /// How the text is over the limits, or what takes it back is, if one is.
+    /// How the text is over the limits, or what was copied or takes it back is, if one is.
     fn over(self, log: &Log, draft: &Draft, deeper: bool) -> Result<Option<LimitKind>, AllocError>
         requires draft { IsDraft draft.now }
         requires depth { deeper ≡ false → nesting (draft_text draft.now) ≤ self.limits.depth }
@@ -61,6 +61,9 @@ impl Bounds {
         if self.is_exceeded(draft.len()) {
             return Ok(Some(LimitKind::TooMuch));
         }
+        if self.is_exceeded(log.copied) {
+            return Ok(Some(LimitKind::TooMuch));
+        }
         if log.kept && self.is_exceeded(log.size) {
             return Ok(Some(LimitKind::TooMuch));
         }
@@ -68,7 +71,7 @@ impl Bounds {
     }
 }
 
-/// How the text is over the limits, or what takes it back is, if there are any and one is.
+/// How the text is over the limits, or what was copied or takes it back is, if there are any and one is.
 pub(crate) fn over(
     bounds: Option<Bounds>,
     log: &Log,

@@ -79,17 +79,19 @@ pub fn runs()
 
 /// Operations within limits.
 pub fn limits()
-    // A text is within the limits, or over them in one way.
-    ensures within_or_over { (l : Limits) (most : ℕ) (text : List ℕ)
-        → IsTextWithin l most text ⊎ ((kind : LimitKind) × IsTextOver l most text kind) }
-    ensures over_alone { (l : Limits) (most : ℕ) (text : List ℕ) (kind : LimitKind)
-        → IsTextOver l most text kind → IsTextWithin l most text → ⊥ }
-    ensures one_kind { (l : Limits) (most : ℕ) (text : List ℕ) (kind other : LimitKind)
-        → IsTextOver l most text kind → IsTextOver l most text other → other ≡ kind }
+    // A text and n bytes that were copied for it are within the limits, or over them in one way.
+    ensures within_or_over { (l : Limits) (most n : ℕ) (text : List ℕ)
+        → (IsTextWithin l most text × (n ≤ most))
+        ⊎ ((kind : LimitKind) × IsTextOver l most text n kind) }
+    ensures over_alone { (l : Limits) (most n : ℕ) (text : List ℕ) (kind : LimitKind)
+        → IsTextOver l most text n kind → IsTextWithin l most text → n ≤ most → ⊥ }
+    ensures one_kind { (l : Limits) (most n : ℕ) (text : List ℕ) (kind other : LimitKind)
+        → IsTextOver l most text n kind → IsTextOver l most text n other → other ≡ kind }
 
-    // What is made within the limits is made, and is within them.
-    ensures made { (l : Limits) (most : ℕ) (text new : List ℕ) (os : List TextOperation)
-        → AreMadeWithin l most text os new → AreMadeIn text os new × IsTextWithin l most new }
+    // What is made within the limits is made, and is within them, as is all that was copied.
+    ensures made { (l : Limits) (most n : ℕ) (text new : List ℕ) (os : List TextOperation)
+        → AreMadeWithin l most text os new n
+        → AreMadeIn text os new × IsTextWithin l most new × (n ≤ most) }
 
     // No operation up to the one that is over is refused.
     ensures not_refused { (l : Limits) (most : ℕ) (text : List ℕ) (os : List TextOperation)
@@ -98,8 +100,8 @@ pub fn limits()
 
     // One that leaves too deep a text is never made within the limits.
     ensures deep_last { (l : Limits) (most : ℕ) (text left : List ℕ) (os : List TextOperation)
-        (ops : List TreeOperation) (k n : ℕ) → IsTextOverAt l most text os ops k TooDeep
-        → AreMadeWithin l most text (take n os) left → n ≤ k }
+        (ops : List TreeOperation) (k m n : ℕ) → IsTextOverAt l most text os ops k TooDeep
+        → AreMadeWithin l most text (take n os) left m → n ≤ k }
 
     // With limits of at most 128 levels no text on the way is too deep to be read.
     ensures readable { (l : Limits) (text patch : List ℕ) (k : ℕ) → l.depth ≤ max_depth

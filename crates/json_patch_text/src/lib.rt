@@ -1,6 +1,6 @@
 //! A JSON text patched in place (RFC 6902): [`patch_text`], and what it is to patch a text, in
 //! definitions and their laws. [`patch_text_within`] is for the patch of a stranger: no text on the way
-//! nests deeper, or is longer, than limits allow.
+//! nests deeper, or is longer, than limits allow, and no more is copied.
 //!
 //! Every byte that no operation changes is kept: whitespace, the order of members, `1.50` and `"\u0061"`
 //! as they are written.

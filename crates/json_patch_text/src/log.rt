@@ -25,6 +25,8 @@ pub(crate) struct Log {
     pub texts: Vec<String>,
     /// How many bytes the text of their list has.
     pub size: usize,
+    /// How many bytes the `copy`s have copied, whether anything is kept or not.
+    pub copied: usize,
 }
 
 /// What stands before an operation of this number in the text of a list.
@@ -40,19 +42,21 @@ impl Log {
 
     pub(crate) fn new(alloc: Global, kept: bool) -> Log
         ensures kept { result.kept ≡ kept }
-        ensures empty { HasLog result [] }
+        ensures empty { HasLog result [] × (result.copied ≡ 0) }
     {
         Log {
             alloc,
             kept,
             texts: Vec::new(alloc),
             size: 2,
+            copied: 0,
         }
     }
 
     fn push(&mut self, undo: &Undo) -> Result<(), AllocError>
         ensures kept { IfOk result (λ none. self.new.kept ≡ self.old.kept) }
         ensures logged { IfOk result (λ none. AreLogged self.old (undo.now ∷ []) self.new) }
+        ensures counted { IfOk result (λ none. self.new.copied ≡ self.old.copied) }
     {
         let text = undo.to_text(self.alloc)?;
         let comma = comma(self.texts.len()).len();
@@ -74,6 +78,7 @@ impl Log {
         ensures same { IfOk result (λ none. draft_text draft.new ≡ draft_text draft.old) }
         ensures logs { IfOk result (λ none. Logs self.old (λ us. (u : Undo) × (us ≡ u ∷ [])
             × TakesBack (draft_text draft.old) (tokens_of path.entry) u) self.new) }
+        ensures counted { IfOk result (λ none. self.new.copied ≡ self.old.copied) }
     {
         if !self.kept {
             return Ok(());
@@ -97,6 +102,7 @@ impl Log {
         ensures logs { IfOk result (λ none. (i v : Json) → Says (draft_text draft.old) i
             → tree_at (tokens_of path.entry) i ≡ Some v
             → Logs self.old (PutsBack exchanged (draft_text draft.old) (tokens_of path.entry)) self.new) }
+        ensures counted { IfOk result (λ none. self.new.copied ≡ self.old.copied) }
     {
         if !self.kept {
             return Ok(());

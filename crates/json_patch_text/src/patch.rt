@@ -141,12 +141,13 @@ pub fn patch_text(alloc: Global, text: &str, patch: &str) -> Result<String, Patc
 /// Each text that the operations leave, one after another, may have at most `limits.depth` objects and
 /// arrays open at once. It may have at most as many bytes as `text` and `patch` together, and
 /// `limits.copied` bytes more: so much the `copy`s may add, with the whitespace, commas and names that go
-/// with a new member or element.
+/// with a new member or element. All `copy`s together may copy at most as many bytes, also where what
+/// they put in is exchanged or removed again.
 ///
-/// The first operation that would leave another text is `Over`, with its number: `TooDeep` where that
-/// text nests deeper, and else `TooMuch`. An operation that is refused leaves no text, and is never
-/// over. Where `text` itself nests deeper than `limits.depth`, it is refused as a document that is too
-/// deep.
+/// The first operation that would leave another text, or with which more is copied, is `Over`, with its
+/// number: `TooDeep` where that text nests deeper, and else `TooMuch`. An operation that is refused leaves
+/// no text, and is never over. Where `text` itself nests deeper than `limits.depth`, it is refused as a
+/// document that is too deep.
 ///
 /// ```rust
 /// let text = r#"{"a": [1, 2]}"#;

@@ -66,7 +66,7 @@ pub fn record_text(alloc: Global, text: &str, patch: &str) -> Result<Recorded, P
 
 /// The text with the patch applied, and the way back, as [`record_text`] has them, within limits.
 ///
-/// Each text that the operations leave is bounded as
+/// Each text that the operations leave, and what they copy, is bounded as
 /// [`patch_text_within`](crate::patch_text_within) bounds it. The undo may have as many bytes as such a
 /// text: what a list of `move`s displaces again and again counts each time. The first operation with
 /// which this isn't so is `Over`. The undo nests two levels deeper than the texts at the most, so with

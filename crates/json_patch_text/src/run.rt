@@ -2,7 +2,7 @@
 
 ghost use Rattle.std.specs.Prelude.{◌≡◌, [], true, List, IfOk, IfErr};
 ghost use Rattle.std.specs.String.{string_bytes};
-ghost use Rattle.json_patch_text.specs.Bounded.{AreMadeUnder, IsLoggedUnder, IsRunFaultUnder, IsShort, IsUnder};
+ghost use Rattle.json_patch_text.specs.Bounded.{AreMadeUnder, AreShort, IsLoggedUnder, IsRunFaultUnder, IsUnder};
 ghost use Rattle.json_patch_text.specs.Logs.{HasLog};
 ghost use Rattle.json_patch_text.specs.Operations.{TreeOperation};
 ghost use Rattle.json_patch_text.specs.Run.{AcceptsText};
@@ -56,12 +56,13 @@ pub(crate) fn run(
     operations: &[TextOperation],
     bounds: Option<Bounds>,
 ) -> Result<String, TextLimitFault>
-    requires empty { HasLog log.old [] }
-    requires under { IsUnder bounds (text_in text) × (log.old.kept ≡ true → IsShort bounds []) }
+    requires empty { HasLog log.old [] × (log.old.copied ≡ 0) }
+    requires under { IsUnder bounds (text_in text) × (log.old.kept ≡ true → AreShort bounds [] 0) }
     requires written { (ops : List TreeOperation) × AreWrittenAs operations.now ops }
     ensures accepted { IfOk result (λ new. (ops : List TreeOperation)
         → AreWrittenAs operations.now ops → AcceptsText (text_in text.entry) ops (string_bytes new)) }
-    ensures made { IfOk result (λ new. AreMadeUnder bounds (text_in text.entry) operations.now (string_bytes new)) }
+    ensures made { IfOk result (λ new.
+        AreMadeUnder bounds (text_in text.entry) operations.now (string_bytes new) log.new.copied) }
     ensures logged { IfOk result (λ new. (log.new.kept ≡ log.old.kept)
         × IsLoggedUnder bounds (text_in text.entry) operations.now (string_bytes new) log.new) }
     ensures fault { IfErr result (λ fault. (ops : List TreeOperation) → AreWrittenAs operations.now ops

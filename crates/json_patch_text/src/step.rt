@@ -5,8 +5,8 @@ ghost use Rattle.std.specs.Bool.{Decides};
 ghost use Rattle.json.specs.Json.{Json};
 ghost use Rattle.jsonptr.specs.Pointers.{tokens_of};
 ghost use Rattle.json_patch_text.specs.Drafts.{IsDraft, draft_text};
-ghost use Rattle.json_patch_text.specs.Made.{IsCopied, IsLeft, IsMadeIn, IsMoved, IsNoDeeper, IsNotMade, IsStepped, IsStopped};
-ghost use Rattle.json_patch_text.specs.Logs.{Logs};
+ghost use Rattle.json_patch_text.specs.Made.{Copies, HasBytesAt, IsCopied, IsLeft, IsMadeIn, IsMoved, IsNoDeeper, IsNotMade, IsStepped, IsStopped};
+ghost use Rattle.json_patch_text.specs.Logs.{Counts, Logs};
 ghost use Rattle.json_patch_text.specs.Operations.{TreeOperation, copy as copy_of, move as move_of, test as test_of};
 ghost use Rattle.json_patch_text.specs.Step.{ComesTo};
 ghost use Rattle.json_patch_text.specs.TextOperations.{IsWrittenAs};
@@ -59,6 +59,7 @@ fn added(
         (IsNotMade (HasNoPlace (draft_text draft.old) (tokens_of path.entry))) }
     ensures logs { IfOk result (λ deeper. Logs log.old (λ us. (u : Undo) × (us ≡ u ∷ [])
         × TakesBack (draft_text draft.old) (tokens_of path.entry) u) log.new) }
+    ensures counted { IfOk result (λ deeper. log.new.copied ≡ log.old.copied) }
 {
     log.added(draft, path)?;
     if draft.add(log.alloc, path, value)? {
@@ -79,6 +80,7 @@ fn removed(log: &mut Log, draft: &mut Draft, path: Pointer) -> Result<bool, Step
         (IsNotMade (HasNothingToRemove (draft_text draft.old) (tokens_of path.entry))) }
     ensures logs { IfOk result (λ deeper.
         Logs log.old (PutsBack false (draft_text draft.old) (tokens_of path.entry)) log.new) }
+    ensures counted { IfOk result (λ deeper. log.new.copied ≡ log.old.copied) }
 {
     log.displaced(draft, path, false)?;
     if draft.remove(log.alloc, path)? {
@@ -106,6 +108,7 @@ fn replaced(
         (IsNotMade (LeadsNowhere (draft_text draft.old) (tokens_of path.entry))) }
     ensures logs { IfOk result (λ deeper.
         Logs log.old (PutsBack true (draft_text draft.old) (tokens_of path.entry)) log.new) }
+    ensures counted { IfOk result (λ deeper. log.new.copied ≡ log.old.copied) }
 {
     log.displaced(draft, path, true)?;
     if draft.replace(log.alloc, path, value)? {
@@ -197,10 +200,16 @@ fn copied(
         → IsStopped i (copy_of (tokens_of from.entry) (tokens_of path.entry)) fault) }
     ensures logs { IfOk result (λ deeper. Logs log.old (λ us. (u : Undo) × (us ≡ u ∷ [])
         × TakesBack (draft_text draft.old) (tokens_of path.entry) u) log.new) }
+    ensures counted { IfOk result (λ deeper.
+        Counts log.old (HasBytesAt (draft_text draft.old) (tokens_of from.entry)) log.new) }
 {
     let Some(copy) = draft.value(log.alloc, from)? else {
         return Err(StepFault::Refused(PatchErrorKind::InvalidFromPointer));
     };
+    let Some(copied) = log.copied.checked_add(copy.len()) else {
+        return Err(StepFault::Memory(AllocError));
+    };
+    log.copied = copied;
     let value = CheckedText::known(copy.as_str());
     added(log, draft, path, value, levels)
 }
@@ -226,6 +235,7 @@ fn moved(
         → IsStopped i (move_of (tokens_of from.entry) (tokens_of path.entry)) fault) }
     ensures logs { IfOk result (λ deeper. Logs log.old
         (IsMovedBack (draft_text draft.old) (tokens_of from.entry) (tokens_of path.entry)) log.new) }
+    ensures counted { IfOk result (λ deeper. log.new.copied ≡ log.old.copied) }
 {
     if is_inside(path, from) {
         return Err(StepFault::Refused(PatchErrorKind::CannotMoveInsideItself));
@@ -260,6 +270,8 @@ pub(crate) fn step(
     ensures depth { IfOk result (IsNoDeeper levels (draft_text draft.old) (draft_text draft.new)) }
     ensures logs { IfOk result (λ deeper.
         Logs log.old (IsTakenFrom (draft_text draft.old) operation.now) log.new) }
+    ensures counted { IfOk result (λ deeper.
+        Counts log.old (Copies (draft_text draft.old) operation.now) log.new) }
 {
     match operation {
         TextOperation::Add(path, value) => {

@@ -123,8 +123,8 @@ record_failure l document patch (within.Patch (run.Memory m)) few utf8 fits why 
 
 -- the text that is patched within limits is within them itself
 flat_at_first : (l : Limits) (text patch new : List ℕ) → IsPatchedWithin l text patch new → nesting text ≤ l.depth
-flat_at_first l text patch new ([], says, made) = made.0.0
-flat_at_first l text patch new (o ∷ os, says, made) = made.0.0
+flat_at_first l text patch new ([], n, says, made) = made.0.0.0
+flat_at_first l text patch new (o ∷ os, n, says, made) = made.0.0.0
 
 pub is_patched : (l : Limits) (document patch d p new : List ℕ) → d ≡ document → p ≡ patch → IsUtf8 document → IsUtf8 new
     → AcceptsPatch d p new → IsPatchedText d p new → IsPatchedWithin l d p new → IsTextWithin l (most_bytes l d p) new → IsPatched l document patch new
@@ -148,8 +148,8 @@ is_failure l document patch d p fault failure told same same_patch few utf8 fits
 -- ---- a patch that is recorded
 
 flat_when_recorded : (l : Limits) (text patch new undo : List ℕ) → IsRecordedWithin l text patch new undo → nesting text ≤ l.depth
-flat_when_recorded l text patch new undo ([], us, has, taken, is) = taken.0.0.0
-flat_when_recorded l text patch new undo (o ∷ os, us, has, taken, is) = taken.0.0.0
+flat_when_recorded l text patch new undo ([], us, n, has, taken, is) = taken.0.0.0
+flat_when_recorded l text patch new undo (o ∷ os, us, n, has, taken, is) = taken.0.0.0
 
 pub is_recorded : (l : Limits) (document patch d p new undo : List ℕ) → d ≡ document → p ≡ patch → IsUtf8 document → IsUtf8 new → IsUtf8 undo → l.depth ≤ 124
     → AcceptsPatch d p new → IsPatchedText d p new → IsWayBack d p new undo → AcceptsPatch new undo d → IsRecordedWithin l d p new undo

@@ -53,8 +53,8 @@ class TooDeep(JsonPatchException, ValueError):
 
 class OverLimit(JsonPatchException):
     """An operation of a patch is over the limits, and nothing is changed: it would put a value too deep
-    (`kind` is TooDeep), or leave too long a text or inverse (TooMuch), or in a Document and in place copy too much,
-    with what was copied before. A merge that would leave too long a text has no operation."""
+    (`kind` is TooDeep), or leave too long a text or inverse (TooMuch), or copy too much, with what was
+    copied before. A merge that would leave too long a text has no operation."""
 
 
 class NoMergePatch(JsonPatchException, ValueError):

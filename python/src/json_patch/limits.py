@@ -9,7 +9,8 @@ MOST_BYTES = 500_000
 class Limits:
     """What a call keeps to, for patches of strangers: no document has more than `depth` levels, of which
     1 has none and [[1]] has two, and what a call makes has at most `bytes` bytes more than the texts that
-    are handed to the library: the document after each operation, a merged one, and an inverse.
+    are handed to the library: the document after each operation, a merged one, and an inverse. All copies
+    of one patch together copy no more.
 
     In a Document and in place `bytes` is what the copies of one patch may add. There a value counts one for
     each value in it, itself included, and one for each byte of a string or a member's name; where the patch is

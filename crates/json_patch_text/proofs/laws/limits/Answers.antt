@@ -14,7 +14,7 @@ pub returns-clause-one_kind : goal.returns-clause-one_kind
 returns-clause-one_kind c = one_kind
 
 pub returns-clause-made : goal.returns-clause-made
-returns-clause-made c l most text new os h = (within_made l most text os new h, last_within l most text os new h)
+returns-clause-made c l most n text new os h = (within_made l most text os new n h.0, last_within l most text os new n h.0, h.1)
 
 pub returns-clause-not_refused : goal.returns-clause-not_refused
 returns-clause-not_refused c = over_accepted

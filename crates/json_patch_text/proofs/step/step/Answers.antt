@@ -1,8 +1,10 @@
+use Rattle.std.proofs.Common.{refl, subst, sym}
 use Rattle.jsonptr.specs.Pointers.{tokens_of}
 use Rattle.json_patch_text.proofs.Nested.{removed_no_deeper}
-use Rattle.json_patch_text.proofs.Stepped.{add_stepped, copy_stepped, move_stepped, remove_stepped, replace_stepped, taken_add, taken_copy, taken_move, taken_remove, taken_replace, test_left}
+use Rattle.json_patch_text.proofs.Stepped.{add_stepped, copies_none, copies_some, copy_stepped, move_stepped, remove_stepped, replace_stepped, taken_add, taken_copy, taken_move, taken_remove, taken_replace, test_left}
 use Rattle.json_patch_text.proofs.Logged.{logs_as}
 use Rattle.json_patch_text.specs.Drafts.{draft_text}
+use Rattle.json_patch_text.specs.Made.{Copies}
 use Rattle.json_text.specs.Checked.{text_in}
 use Rattle.json_patch_text.proofs.step.step.Goals as goal
 
@@ -57,3 +59,18 @@ returns-in-Move-clause-logs c =
 pub returns-in-Copy-clause-logs : goal.returns-in-Copy-clause-logs
 returns-in-Copy-clause-logs c =
     logs_as c.args.log.now c.copied.new.log c.copied.result _ _ (λ us back. taken_copy (draft_text c.args.draft.now) c.args.operation.now c.in-Copy.from (tokens_of c.as_pointer-in-Copy-2.result) c.in-Copy.path us c.in-Copy.is c.as_pointer-in-Copy-2.ensures back) c.copied.ensures.logs
+
+pub returns-in-Add-clause-counted : goal.returns-in-Add-clause-counted
+returns-in-Add-clause-counted c = copies_none (draft_text c.args.draft.now) c.args.operation.now c.args.log.now c.added.new.log c.added.result (subst (λ o. Copies (draft_text c.args.draft.now) o 0) (sym c.in-Add.is) refl) c.added.ensures.counted
+
+pub returns-in-Remove-clause-counted : goal.returns-in-Remove-clause-counted
+returns-in-Remove-clause-counted c = copies_none (draft_text c.args.draft.now) c.args.operation.now c.args.log.now c.removed.new.log c.removed.result (subst (λ o. Copies (draft_text c.args.draft.now) o 0) (sym c.in-Remove.is) refl) c.removed.ensures.counted
+
+pub returns-in-Replace-clause-counted : goal.returns-in-Replace-clause-counted
+returns-in-Replace-clause-counted c = copies_none (draft_text c.args.draft.now) c.args.operation.now c.args.log.now c.replaced.new.log c.replaced.result (subst (λ o. Copies (draft_text c.args.draft.now) o 0) (sym c.in-Replace.is) refl) c.replaced.ensures.counted
+
+pub returns-in-Move-clause-counted : goal.returns-in-Move-clause-counted
+returns-in-Move-clause-counted c = copies_none (draft_text c.args.draft.now) c.args.operation.now c.args.log.now c.moved.new.log c.moved.result (subst (λ o. Copies (draft_text c.args.draft.now) o 0) (sym c.in-Move.is) refl) c.moved.ensures.counted
+
+pub returns-in-Copy-clause-counted : goal.returns-in-Copy-clause-counted
+returns-in-Copy-clause-counted c = copies_some (draft_text c.args.draft.now) c.args.operation.now c.in-Copy.from (tokens_of c.as_pointer-in-Copy.result) c.in-Copy.path c.args.log.now c.copied.new.log c.copied.result c.in-Copy.is c.as_pointer-in-Copy.ensures c.copied.ensures.counted
