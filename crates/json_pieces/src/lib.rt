@@ -17,6 +17,7 @@
 
 mod edit;
 mod index;
+mod means;
 mod node;
 mod opening;
 mod pieces;
