@@ -68,9 +68,8 @@ module _ (b : Bool) (hollow t : List ℕ) (n : ℕ) (cs : List Child) (ps : List
     right = right_below m.way t P (tree_in b cs) s.child_tree s.is m.right;
   }
 
-  pub lift_looks : (P : Pointer) (found : Option Shape) → (s : Stands b t n cs ps) → Looks (value_at n ps) s.child_tree P x found → Looks (row_text b hollow ps) (tree_in b cs) (t ∷ P) (row_text b hollow (with_value n x ps)) found
-  lift_looks P found s (same, shape) =
-      (s.split.put hollow x ∙ ap (λ y. s.split.before ++ (y ++ s.split.behind)) same ∙ sym (s.split.whole hollow), shape ∙ sym (ap (option_map shape_of) (below t P (tree_in b cs) s.child_tree (tree_at P s.child_tree) s.is refl)))
+  pub lift_looks : (P : Pointer) (found : Option Shape) → (s : Stands b t n cs ps) → Looks s.child_tree P found → Looks (tree_in b cs) (t ∷ P) found
+  lift_looks P found s shape = shape ∙ sym (ap (option_map shape_of) (below t P (tree_in b cs) s.child_tree (tree_at P s.child_tree) s.is refl))
 
 -- what holds of the child, M, makes what holds of its object or array, N
 pub lift : (b : Bool) (hollow t : List ℕ) (n : ℕ) (cs : List Child) (ps : List Piece) (x : List ℕ) (M N : List ℕ → Json → List ℕ → Type 0) → AllSuit b cs ps → IsWhitespace hollow → n < length ps → IsNumberOf b cs t n

@@ -1,12 +1,12 @@
 -- What a value is, and what stands where a pointer leads.
-use Rattle.std.proofs.Common.{◌≡◌, ℕ, ◌+◌, ◌<◌, Bool, true, false, List, ◌∷◌, ◌++◌, length, get_or, map, Option, None, Result, Ok, Err, OnOk, option_and_then, refl, sym, ap, ◌∙◌, subst}
+use Rattle.std.proofs.Common.{◌≡◌, ℕ, ◌+◌, ◌<◌, Bool, true, false, List, ◌∷◌, ◌++◌, length, get_or, map, Option, None, Result, option_and_then, refl, sym, ap, ◌∙◌, subst}
 use Rattle.std.specs.Prelude.{IfOk, option_map, slice_set}
 use Rattle.std.specs.declared.alloc.AllocError.{AllocError}
 use Rattle.std.proofs.lemmas.Result.{IfOk-weaker}
 use Rattle.json.specs.Json.{Json}
 use Rattle.json_lexemes.specs.Spelled.{Says}
 use Rattle.json_lexemes.proofs.Nests.{one_tree}
-use Rattle.json_text.specs.Cuts.{AllSuit, IsWhitespace, row_text}
+use Rattle.json_text.specs.Cuts.{AllSuit, IsWhitespace}
 use Rattle.json_text.specs.Less.{IsNumberOf}
 use Rattle.json_text.specs.Listing.{shape_of}
 use Rattle.json_text.specs.Pointed.{child, tree_at}
@@ -23,7 +23,7 @@ use Rattle.json_pieces.proofs.Calls.{says_around}
 use Rattle.json_pieces.proofs.Lifts.{lift_looks}
 use Rattle.json_pieces.proofs.Lists.{pieces_in}
 use Rattle.json_pieces.proofs.Rows.Says.{row_says}
-use Rattle.json_pieces.proofs.Walks.{set_is_sound, set_makes, value_whole}
+use Rattle.json_pieces.proofs.Walks.{set_is_sound, set_makes}
 
 -- a row is of the one shape or of the other
 in_object : (cs : List Child) (b : Bool) → b ≡ true → shape_of (tree_in b cs) ≡ Object
@@ -45,29 +45,22 @@ array_shape r h e j says = sym (in_array h.0.cs r.named e) ∙ ap shape_of (row_
 
 -- no child has the name
 pub none_looked : (t k : List ℕ) (P : Pointer) (r : Row) → IsSound (row_view r) → k ≡ t → ((cs : List Child) → AllSuit r.named cs (pieces_in (items_of r.seams.all) (items_of r.values)) → child k (tree_in r.named cs) ≡ None)
-    → (j : Json) → Says (tree_text (row_view r)) j → Looks (tree_text (row_view r)) j (t ∷ P) (tree_text (row_view r)) None
+    → (j : Json) → Says (tree_text (row_view r)) j → Looks j (t ∷ P) None
 none_looked t k P r h is none j says =
     let nothing : child t j ≡ None = subst (λ y. child y j ≡ None) is (subst (λ i. child k i ≡ None) (row_tree r h j says) (none h.0.cs h.0.suit)) in
-    (refl, sym (ap (λ o. option_map shape_of (option_and_then (tree_at P) o)) nothing))
+    sym (ap (λ o. option_map shape_of (option_and_then (tree_at P) o)) nothing)
 
 -- the value of this number was looked at, and is w since
 module _ (r : Row) (n : ℕ) (v w : Node) (P : Pointer) (h : IsSound (row_view r)) (l : n < length (items_of r.values)) (e : v ≡ get_or (items_of r.values) n v) where
-  pub still_sound : (c : Result (Option Shape) AllocError) → OnOk c (IsWhole (view w)) → IfOk c (λ found. (j : Json) → Says (tree_text (view v)) j → Looks (tree_text (view v)) j P (tree_text (view w)) found)
-      → OnOk c (IsSound (wide r.named r.length (text_bytes r.hollow) (parts_of (items_of r.seams.all) (map view (slice_set (items_of r.values) n w)))))
-  still_sound (Ok found) whole looked =
-      let (_, (j, is)) = value_whole r n v h l e in
-      let (same, _) = looked j is.0 in
-      set_is_sound r n v w h l e r.length whole (ap (λ s. r.length + length s) (sym same))
-  still_sound (Err failed) whole looked = tt
+  pub still_sound : IsWhole (view w) → tree_text (view w) ≡ tree_text (view v) → IsSound (wide r.named r.length (text_bytes r.hollow) (parts_of (items_of r.seams.all) (map view (slice_set (items_of r.values) n w))))
+  still_sound whole same = set_is_sound r n v w h l e r.length whole (ap (λ s. r.length + length s) (sym same))
 
   pub looked_below : (c : Result (Option Shape) AllocError) (t k : List ℕ) → k ≡ t → ((cs : List Child) → AllSuit r.named cs (pieces_in (items_of r.seams.all) (items_of r.values)) → IsNumberOf r.named cs k n)
-      → IfOk c (λ found. (j : Json) → Says (tree_text (view v)) j → Looks (tree_text (view v)) j P (tree_text (view w)) found)
-      → IfOk c (λ found. (j : Json) → Says (tree_text (row_view r)) j → Looks (tree_text (row_view r)) j (t ∷ P) (row_text r.named (text_bytes r.hollow) (pieces_in (items_of r.seams.all) (slice_set (items_of r.values) n w))) found)
+      → IfOk c (λ found. (j : Json) → Says (tree_text (view v)) j → Looks j P found) → IfOk c (λ found. (j : Json) → Says (tree_text (row_view r)) j → Looks j (t ∷ P) found)
   looked_below c t k is names =
-      IfOk-weaker c _ _ (λ found. set_makes r n v w h l e (λ text j new. Looks text j P new found) (λ text j new. Looks text j (t ∷ P) new found) t k is names (λ cs s. lift_looks r.named (text_bytes r.hollow) t n cs _ _ P found s))
+      IfOk-weaker c _ _ (λ found. set_makes r n v w h l e (λ text j new. Looks j P found) (λ text j new. Looks j (t ∷ P) found) t k is names (λ cs s. lift_looks r.named (text_bytes r.hollow) t n cs _ (tree_text (view w)) P found s))
 
 -- with the whitespace around it
-pub looks_around : (a b s new : List ℕ) (P : Pointer) (found : Option Shape) → IsWhitespace a → IsWhitespace b → (i : Json) × Says s i → ((j : Json) → Says s j → Looks s j P new found) → (j : Json) → Says (a ++ (s ++ b)) j → Looks (a ++ (s ++ b)) j P (a ++ (new ++ b)) found
-looks_around a b s new P found h k (i, root) looked j says =
-    let (same, shape) = looked i root in
-    (ap (λ x. a ++ (x ++ b)) same, subst (λ x. found ≡ option_map shape_of (tree_at P x)) (one_tree (a ++ (s ++ b)) i j (says_around a s b i h k root) says) shape)
+pub looks_around : (a b s : List ℕ) (P : Pointer) (found : Option Shape) → IsWhitespace a → IsWhitespace b → (i : Json) × Says s i → ((j : Json) → Says s j → Looks j P found) → (j : Json) → Says (a ++ (s ++ b)) j → Looks j P found
+looks_around a b s P found h k (i, root) looked j says =
+    subst (λ x. found ≡ option_map shape_of (tree_at P x)) (one_tree (a ++ (s ++ b)) i j (says_around a s b i h k root) says) (looked i root)

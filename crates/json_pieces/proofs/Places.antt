@@ -1,5 +1,5 @@
 -- The index of the names: it stays that of its seams.
-use Rattle.std.proofs.Common.{◌≡◌, ℕ, zero, suc, ◌+◌, ◌<◌, ◌≤◌, List, [], ◌∷◌, ◌++◌, length, take, get_or, Option, Some, None, String, refl, sym, ap, ap₂, ◌∙◌, subst, arith}
+use Rattle.std.proofs.Common.{◌≡◌, ℕ, zero, suc, ◌+◌, ◌<◌, ◌≤◌, List, [], ◌∷◌, ◌++◌, length, take, get_or, map, Option, Some, None, String, refl, sym, ap, ap₂, ◌∙◌, subst, arith}
 use Rattle.std.specs.Prelude.{slice_set, IfSome, OnOk, Result}
 use Rattle.std.specs.declared.alloc.AllocError.{AllocError}
 use Rattle.std.specs.declared.alloc.Global.{Global}
@@ -7,6 +7,7 @@ use Rattle.std.specs.List.{insert, remove}
 use Rattle.std.specs.Coded.{le_prop}
 use Rattle.std.specs.String.{string_bytes}
 use Rattle.std.proofs.Math.Logic.{∥∥₁_elim, ∥∥₁_map}
+use Rattle.std.proofs.Math.Seq.{map-set_same}
 use Rattle.std.proofs.Props.{props}
 use Rattle.std.proofs.lemmas.List.{drop_all, take_all, take_more}
 use Rattle.std.proofs.lemmas.Result.{on_ok_weaker}
@@ -16,8 +17,12 @@ use Rattle.json_text.specs.Rows.{Child, last_named}
 use Rattle.long_vec.specs.Items.{items_of}
 use Rattle.json_pieces.specs.Marks.{Fits, names_of}
 use Rattle.json_pieces.specs.Names.{Agrees, AreNames, AreSaid, IsIndexOf, text_bytes}
+use Rattle.json_pieces.specs.Slots.{AreSwapped}
 use Rattle.json_pieces.specs.declared.index.NameIndex.{NameIndex}
+use Rattle.json_pieces.specs.declared.row.Slot.{Slot}
+use Rattle.json_pieces.specs.declared.row.Slot.TheVariants.{Hollow, Whitespace, Trail}
 use Rattle.json_pieces.specs.declared.seams.Seam.{Seam}
+use Rattle.json_pieces.specs.declared.text.Text.{Text}
 use Rattle.json_pieces.proofs.Marks.{marks_count}
 
 -- ---- the names of seams
@@ -95,3 +100,45 @@ taken ss i x y fits h = ∥∥₁_map h (λ p. (remove p.0 i, said_taken ss p.0 
 pub still_agrees : (ss : List Seam) (o : Option NameIndex) (i : ℕ) (s t : Seam) → s ≡ get_or ss i s → t.name ≡ s.name → Agrees ss o → Agrees (slice_set ss i t) o
 still_agrees ss None i s t e n h = tt
 still_agrees ss (Some x) i s t e n h = ∥∥₁_map h (λ p. (p.0, said_set ss p.0 i s t e n p.1, p.2))
+
+-- ---- names alone count
+
+abbrev names : List Seam → List Text
+names = map (λ s. s.name)
+
+said_alike : (ss ts : List Seam) (ns : List (List ℕ)) → names ss ≡ names ts → AreSaid ss ns → AreSaid ts ns
+said_alike [] [] ns e h = h
+said_alike [] (t ∷ ts) ns e h = absurd (omega (arith, ap length e))
+said_alike (s ∷ ss) [] ns e h = absurd (omega (arith, ap length e))
+said_alike (s ∷ ss) (t ∷ ts) [] e h = absurd h
+said_alike (s ∷ ss) (t ∷ ts) (n ∷ ns) e h =
+    let first : s.name ≡ t.name = cc in
+    let others : names ss ≡ names ts = cc in
+    (subst (λ x. (l : List ℕ) → IsTextOf (text_bytes x) (string l) → l ≡ n) first h.0, said_alike ss ts ns others h.1)
+
+agrees_alike : (ss ts : List Seam) (o : Option NameIndex) → names ss ≡ names ts → Agrees ss o → Agrees ts o
+agrees_alike ss ts None e h = tt
+agrees_alike ss ts (Some x) e h = ∥∥₁_map h (λ p. (p.0, said_alike ss ts p.0 e p.1, p.2))
+
+insert_names : (ss ts : List Seam) (n : ℕ) (s t : Seam) → names ss ≡ names ts → s.name ≡ t.name → names (insert ss n s) ≡ names (insert ts n t)
+insert_names ss ts n s t e f = named ss n s ∙ ap₂ (λ ns x. insert ns n x) e f ∙ sym (named ts n t)
+  where
+    named : (ss : List Seam) (n : ℕ) (s : Seam) → names (insert ss n s) ≡ insert (names ss) n s.name
+    named [] zero s = refl
+    named [] (suc n) s = refl
+    named (x ∷ ss) zero s = refl
+    named (x ∷ ss) (suc n) s = ap (λ ns. x.name ∷ ns) (named ss n s)
+
+set_names : (ss : List Seam) (n : ℕ) (s t : Seam) → s ≡ get_or ss n s → t.name ≡ s.name → names (slice_set ss n t) ≡ names ss
+set_names ss n s t e f = map-set_same (λ x. x.name) ss n t s (f ∙ ap (λ x. x.name) e)
+
+swapped_names : (slot : Slot) (s t : Seam) (hollow hollow2 : Text) (olds news : List Seam) → AreSwapped slot s hollow olds t hollow2 news → (names olds ≡ names news) × (s.name ≡ t.name)
+swapped_names Hollow s t hollow hollow2 olds news h = (ap names (sym h.2), sym (ap (λ x. x.name) h.0))
+swapped_names (Whitespace n) s t hollow hollow2 olds news h = (sym (ap names h.2.left ∙ set_names olds n h.2.seam _ h.2.is refl), sym (ap (λ x. x.name) h.0))
+swapped_names (Trail n) s t hollow hollow2 olds news h = (sym (ap names h.2.left ∙ set_names olds n h.2.seam _ h.2.is refl), sym (ap (λ x. x.name) h.0))
+
+-- an index for a seam that comes in is that for the same with other whitespace
+pub still_indexed : (slot : Slot) (s t : Seam) (hollow hollow2 : Text) (olds news : List Seam) (n : ℕ) (o : Option NameIndex) → AreSwapped slot s hollow olds t hollow2 news → Agrees (insert olds n s) o → Agrees (insert news n t) o
+still_indexed slot s t hollow hollow2 olds news n o h a =
+    let k = swapped_names slot s t hollow hollow2 olds news h in
+    agrees_alike (insert olds n s) (insert news n t) o (insert_names olds news n s t k.0 k.1) a

@@ -13,3 +13,4 @@ pub mod Steps
 pub mod Takes
 pub mod Puts
 pub mod PutsIn
+pub mod Parted

@@ -1,9 +1,9 @@
 -- The walk to the place of an edit, and the edit there.
-use Rattle.std.proofs.Common.{◌≡◌, inl, inr, ℕ, zero, suc, ◌+◌, ◌<◌, ◌≤◌, Bool, true, false, List, [], ◌∷◌, length, get_or, map, Option, Some, None, option_and_then, refl, sym, ap, ◌∙◌, subst, arith, append-nil, Box}
+use Rattle.std.proofs.Common.{◌≡◌, inl, inr, ℕ, zero, suc, ◌+◌, ◌<◌, ◌≤◌, ◌^◌, Bool, true, false, List, [], ◌∷◌, length, get_or, map, Option, Some, None, option_and_then, refl, sym, ap, ◌∙◌, subst, arith, append-nil, Box}
 use Rattle.std.specs.Box.{with_value as boxed_with}
-use Rattle.std.specs.Prelude.{IfOk, IsSome, OnOk, Result, Ok, Err, String, slice_set}
+use Rattle.std.specs.Prelude.{IfOk, IsSome, OnErr, OnOk, Result, Ok, Err, String, slice_set}
 use Rattle.std.specs.declared.alloc.AllocError.{AllocError}
-use Rattle.std.proofs.lemmas.List.{set-set}
+use Rattle.std.proofs.lemmas.List.{get_or_default, set-get_or, set-set}
 use Rattle.std.proofs.lemmas.Result.{IfOk-weaker}
 use Rattle.std.specs.Borrow.{Bor}
 use Rattle.std.proofs.lemmas.Bool.{true≢false}
@@ -46,9 +46,42 @@ pub open_sound : (node : Node) (b : Box Row Global) → node ≡ Open b → IsWh
 open_sound node b e h = row_sound node b e h.0
 
 -- what is known of the value stays known where its row is seen as before
-pub row_stays : {E : Type 0} (c : Result Unit E) (P : Tree → Type 0) (old new : Node) (b : Box Row Global) (r : Row) → old ≡ Open b → new ≡ Open (boxed_with b r) → row_view r ≡ row_view b.value → P (view old) → OnOk c (P (view new))
-row_stays (Err e) P old new b r is left same h = tt
-row_stays (Ok x) P old new b r is left same h = subst P (ap view is ∙ view_open b ∙ sym same ∙ sym (ap view left ∙ view_open (boxed_with b r))) h
+pub row_stays : (P : Tree → Type 0) (old new : Node) (b : Box Row Global) (r : Row) → old ≡ Open b → new ≡ Open (boxed_with b r) → row_view r ≡ row_view b.value → P (view old) → P (view new)
+row_stays P old new b r is left same h = subst P (ap view is ∙ view_open b ∙ sym same ∙ sym (ap view left ∙ view_open (boxed_with b r))) h
+
+-- what holds whether or not there was memory
+pub known : {X E P : Type 0} (c : Result X E) → P → OnOk c P
+known (Ok x) p = p
+known (Err e) p = tt
+
+pub known_err : {X E P : Type 0} (c : Result X E) → P → OnErr c P
+known_err (Ok x) p = tt
+known_err (Err e) p = p
+
+pub settled : {X E P : Type 0} (c : Result X E) → IfOk c (λ x. P) → OnErr c P → P
+settled (Ok x) p q = p
+settled (Err e) p q = q
+
+pub sound_anyway : {X E : Type 0} (c : Result X E) (old new : Row) → IsSound (row_view old) → OnOk c (IsSound (row_view new)) → OnErr c (row_view new ≡ row_view old) → IsSound (row_view new)
+sound_anyway (Ok x) old new h sound same = sound
+sound_anyway (Err e) old new h sound same = subst IsSound (sym same) h
+
+-- a row was opened, and is another since
+module _ (old opened new : Node) (copy : Row) (r s : Box Row Global) (same : tree_text (view opened) ≡ tree_text (view old)) (copied : copy ≡ r.value) (is : opened ≡ Open r) (left : new ≡ Open s) where
+  old_text : tree_text (row_view copy) ≡ tree_text (view old)
+  old_text = ap (λ x. tree_text (row_view x)) copied ∙ ap tree_text (sym (ap view is ∙ view_open r)) ∙ same
+
+  new_text : tree_text (view new) ≡ tree_text (row_view s.value)
+  new_text = ap tree_text (ap view left ∙ view_open s)
+
+  pub open_text : tree_text (row_view s.value) ≡ tree_text (row_view copy) → tree_text (view new) ≡ tree_text (view old)
+  open_text e = new_text ∙ e ∙ old_text
+
+  pub open_grown : (room : ℕ) → IsSound (row_view copy) → IsSound (row_view s.value) → s.value.length ≤ copy.length + room → length (tree_text (view new)) ≤ length (tree_text (view old)) + room
+  open_grown room h k e = omega (arith, e, h.0.size, k.0.size, ap length old_text, ap length new_text)
+
+  pub open_room : (room : ℕ) → IsSound (row_view copy) → length (tree_text (view old)) + room < 2 ^ 64 → copy.length + room < 2 ^ 64
+  open_room room h e = omega (arith, e, h.0.size, ap length old_text)
 
 pub open_opened : (node : Node) (b : Box Row Global) → node ≡ Open b → IsOpened (view node)
 open_opened node b e = subst IsOpened (sym (ap view e ∙ view_open b)) tt
@@ -199,14 +232,19 @@ module _ (r : Row) (n : ℕ) (v w : Node) (h : IsSound (row_view r)) (l : n < le
       subst (λ y. N (tree_text (row_view r)) j y) (sym set_text)
       (lift r.named (text_bytes r.hollow) t n h.0.cs old x M N h.0.suit h.0.whitespace count (subst (λ y. IsNumberOf r.named h.0.cs y n) is (names h.0.cs h.0.suit)) (lifts h.0.cs) inner j says)
 
+  -- another with the same text
+  pub set_same : tree_text (view w) ≡ tree_text (view v) → row_text r.named (text_bytes r.hollow) (pieces_in (items_of r.seams.all) (slice_set (items_of r.values) n w)) ≡ tree_text (row_view r)
+  set_same same =
+      let old = pieces_in (items_of r.seams.all) (items_of r.values) in
+      set_text ∙ ap (λ x. row_text r.named (text_bytes r.hollow) (with_value n x old)) same
+      ∙ ap (row_text r.named (text_bytes r.hollow)) (sym (set_pieces (items_of r.seams.all) (items_of r.values) n v) ∙ ap (pieces_in (items_of r.seams.all)) (ap (slice_set (items_of r.values) n) e ∙ set-get_or (items_of r.values) n v))
+
+pub one_value : (vs : List Node) (n : ℕ) (v w : Node) → n < length vs → v ≡ get_or vs n v → w ≡ get_or vs n w → v ≡ w
+one_value vs n v w l e f = e ∙ get_or_default vs n v w l ∙ sym f
+
 -- a value that was out, and another in its place for that while
 pub put_back : (vs between new : List Node) (n : ℕ) (a w : Node) → between ≡ slice_set vs n a → new ≡ slice_set between n w → new ≡ slice_set vs n w
 put_back vs between new n a w e f = f ∙ ap (λ l. slice_set l n w) e ∙ set-set vs n a w
-
-pub value_set : (vs : List Node) (n : ℕ) (v w : Node) → n < length vs → v ≡ get_or (slice_set vs n w) n v → v ≡ w
-value_set [] n v w l e = absurd (omega (arith, l))
-value_set (x ∷ vs) zero v w l e = e
-value_set (x ∷ vs) (suc n) v w l e = value_set vs n v w (omega (arith, l)) e
 
 pub none_made : (e : Edit) (t k : List ℕ) (P : Pointer) (r : Row) → IsSound (row_view r) → k ≡ t → ((cs : List Child) → AllSuit r.named cs (pieces_in (items_of r.seams.all) (items_of r.values)) → child k (tree_in r.named cs) ≡ None) → (j : Json) → Says (tree_text (row_view r)) j → Makes e (tree_text (row_view r)) j (t ∷ P) (tree_text (row_view r)) None
 none_made e t k P r h is none j says =

@@ -8,3 +8,4 @@ pub mod PieceLists
 pub mod Whole
 pub mod Lengths
 pub mod Exchanges
+pub mod Slots

@@ -4,7 +4,7 @@
 //! a proof may speak of the text alone. But an object or an array on the way is passed over once, however
 //! many calls go through it, and the text is put together at the end: so a patch of a hundred operations
 //! on one array finds its elements once. For a single change use `json_text`. A call that runs out of
-//! memory leaves the pieces unfit for further use.
+//! memory leaves the text as it was, and the pieces can be used further.
 //!
 //! ```rust
 //! let mut pieces = Pieces::new(text);
@@ -17,6 +17,7 @@
 
 mod edit;
 mod index;
+mod means;
 mod node;
 mod opening;
 mod pieces;

@@ -140,11 +140,12 @@ fn ask(alloc: Global, row: &mut Row<'_>) -> Result<(), AllocError>
     Ok(())
 }
 
-/// Opens the value, if it is an object or an array, so that a token can be looked for in it.
+/// Opens the value, if it is an object or an array, so that a token can be looked for in it. Its
+/// text stays.
 pub(crate) fn open(alloc: Global, node: &mut Node<'_>) -> Result<(), AllocError>
     requires { IsWhole (view node.old) }
-    ensures whole { OnOk result (IsWhole (view node.new)) }
-    ensures text { OnOk result (tree_text (view node.new) ≡ tree_text (view node.old)) }
+    ensures whole { IsWhole (view node.new) }
+    ensures text { tree_text (view node.new) ≡ tree_text (view node.old) }
     ensures opened { OnOk result (IsOpened (view node.new)) }
 {
     if let Node::Open(row) = node {

@@ -1,6 +1,7 @@
 //! A JSON text in pieces.
 
 use crate::edit::{Edit, edit_at};
+use crate::means::Means;
 use crate::node::{Node, write};
 use crate::shape::shape_at;
 use crate::text::Text;
@@ -19,8 +20,8 @@ use std::alloc::{AllocError, Global};
 /// moves those of its block alone. It takes some 170 bytes of memory for each, and an index, by
 /// reckoning, some 110 for each name, with the name once more.
 ///
-/// A call that runs out of memory leaves pieces of which nothing is known: let them go. `replace` and
-/// `add` may leave a text that nests deeper than 128 levels, and the next call asks for one that
+/// A call that runs out of memory leaves the text as it was, and the pieces are fit for more. `replace`
+/// and `add` may leave a text that nests deeper than 128 levels, and the next call asks for one that
 /// doesn't; `json_text::laws::depths` tells how deep a text nests after a change.
 #[derive(Drop)]
 pub struct Pieces<'a> {
@@ -30,7 +31,7 @@ pub struct Pieces<'a> {
 }
 
 impl<'a> Pieces<'a> {
-    ghost use Rattle.std.specs.Prelude.{◌≡◌, None, IfOk, MatchOption, OnOk, length, option_map};
+    ghost use Rattle.std.specs.Prelude.{◌≡◌, None, IfOk, MatchOption, OnErr, length, option_map};
     ghost use Rattle.std.specs.String.{string_bytes};
     ghost use Rattle.json.specs.Json.{Json};
     ghost use Rattle.jsonptr.specs.Pointers.{tokens_left, tokens_of};
@@ -90,7 +91,7 @@ impl<'a> Pieces<'a> {
         Ok(out)
     }
 
-    /// Makes the edit, if what is left of it fits a `usize`.
+    /// Makes the edit, if the length of the text that it leaves fits a `usize`.
     fn edit(
         &mut self,
         alloc: Global,
@@ -99,16 +100,13 @@ impl<'a> Pieces<'a> {
     ) -> Result<Option<String>, AllocError>
         requires pieces { ArePieces self.old }
         requires ready { IsReady edit }
-        ensures pieces { OnOk result (ArePieces self.new) }
+        ensures pieces { ArePieces self.new }
+        ensures unchanged { OnErr result (text_of self.new ≡ text_of self.old) }
         ensures makes { IfOk result (λ found. (j : Json) → Says (text_of self.old) j
             → Makes edit.entry (text_of self.old) j (tokens_left path.entry) (text_of self.new) found) }
     {
-        let found = edit_at(alloc, &mut self.root, path, edit)?;
-        let around = self.before.len() + self.behind.len();
-        if self.root.len() > usize::MAX - around {
-            return Err(AllocError);
-        }
-        Ok(found)
+        let room = usize::MAX - self.len();
+        edit_at(Means { alloc, room }, &mut self.root, path, edit)
     }
 
     /// The text of the value where the pointer leads (RFC 6901, section 4), as it is written, in a new
@@ -122,8 +120,8 @@ impl<'a> Pieces<'a> {
     pub fn value(&mut self, alloc: Global, pointer: Pointer) -> Result<Option<String>, AllocError>
         requires pieces { ArePieces self.old }
         requires shallow { (j : Json) × IsShallowText (text_of self.old) j }
-        ensures pieces { IfOk result (λ found. ArePieces self.new) }
-        ensures kept { IfOk result (λ found. text_of self.new ≡ text_of self.old) }
+        ensures pieces { ArePieces self.new }
+        ensures kept { text_of self.new ≡ text_of self.old }
         ensures value { IfOk result (λ found. (j : Json) × IsShallowText (text_of self.old) j
             × MatchOption found (tree_at (tokens_of pointer.entry) j ≡ None)
             (λ s. IsWrittenAt (text_of self.old) j (tokens_of pointer.entry) (string_bytes s))) }
@@ -142,8 +140,8 @@ impl<'a> Pieces<'a> {
     pub fn shape(&mut self, alloc: Global, pointer: Pointer) -> Result<Option<Shape>, AllocError>
         requires pieces { ArePieces self.old }
         requires shallow { (j : Json) × IsShallowText (text_of self.old) j }
-        ensures pieces { IfOk result (λ found. ArePieces self.new) }
-        ensures kept { IfOk result (λ found. text_of self.new ≡ text_of self.old) }
+        ensures pieces { ArePieces self.new }
+        ensures kept { text_of self.new ≡ text_of self.old }
         ensures shape { IfOk result (λ found. (j : Json) → Says (text_of self.old) j
             → found ≡ option_map shape_of (tree_at (tokens_of pointer.entry) j)) }
     {
@@ -166,7 +164,8 @@ impl<'a> Pieces<'a> {
     ) -> Result<bool, AllocError>
         requires pieces { ArePieces self.old }
         requires shallow { (j : Json) × IsShallowText (text_of self.old) j }
-        ensures pieces { IfOk result (λ done. ArePieces self.new) }
+        ensures pieces { ArePieces self.new }
+        ensures unchanged { OnErr result (text_of self.new ≡ text_of self.old) }
         ensures replaced { IfOk result (Replaces (text_of self.old) (tokens_of pointer.entry) (text_in value.entry) (text_of self.new)) }
     {
         let (_, value, _) = split_off_whitespace(value.as_str());
@@ -186,7 +185,8 @@ impl<'a> Pieces<'a> {
     pub fn remove(&mut self, alloc: Global, pointer: Pointer) -> Result<bool, AllocError>
         requires pieces { ArePieces self.old }
         requires shallow { (j : Json) × IsShallowText (text_of self.old) j }
-        ensures pieces { IfOk result (λ done. ArePieces self.new) }
+        ensures pieces { ArePieces self.new }
+        ensures unchanged { OnErr result (text_of self.new ≡ text_of self.old) }
         ensures removed { IfOk result (Removes (text_of self.old) (tokens_of pointer.entry) (text_of self.new)) }
     {
         let Some((parent, last)) = pointer.split_back() else {
@@ -214,7 +214,8 @@ impl<'a> Pieces<'a> {
     ) -> Result<bool, AllocError>
         requires pieces { ArePieces self.old }
         requires shallow { (j : Json) × IsShallowText (text_of self.old) j }
-        ensures pieces { IfOk result (λ done. ArePieces self.new) }
+        ensures pieces { ArePieces self.new }
+        ensures unchanged { OnErr result (text_of self.new ≡ text_of self.old) }
         ensures added { IfOk result (Adds (text_of self.old) (tokens_of pointer.entry) (text_in value.entry) (text_of self.new)) }
     {
         let Some((parent, last)) = pointer.split_back() else {

@@ -1,14 +1,13 @@
 //! A member or an element found in a row, taken out of it or put into it.
 
-ghost use Rattle.std.specs.Prelude.{◌≡◌, ◌<◌, ◌≤◌, ◌+◌, ◌^◌, [], false, length, List, ℕ, true, Some, None, IfNone, IfOk, IfSome, MatchOption, OnOk};
+ghost use Rattle.std.specs.Prelude.{◌≡◌, ◌<◌, ◌≤◌, ◌+◌, ◌^◌, [], false, length, List, ℕ, true, Some, None, IfNone, IfOk, IfSome, MatchOption, OnErr, OnOk};
 ghost use Rattle.jsonptr.specs.Places.{place_of};
 ghost use Rattle.json.specs.Json.{Json};
 ghost use Rattle.json_pieces.specs.Edits.{PutsIn, TakesOut};
-ghost use Rattle.json_pieces.specs.Nodes.{IsSound, piece_with, row_pieces, row_view, text_bytes, tree_text};
-ghost use Rattle.json_pieces.specs.Lengths.{HasGained, HasLost, seam_length};
-ghost use Rattle.json_pieces.specs.PieceLists.{element_between, element_pushed, element_put, member_pushed, taken, with_value};
-ghost use Rattle.json_pieces.specs.declared.node.Node.TheVariants.{Closed};
-ghost use Rattle.std.specs.List.{insert};
+ghost use Rattle.json_pieces.specs.Nodes.{IsSound, row_pieces, row_view, text_bytes, tree_text};
+ghost use Rattle.json_pieces.specs.Lengths.{seam_length};
+ghost use Rattle.json_pieces.specs.Slots.{AreSwapped, IsPut, IsSlotOf, commas_of};
+ghost use Rattle.json_pieces.specs.PieceLists.{element_pushed, element_put, member_pushed, taken, with_value};
 ghost use Rattle.json.specs.Print.{quoted};
 ghost use Rattle.json_text.specs.Listing.{IsTextOf};
 ghost use Rattle.json_lexemes.specs.Spelled.{Says};
@@ -16,26 +15,16 @@ ghost use Rattle.json_text.specs.Cuts.{AllSuit};
 ghost use Rattle.json_text.specs.Less.{IsNumberOf};
 ghost use Rattle.json_text.specs.Pointed.{child};
 ghost use Rattle.json_text.specs.Rows.{Child, tree_in};
-ghost use Rattle.long_vec.specs.Items.{items_of};
+ghost use Rattle.long_vec.specs.Items.{capacity_of, items_of};
 
 use crate::node::{Node, Row};
+use crate::means::{Means, sum};
 use crate::seams::Seam;
 use crate::text::Text;
 use json_text::quoted;
 use jsonptr::index::Index;
-use std::alloc::{AllocError, Global};
+use std::alloc::AllocError;
 use std::mem;
-
-/// A length that fits a `usize`, or no memory.
-pub(crate) fn resized(length: usize, less: usize, more: usize) -> Result<usize, AllocError>
-    requires { less ≤ length }
-    ensures { IfOk result (λ new. new + less ≡ length + more) }
-{
-    match (length - less).checked_add(more) {
-        Some(length) => Ok(length),
-        None => Err(AllocError),
-    }
-}
 
 /// The number of the element that a token names, of so many.
 fn element_number(name: &str, count: usize) -> Option<usize>
@@ -84,6 +73,7 @@ fn take_before(row: &mut Row<'_>, number: usize, name: &str)
     ensures pieces { row_pieces row.new ≡ taken number (row_pieces row.old) }
     ensures some { taken number (row_pieces row.old) ≡ [] → text_bytes row.new.hollow ≡ [] }
     ensures sound { IsSound (row_view row.new) }
+    ensures shorter { row.new.length ≤ row.old.length }
 {
     let length = row.length;
     let mut seam = row.seams.remove(number, name);
@@ -102,6 +92,7 @@ fn take_last(row: &mut Row<'_>, number: usize, name: &str)
     ensures pieces { row_pieces row.new ≡ taken number (row_pieces row.old) }
     ensures some { taken number (row_pieces row.old) ≡ [] → text_bytes row.new.hollow ≡ [] }
     ensures sound { IsSound (row_view row.new) }
+    ensures shorter { row.new.length ≤ row.old.length }
 {
     let length = row.length;
     let mut seam = row.seams.remove(number, name);
@@ -119,6 +110,7 @@ fn take_alone(row: &mut Row<'_>, name: &str)
     ensures pieces { row_pieces row.new ≡ taken 0 (row_pieces row.old) }
     ensures some { taken 0 (row_pieces row.old) ≡ [] → text_bytes row.new.hollow ≡ [] }
     ensures sound { IsSound (row_view row.new) }
+    ensures shorter { row.new.length ≤ row.old.length }
 {
     row.seams.remove(0, name);
     row.values.remove(0);
@@ -136,6 +128,7 @@ fn take_part(row: &mut Row<'_>, number: usize, name: &str)
     ensures pieces { row_pieces row.new ≡ taken number (row_pieces row.old) }
     ensures some { taken number (row_pieces row.old) ≡ [] → text_bytes row.new.hollow ≡ [] }
     ensures sound { IsSound (row_view row.new) }
+    ensures shorter { row.new.length ≤ row.old.length }
 {
     if number < row.count() - 1 {
         take_before(row, number, name);
@@ -150,6 +143,7 @@ fn take_part(row: &mut Row<'_>, number: usize, name: &str)
 pub(crate) fn take(row: &mut Row<'_>, name: &str) -> bool
     requires { IsSound (row_view row.old) }
     ensures sound { IsSound (row_view row.new) }
+    ensures shorter { row.new.length ≤ row.old.length }
     ensures taken { (j : Json) → Says (tree_text (row_view row.old)) j
         → TakesOut (tree_text (row_view row.old)) j name.now (tree_text (row_view row.new)) result }
 {
@@ -168,7 +162,7 @@ pub(crate) fn take(row: &mut Row<'_>, name: &str) -> bool
 
 /// Puts a value in place of that of this number.
 pub(crate) fn put_value(
-    alloc: Global,
+    means: Means,
     row: &mut Row<'_>,
     number: usize,
     value: &str,
@@ -180,120 +174,127 @@ pub(crate) fn put_value(
     ensures pieces { OnOk result (row_pieces row.new ≡ with_value number value.now (row_pieces row.old)) }
     ensures hollow { OnOk result (row.new.hollow ≡ row.old.hollow) }
     ensures sound { OnOk result (IsSound (row_view row.new)) }
+    ensures grown { row.new.length ≤ row.old.length + means.room }
+    ensures unchanged { OnErr result (row_view row.new ≡ row_view row.old) }
 {
-    let length = resized(row.length, row.values.at(number).len(), value.len())?;
-    let made = Text::made(alloc, value)?;
+    let length = means.resized(row.length, row.values.at(number).len(), value.len())?;
+    let made = Text::made(means.alloc, value)?;
     row.values.exchange(number, Node::Closed(made));
     row.length = length;
     Ok(())
 }
 
-/// A length with a seam, a value and some commas more, or no memory.
-fn lengthened(
-    length: usize,
-    seam: &Seam<'_>,
-    value: usize,
-    commas: usize,
-) -> Result<usize, AllocError>
-    ensures { IfOk result (λ new. new ≡ length + (seam_length seam.now + value + commas)) }
+/// How many bytes a part and some commas have, or no memory.
+fn part_length(seam: &Seam<'_>, value: usize, commas: usize) -> Result<usize, AllocError>
+    ensures { IfOk result (λ new. new ≡ seam_length seam.now + value + commas) }
 {
-    let length = resized(length, 0, seam.whitespace.len())?;
-    let length = resized(length, 0, seam.name.len())?;
-    let length = resized(length, 0, seam.colons.len())?;
-    let length = resized(length, 0, seam.trail.len())?;
-    let length = resized(length, 0, value)?;
-    resized(length, 0, commas)
+    let length = sum(seam.whitespace.len(), seam.name.len())?;
+    let length = sum(length, seam.colons.len())?;
+    let length = sum(length, seam.trail.len())?;
+    let length = sum(length, value)?;
+    sum(length, commas)
 }
 
-/// Puts in a part before the one of this number, or behind the last, and as many commas.
+/// Where a part that comes into a row gets whitespace from, for some of its own.
+#[derive(Clone, Copy)]
+pub(crate) enum Slot {
+    /// What is behind it from between the brackets of an empty row.
+    Hollow,
+    /// What is before it from before the part of this number.
+    Whitespace(usize),
+    /// What is behind it from behind the part of this number.
+    Trail(usize),
+}
+
+impl Slot {
+    /// How many commas come with the part.
+    fn commas(self) -> usize
+        ensures { result ≡ commas_of self }
+    {
+        match self {
+            Slot::Hollow => 0,
+            Slot::Whitespace(_) => 1,
+            Slot::Trail(_) => 1,
+        }
+    }
+}
+
+/// Exchanges the whitespace in the slot for that of the seam.
+fn swap_at<'a>(row: &mut Row<'a>, slot: Slot, seam: &mut Seam<'a>)
+    requires { IsSlotOf slot (length (items_of row.old.seams.all)) }
+    ensures swapped { AreSwapped slot seam.old row.old.hollow (items_of row.old.seams.all) seam.new row.new.hollow (items_of row.new.seams.all) }
+    ensures named { row.new.named ≡ row.old.named }
+    ensures length { row.new.length ≡ row.old.length }
+    ensures values { row.new.values ≡ row.old.values }
+    ensures room { capacity_of row.new.seams.all ≡ capacity_of row.old.seams.all }
+{
+    match slot {
+        Slot::Hollow => mem::swap(&mut row.hollow, &mut seam.trail),
+        Slot::Whitespace(number) => row.seams.swap_whitespace(number, &mut seam.whitespace),
+        Slot::Trail(number) => row.seams.swap_trail(number, &mut seam.trail),
+    }
+}
+
+/// Puts in a part before the one of this number, or behind the last, with whitespace from the slot.
 fn put_part<'a>(
+    means: Means,
     row: &mut Row<'a>,
     number: usize,
-    seam: Seam<'a>,
-    value: Text<'a>,
-    commas: usize,
+    part: (Seam<'a>, Text<'a>),
+    slot: Slot,
 ) -> Result<(), AllocError>
     requires seams { number ≤ length (items_of row.old.seams.all) }
     requires values { number ≤ length (items_of row.old.values) }
-    ensures named { OnOk result (row.new.named ≡ row.old.named) }
-    ensures hollow { OnOk result (row.new.hollow ≡ row.old.hollow) }
-    ensures seams { OnOk result (items_of row.new.seams.all ≡ insert (items_of row.old.seams.all) number seam.entry) }
-    ensures values { OnOk result (items_of row.new.values ≡ insert (items_of row.old.values) number (Closed value.entry)) }
-    ensures length { OnOk result (row.new.length ≡ row.old.length + (seam_length seam.entry + length (text_bytes value.entry) + commas)) }
+    requires slot { IsSlotOf slot (length (items_of row.old.seams.all)) }
+    ensures put { OnOk result (IsPut slot number row.old part.entry.0 part.entry.1 row.new) }
+    ensures grown { row.new.length ≤ row.old.length + means.room }
+    ensures unchanged { OnErr result (row_view row.new ≡ row_view row.old) }
 {
-    let length = lengthened(row.length, &seam, value.len(), commas)?;
-    row.seams.insert(number, seam)?;
-    match row.values.insert(number, Node::Closed(value)) {
-        Ok(_) => {}
-        Err(_) => return Err(AllocError),
-    }
+    let (mut seam, value) = part;
+    let more = part_length(&seam, value.len(), slot.commas())?;
+    let length = means.resized(row.length, 0, more)?;
+    row.values.make_room(number)?;
+    let index = row.seams.ready(number, &seam)?;
+    swap_at(row, slot, &mut seam);
+    row.seams.put(number, seam, index);
+    row.values.put(number, Node::Closed(value), usize::MAX);
     row.length = length;
     Ok(())
 }
 
 /// A seam of an element.
-fn around<'a>(whitespace: Text<'a>, trail: Text<'a>) -> Seam<'a>
-    ensures piece { (u : List ℕ) → piece_with result u ≡ element_between (text_bytes whitespace.entry) u (text_bytes trail.entry) }
-    ensures length { seam_length result ≡ length (text_bytes whitespace.entry) + length (text_bytes trail.entry) }
+fn around<'a>(whitespace: Text<'a>) -> Seam<'a>
+    ensures whitespace { result.whitespace ≡ whitespace.entry }
+    ensures name { text_bytes result.name ≡ [] }
+    ensures colons { text_bytes result.colons ≡ [] }
+    ensures trail { text_bytes result.trail ≡ [] }
 {
     Seam {
         whitespace,
         name: Text::Kept(""),
         colons: Text::Kept(""),
-        trail,
+        trail: Text::Kept(""),
     }
 }
 
 /// A seam of a member.
-fn labelled<'a>(whitespace: Text<'a>, name: Text<'a>, colons: Text<'a>, trail: Text<'a>) -> Seam<'a>
+fn labelled<'a>(whitespace: Text<'a>, name: Text<'a>, colons: Text<'a>) -> Seam<'a>
     ensures whitespace { result.whitespace ≡ whitespace.entry }
     ensures name { result.name ≡ name.entry }
     ensures colons { result.colons ≡ colons.entry }
-    ensures trail { result.trail ≡ trail.entry }
+    ensures trail { text_bytes result.trail ≡ [] }
 {
     Seam {
         whitespace,
         name,
         colons,
-        trail,
+        trail: Text::Kept(""),
     }
-}
-
-/// Takes the whitespace out of an empty row.
-fn hollowed<'a>(row: &mut Row<'a>) -> Text<'a>
-    requires sound { IsSound (row_view row.old) }
-    requires empty { length (items_of row.old.values) ≡ 0 }
-    ensures hollow { result ≡ row.old.hollow }
-    ensures left { text_bytes row.new.hollow ≡ [] }
-    ensures named { row.new.named ≡ row.old.named }
-    ensures seams { row.new.seams ≡ row.old.seams }
-    ensures values { row.new.values ≡ row.old.values }
-    ensures length { row.new.length + length (text_bytes row.old.hollow) ≡ row.old.length }
-{
-    let trail = mem::replace(&mut row.hollow, Text::Kept(""));
-    row.length -= trail.len();
-    trail
-}
-
-/// Takes the whitespace behind the last member or element, which has this number.
-fn trail_of<'a>(row: &mut Row<'a>, number: usize) -> Text<'a>
-    requires sound { IsSound (row_view row.old) }
-    requires last { number < length (items_of row.old.values) }
-    ensures trail { HasLost (items_of row.old.seams.all) number result (items_of row.new.seams.all) }
-    ensures named { row.new.named ≡ row.old.named }
-    ensures hollow { row.new.hollow ≡ row.old.hollow }
-    ensures values { row.new.values ≡ row.old.values }
-    ensures length { row.new.length + length (text_bytes result) ≡ row.old.length }
-{
-    let mut trail = Text::Kept("");
-    row.seams.swap_trail(number, &mut trail);
-    row.length -= trail.len();
-    trail
 }
 
 /// Puts a member into an empty row.
 fn first_member<'a>(
-    alloc: Global,
+    means: Means,
     row: &mut Row<'a>,
     name: &str,
     value: Text<'a>,
@@ -305,22 +306,17 @@ fn first_member<'a>(
     ensures named { OnOk result (row.new.named ≡ row.old.named) }
     ensures pieces { OnOk result (row_pieces row.new ≡ member_pushed (text_bytes row.old.hollow) (quoted name.now) (text_bytes value.entry) (row_pieces row.old)) }
     ensures sound { OnOk result (IsSound (row_view row.new)) }
+    ensures grown { row.new.length ≤ row.old.length + means.room }
+    ensures unchanged { OnErr result (row_view row.new ≡ row_view row.old) }
 {
-    let name = Text::Made(quoted(alloc, name)?);
-    let trail = hollowed(row);
-    let seam = Seam {
-        whitespace: Text::Kept(""),
-        name,
-        colons: Text::Kept(":"),
-        trail,
-    };
-    put_part(row, 0, seam, value, 0)?;
-    Ok(())
+    let name = Text::Made(quoted(means.alloc, name)?);
+    let seam = labelled(Text::Kept(""), name, Text::Kept(":"));
+    put_part(means, row, 0, (seam, value), Slot::Hollow)
 }
 
 /// Puts a member behind the last one.
 fn next_member<'a>(
-    alloc: Global,
+    means: Means,
     row: &mut Row<'a>,
     name: &str,
     value: Text<'a>,
@@ -332,25 +328,20 @@ fn next_member<'a>(
     ensures named { OnOk result (row.new.named ≡ row.old.named) }
     ensures pieces { OnOk result (row_pieces row.new ≡ member_pushed (text_bytes row.old.hollow) (quoted name.now) (text_bytes value.entry) (row_pieces row.old)) }
     ensures sound { OnOk result (IsSound (row_view row.new)) }
+    ensures grown { row.new.length ≤ row.old.length + means.room }
+    ensures unchanged { OnErr result (row_view row.new ≡ row_view row.old) }
 {
     let count = row.count();
     let last = count - 1;
-    let name = Text::Made(quoted(alloc, name)?);
-    let whitespace = row.seams.all.at(last).whitespace.whitespace_like(alloc)?;
-    let colons = row.seams.all.at(last).colons.colons_like(alloc)?;
-    let trail = trail_of(row, last);
-    put_part(
-        row,
-        count,
-        labelled(whitespace, name, colons, trail),
-        value,
-        1,
-    )?;
-    Ok(())
+    let name = Text::Made(quoted(means.alloc, name)?);
+    let whitespace = row.seams.all.at(last).whitespace.whitespace_like(means.alloc)?;
+    let colons = row.seams.all.at(last).colons.colons_like(means.alloc)?;
+    let seam = labelled(whitespace, name, colons);
+    put_part(means, row, count, (seam, value), Slot::Trail(last))
 }
 
 /// Puts an element into an empty row.
-fn first_element<'a>(row: &mut Row<'a>, value: Text<'a>) -> Result<(), AllocError>
+fn first_element<'a>(means: Means, row: &mut Row<'a>, value: Text<'a>) -> Result<(), AllocError>
     requires sound { IsSound (row_view row.old) }
     requires array { row.old.named ≡ false }
     requires empty { length (items_of row.old.values) ≡ 0 }
@@ -358,14 +349,15 @@ fn first_element<'a>(row: &mut Row<'a>, value: Text<'a>) -> Result<(), AllocErro
     ensures named { OnOk result (row.new.named ≡ row.old.named) }
     ensures pieces { OnOk result (row_pieces row.new ≡ element_pushed (text_bytes row.old.hollow) (text_bytes value.entry) (row_pieces row.old)) }
     ensures sound { OnOk result (IsSound (row_view row.new)) }
+    ensures grown { row.new.length ≤ row.old.length + means.room }
+    ensures unchanged { OnErr result (row_view row.new ≡ row_view row.old) }
 {
-    let trail = hollowed(row);
-    put_part(row, 0, around(Text::Kept(""), trail), value, 0)?;
-    Ok(())
+    let seam = around(Text::Kept(""));
+    put_part(means, row, 0, (seam, value), Slot::Hollow)
 }
 
 /// Puts an element behind the last one.
-fn next_element<'a>(alloc: Global, row: &mut Row<'a>, value: Text<'a>) -> Result<(), AllocError>
+fn next_element<'a>(means: Means, row: &mut Row<'a>, value: Text<'a>) -> Result<(), AllocError>
     requires sound { IsSound (row_view row.old) }
     requires array { row.old.named ≡ false }
     requires some { 0 < length (items_of row.old.values) }
@@ -373,13 +365,14 @@ fn next_element<'a>(alloc: Global, row: &mut Row<'a>, value: Text<'a>) -> Result
     ensures named { OnOk result (row.new.named ≡ row.old.named) }
     ensures pieces { OnOk result (row_pieces row.new ≡ element_pushed (text_bytes row.old.hollow) (text_bytes value.entry) (row_pieces row.old)) }
     ensures sound { OnOk result (IsSound (row_view row.new)) }
+    ensures grown { row.new.length ≤ row.old.length + means.room }
+    ensures unchanged { OnErr result (row_view row.new ≡ row_view row.old) }
 {
     let count = row.count();
     let last = count - 1;
-    let whitespace = row.seams.all.at(last).whitespace.whitespace_like(alloc)?;
-    let trail = trail_of(row, last);
-    put_part(row, count, around(whitespace, trail), value, 1)?;
-    Ok(())
+    let whitespace = row.seams.all.at(last).whitespace.whitespace_like(means.alloc)?;
+    let seam = around(whitespace);
+    put_part(means, row, count, (seam, value), Slot::Trail(last))
 }
 
 /// Like whose whitespace that before an element of this number is, once another comes before it: the
@@ -393,34 +386,10 @@ fn like_number(number: usize, count: usize) -> usize
     if number == 0 && count > 1 { 1 } else { number }
 }
 
-/// Exchanges the whitespace before an element, and answers with what stood there.
-fn whitespace_of<'a>(
-    row: &mut Row<'a>,
-    number: usize,
-    mut whitespace: Text<'a>,
-) -> Result<Text<'a>, AllocError>
-    requires sound { IsSound (row_view row.old) }
-    requires within { number < length (items_of row.old.values) }
-    ensures whitespace { IfOk result (λ old. HasGained (items_of row.old.seams.all) number (text_bytes whitespace.entry) old (items_of row.new.seams.all)) }
-    ensures named { row.new.named ≡ row.old.named }
-    ensures hollow { row.new.hollow ≡ row.old.hollow }
-    ensures values { row.new.values ≡ row.old.values }
-    ensures length { IfOk result (λ old. row.new.length + length (text_bytes old) ≡ row.old.length + length (text_bytes whitespace.entry)) }
-{
-    let length = resized(
-        row.length,
-        row.seams.all.at(number).whitespace.len(),
-        whitespace.len(),
-    )?;
-    row.seams.swap_whitespace(number, &mut whitespace);
-    row.length = length;
-    Ok(whitespace)
-}
-
 /// Puts an element before the one of this number. The whitespace of that one goes to the new one;
 /// whitespace like it, or before the first like that of the second, stands before that one.
 fn element_before<'a>(
-    alloc: Global,
+    means: Means,
     row: &mut Row<'a>,
     number: usize,
     value: Text<'a>,
@@ -432,41 +401,44 @@ fn element_before<'a>(
     ensures named { OnOk result (row.new.named ≡ row.old.named) }
     ensures pieces { OnOk result (row_pieces row.new ≡ element_put number (text_bytes value.entry) (row_pieces row.old)) }
     ensures sound { OnOk result (IsSound (row_view row.new)) }
+    ensures grown { row.new.length ≤ row.old.length + means.room }
+    ensures unchanged { OnErr result (row_view row.new ≡ row_view row.old) }
 {
     let like = like_number(number, row.count());
-    let behind = row.seams.all.at(like).whitespace.whitespace_like(alloc)?;
-    let whitespace = whitespace_of(row, number, behind)?;
-    put_part(row, number, around(whitespace, Text::Kept("")), value, 1)?;
-    Ok(())
+    let behind = row.seams.all.at(like).whitespace.whitespace_like(means.alloc)?;
+    let seam = around(behind);
+    put_part(means, row, number, (seam, value), Slot::Whitespace(number))
 }
 
 /// Puts a value in as a member of this name, in place of that of the last one of this name, or as a new one.
-fn put_member(alloc: Global, row: &mut Row<'_>, name: &str, value: &str) -> Result<(), AllocError>
+fn put_member(means: Means, row: &mut Row<'_>, name: &str, value: &str) -> Result<(), AllocError>
     requires sound { IsSound (row_view row.old) }
     requires object { row.old.named ≡ true }
     requires value { (w : Json) × IsTextOf value.now w }
     ensures sound { OnOk result (IsSound (row_view row.new)) }
+    ensures grown { row.new.length ≤ row.old.length + means.room }
+    ensures unchanged { OnErr result (row_view row.new ≡ row_view row.old) }
     ensures put { IfOk result (λ done. (j : Json) → Says (tree_text (row_view row.old)) j
         → PutsIn (tree_text (row_view row.old)) j name.now value.now
         (tree_text (row_view row.new)) true) }
 {
     if let Some(number) = number_of(row, name) {
-        put_value(alloc, row, number, value)?;
+        put_value(means, row, number, value)?;
         return Ok(());
     }
-    let value = Text::made(alloc, value)?;
+    let value = Text::made(means.alloc, value)?;
     let count = row.count();
     if count == 0 {
-        first_member(alloc, row, name, value)?;
+        first_member(means, row, name, value)?;
         return Ok(());
     }
-    next_member(alloc, row, name, value)?;
+    next_member(means, row, name, value)?;
     Ok(())
 }
 
 /// Puts a value in as the element at a place, if an array of so many has it.
 fn put_element(
-    alloc: Global,
+    means: Means,
     row: &mut Row<'_>,
     name: &str,
     value: &str,
@@ -475,6 +447,8 @@ fn put_element(
     requires array { row.old.named ≡ false }
     requires value { (w : Json) × IsTextOf value.now w }
     ensures sound { OnOk result (IsSound (row_view row.new)) }
+    ensures grown { row.new.length ≤ row.old.length + means.room }
+    ensures unchanged { OnErr result (row_view row.new ≡ row_view row.old) }
     ensures put { IfOk result (λ done. (j : Json) → Says (tree_text (row_view row.old)) j
         → PutsIn (tree_text (row_view row.old)) j name.now value.now
         (tree_text (row_view row.new)) done) }
@@ -486,22 +460,22 @@ fn put_element(
     let Ok(number) = index.for_len_incl(count) else {
         return Ok(false);
     };
-    let value = Text::made(alloc, value)?;
+    let value = Text::made(means.alloc, value)?;
     if number < count {
-        element_before(alloc, row, number, value)?;
+        element_before(means, row, number, value)?;
         return Ok(true);
     }
     if count == 0 {
-        first_element(row, value)?;
+        first_element(means, row, value)?;
         return Ok(true);
     }
-    next_element(alloc, row, value)?;
+    next_element(means, row, value)?;
     Ok(true)
 }
 
 /// Puts a value in as what a token names.
 pub(crate) fn put(
-    alloc: Global,
+    means: Means,
     row: &mut Row<'_>,
     name: &str,
     value: &str,
@@ -509,13 +483,15 @@ pub(crate) fn put(
     requires sound { IsSound (row_view row.old) }
     requires value { (w : Json) × IsTextOf value.now w }
     ensures sound { OnOk result (IsSound (row_view row.new)) }
+    ensures grown { row.new.length ≤ row.old.length + means.room }
+    ensures unchanged { OnErr result (row_view row.new ≡ row_view row.old) }
     ensures put { IfOk result (λ done. (j : Json) → Says (tree_text (row_view row.old)) j
         → PutsIn (tree_text (row_view row.old)) j name.now value.now
         (tree_text (row_view row.new)) done) }
 {
     if row.named {
-        put_member(alloc, row, name, value)?;
+        put_member(means, row, name, value)?;
         return Ok(true);
     }
-    put_element(alloc, row, name, value)
+    put_element(means, row, name, value)
 }

@@ -1,6 +1,6 @@
 //! The seams of a row, and where each name stands among them, once that has been asked often.
 
-ghost use Rattle.std.specs.Prelude.{◌≡◌, ◌+◌, ◌<◌, ◌≤◌, ◌∷◌, ◌++◌, [], List, ℕ, length, IfOk, OnOk, slice_index_or, IfSome};
+ghost use Rattle.std.specs.Prelude.{◌≡◌, ◌+◌, ◌<◌, ◌≤◌, ◌^◌, ◌∷◌, ◌++◌, [], List, ℕ, length, IfOk, OnOk, slice_index_or, IfSome};
 ghost use Rattle.std.specs.String.{string_bytes};
 ghost use Rattle.std.specs.List.{insert, remove};
 ghost use Rattle.json.specs.Json.{string};
@@ -10,7 +10,7 @@ ghost use Rattle.json_pieces.specs.declared.seams.Seam.{Seam};
 ghost use Rattle.json_text.specs.Listing.{IsTextOf};
 ghost use Rattle.json_text.specs.Rows.{Child, last_named};
 ghost use Rattle.long_vec.specs.Blocks.{items_in};
-ghost use Rattle.long_vec.specs.Items.{items_of};
+ghost use Rattle.long_vec.specs.Items.{capacity_of, items_of};
 ghost use Rattle.long_vec.specs.Walks.{left};
 
 use crate::index::NameIndex;
@@ -227,24 +227,40 @@ impl<'a> Seams<'a> {
         Ok(())
     }
 
-    /// Puts in a seam before that of this number, or behind the last.
-    pub(crate) fn insert(&mut self, number: usize, seam: Seam<'a>) -> Result<(), AllocError>
+    /// Makes room for a seam that comes before that of this number, or behind the last, and the index
+    /// that there is with it.
+    pub(crate) fn ready(
+        &mut self,
+        number: usize,
+        seam: &Seam<'_>,
+    ) -> Result<Option<NameIndex>, AllocError>
         requires { number ≤ length (items_of self.old.all) }
-        ensures { OnOk result (items_of self.new.all ≡ insert (items_of self.old.all) number seam.entry) }
+        ensures items { items_of self.new.all ≡ items_of self.old.all }
+        ensures room { OnOk result (length (items_of self.new.all) < capacity_of self.new.all) }
+        ensures fits { OnOk result (length (items_of self.new.all) + 1 < 2 ^ 64) }
+        ensures index { IfOk result (λ index. Agrees (insert (items_of self.old.all) number seam.now) index) }
     {
-        let Some(count) = self.count.checked_add(1) else {
+        if self.count == usize::MAX {
             return Err(AllocError);
-        };
+        }
+        self.all.make_room(number)?;
         let alloc = *self.all.allocator();
         let index = mem::replace(&mut self.index, None);
-        let index = index_with(alloc, index, self.count, &seam, number)?;
-        match self.all.insert(number, seam) {
-            Ok(_) => {}
-            Err(_) => return Err(AllocError),
-        }
-        self.count = count;
+        index_with(alloc, index, self.count, seam, number)
+    }
+
+    /// Puts in a seam before that of this number, or behind the last, where there is room. Their index
+    /// is this.
+    pub(crate) fn put(&mut self, number: usize, seam: Seam<'a>, index: Option<NameIndex>)
+        requires within { number ≤ length (items_of self.old.all) }
+        requires room { length (items_of self.old.all) < capacity_of self.old.all }
+        requires fits { length (items_of self.old.all) + 1 < 2 ^ 64 }
+        requires index { Agrees (insert (items_of self.old.all) number seam) index }
+        ensures { items_of self.new.all ≡ insert (items_of self.old.all) number seam.entry }
+    {
+        self.all.put(number, seam, usize::MAX);
+        self.count += 1;
         self.index = index;
-        Ok(())
     }
 
     /// Takes out the seam of this number, the last of this name, or an element's.
@@ -263,7 +279,8 @@ impl<'a> Seams<'a> {
     /// Exchanges the whitespace before the value of this number for this one.
     pub(crate) fn swap_whitespace(&mut self, number: usize, whitespace: &mut Text<'a>)
         requires { number < length (items_of self.old.all) }
-        ensures { HasWhitespace (items_of self.old.all) number whitespace.old whitespace.new (items_of self.new.all) }
+        ensures whitespace { HasWhitespace (items_of self.old.all) number whitespace.old whitespace.new (items_of self.new.all) }
+        ensures room { capacity_of self.new.all ≡ capacity_of self.old.all }
     {
         let mut seam = self.all.exchange(number, Seam::empty());
         mem::swap(&mut seam.whitespace, whitespace);
@@ -273,7 +290,8 @@ impl<'a> Seams<'a> {
     /// Exchanges the whitespace behind the value of this number for this one.
     pub(crate) fn swap_trail(&mut self, number: usize, trail: &mut Text<'a>)
         requires { number < length (items_of self.old.all) }
-        ensures { HasTrail (items_of self.old.all) number trail.old trail.new (items_of self.new.all) }
+        ensures trail { HasTrail (items_of self.old.all) number trail.old trail.new (items_of self.new.all) }
+        ensures room { capacity_of self.new.all ≡ capacity_of self.old.all }
     {
         let mut seam = self.all.exchange(number, Seam::empty());
         mem::swap(&mut seam.trail, trail);

@@ -1,6 +1,6 @@
 //! What stands where a pointer leads, by its shape.
 
-ghost use Rattle.std.specs.Prelude.{◌≡◌, ◌∷◌, IfOk, OnOk};
+ghost use Rattle.std.specs.Prelude.{◌≡◌, ◌∷◌, IfOk};
 ghost use Rattle.json.specs.Json.{Json};
 ghost use Rattle.json_lexemes.specs.Spelled.{Says};
 ghost use Rattle.json_pieces.specs.Looks.{Looks};
@@ -47,9 +47,10 @@ pub(crate) fn shape_at(
     mut path: Tokens<'_>,
 ) -> Result<Option<Shape>, AllocError>
     requires whole { IsWhole (view node.old) }
-    ensures whole { OnOk result (IsWhole (view node.new)) }
+    ensures whole { IsWhole (view node.new) }
+    ensures text { tree_text (view node.new) ≡ tree_text (view node.old) }
     ensures looks { IfOk result (λ found. (j : Json) → Says (tree_text (view node.old)) j
-        → Looks (tree_text (view node.old)) j (tokens_left path.entry) (tree_text (view node.new)) found) }
+        → Looks j (tokens_left path.entry) found) }
 {
     let Some(token) = path.next() else {
         return Ok(Some(shape(node)));
@@ -69,10 +70,10 @@ fn shape_in(
     rest: Tokens<'_>,
 ) -> Result<Option<Shape>, AllocError>
     requires sound { IsSound (row_view row.old) }
-    ensures sound { OnOk result (IsSound (row_view row.new)) }
+    ensures sound { IsSound (row_view row.new) }
+    ensures text { tree_text (row_view row.new) ≡ tree_text (row_view row.old) }
     ensures looks { IfOk result (λ found. (j : Json) → Says (tree_text (row_view row.old)) j
-        → Looks (tree_text (row_view row.old)) j (token_of token.entry ∷ tokens_left rest.entry)
-        (tree_text (row_view row.new)) found) }
+        → Looks j (token_of token.entry ∷ tokens_left rest.entry) found) }
 {
     let name = token.decoded(alloc)?;
     let Some(number) = number_of(row, name.as_str()) else {

@@ -157,10 +157,10 @@ module _ (b d : Bool) (m i k : ℕ) (hollow hollow2 : List ℕ) (ss ss1 ss2 : Li
 pub same_seam : (ss : List Seam) (n : ℕ) (s t : Seam) → n < length ss → s ≡ get_or ss n s → t ≡ get_or ss n t → t ≡ s
 same_seam ss n s t l e f = f ∙ get_or_default ss n t s l ∙ sym e
 
-abbrev piece_of_parts : List ℕ → List ℕ → List ℕ → List ℕ → List ℕ → Piece
+abbrev pub piece_of_parts : List ℕ → List ℕ → List ℕ → List ℕ → List ℕ → Piece
 piece_of_parts a c e u g = record { whitespace = a; name = c; colons = e; value = u; trail = g }
 
-same_piece : (a b c d e f g h u : List ℕ) → a ≡ b → c ≡ d → e ≡ f → g ≡ h → piece_of_parts a c e u g ≡ piece_of_parts b d f u h
+pub same_piece : (a b c d e f g h u : List ℕ) → a ≡ b → c ≡ d → e ≡ f → g ≡ h → piece_of_parts a c e u g ≡ piece_of_parts b d f u h
 same_piece a b c d e f g h u i j k l = ap (λ x. piece_of_parts x c e u g) i ∙ ap (λ x. piece_of_parts b x e u g) j ∙ ap (λ x. piece_of_parts b d x u g) k ∙ ap (λ x. piece_of_parts b d f u x) l
 
 pub like_member : (s o t t2 : Seam) (name : List ℕ) → t ≡ o → t2 ≡ o → text_bytes s.whitespace ≡ whitespace_like (text_bytes t.whitespace) → text_bytes s.name ≡ name → text_bytes s.colons ≡ colons_like (text_bytes t2.colons) → s.trail ≡ o.trail → (x u : List ℕ) → piece_with s u ≡ member_like (piece_with o x) name u

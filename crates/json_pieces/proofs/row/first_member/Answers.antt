@@ -1,30 +1,20 @@
-use Rattle.std.proofs.Common.{ap, ap₂, sym, ◌∙◌, subst, arith}
-use Rattle.json_text.specs.Cuts.{IsWhitespace}
+use Rattle.std.proofs.Common.{length, ap, ◌∙◌, arith}
+use Rattle.std.proofs.lemmas.Result.{on_ok_weaker}
+use Rattle.json.specs.Print.{quoted}
 use Rattle.long_vec.specs.Items.{items_of}
 use Rattle.json_pieces.specs.Nodes.{text_bytes}
-use Rattle.json_pieces.specs.PieceLists.{member_alone}
-use Rattle.json_pieces.proofs.Rows.Puts.{first_member_kept, first_member_put}
-use Rattle.json_pieces.proofs.Rows.Stands.{whitespace_nil}
+use Rattle.json_pieces.proofs.Rows.Parted.{first_member_pieces, first_member_sound}
 use Rattle.json_pieces.proofs.row.first_member.Goals as goal
+
+pub returns-clause-named : goal.returns-clause-named
+returns-clause-named c = on_ok_weaker c.put_part.result (λ g. g.named) c.put_part.ensures.put
 
 pub returns-clause-pieces : goal.returns-clause-pieces
 returns-clause-pieces c =
-    let r = c.args.row.now in
-    let h = c.hollowed-trail.new.row in
-    let p = c.put_part.new.row in
-    let e = c.hollowed-trail.ensures in
-    let g = c.in_ok-put_part.ensures in
-    first_member_put r.named p.named r.length h.length p.length (text_bytes r.hollow) (text_bytes p.hollow) (items_of r.seams.all) (items_of h.seams.all) (items_of p.seams.all) (items_of r.values) (items_of h.values) (items_of p.values) _ c.args.value _
-    c.requires.sound (omega (arith, c.requires.empty)) (ap (λ v. (items_of v.all)) e.seams) (ap (λ v. items_of v) e.values) g.seams g.values (λ u. ap₂ (λ t n. member_alone t n u) (ap text_bytes e.hollow) c.in_ok-quoted.ensures)
+    on_ok_weaker c.put_part.result (λ g. first_member_pieces c.args.row.now c.put_part.new.row c.labelled-seam.result c.args.value c.requires.sound c.requires.value g c.requires.empty (quoted c.args.name.now)
+    (record { whitespace_is = ap text_bytes c.labelled-seam.ensures.whitespace; name_is = ap text_bytes c.labelled-seam.ensures.name ∙ c.in_ok-quoted.ensures; colons_is = ap text_bytes c.labelled-seam.ensures.colons; trail_is = c.labelled-seam.ensures.trail })) c.put_part.ensures.put
 
 pub returns-clause-sound : goal.returns-clause-sound
 returns-clause-sound c =
-    let r = c.args.row.now in
-    let h = c.hollowed-trail.new.row in
-    let p = c.put_part.new.row in
-    let e = c.hollowed-trail.ensures in
-    let g = c.in_ok-put_part.ensures in
-    first_member_kept r.named p.named r.length h.length p.length (text_bytes r.hollow) (text_bytes p.hollow) (items_of r.seams.all) (items_of h.seams.all) (items_of p.seams.all) (items_of r.values) (items_of h.values) (items_of p.values) _ c.args.value
-    c.args.name.now c.requires.value.0 c.requires.object (g.named ∙ e.named)
-    c.requires.sound (omega (arith, c.requires.empty)) (ap (λ v. (items_of v.all)) e.seams) (ap (λ v. items_of v) e.values) g.seams g.values (λ u. ap₂ (λ t n. member_alone t n u) (ap text_bytes e.hollow) c.in_ok-quoted.ensures)
-    (subst IsWhitespace (sym (ap text_bytes g.hollow ∙ e.left)) whitespace_nil) c.requires.value.1 e.length g.length
+    on_ok_weaker c.put_part.result (λ g. first_member_sound c.args.row.now c.put_part.new.row c.labelled-seam.result c.args.value c.requires.sound c.requires.value g c.requires.empty c.args.name.now c.requires.object
+    (record { whitespace_is = ap text_bytes c.labelled-seam.ensures.whitespace; name_is = ap text_bytes c.labelled-seam.ensures.name ∙ c.in_ok-quoted.ensures; colons_is = ap text_bytes c.labelled-seam.ensures.colons; trail_is = c.labelled-seam.ensures.trail })) c.put_part.ensures.put

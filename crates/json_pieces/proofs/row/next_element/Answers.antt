@@ -1,9 +1,9 @@
-use Rattle.std.proofs.Common.{◌-◌, ◌<◌, length, ap, sym, ◌∙◌, subst, arith}
-use Rattle.json_text.specs.Cuts.{IsWhitespace}
+use Rattle.std.proofs.Common.{◌-◌, ◌<◌, length, ap, ◌∙◌, arith}
+use Rattle.std.proofs.lemmas.Result.{on_ok_weaker}
 use Rattle.long_vec.specs.Items.{items_of}
 use Rattle.json_pieces.specs.Nodes.{text_bytes}
 use Rattle.json_pieces.proofs.Lists.{seams_are}
-use Rattle.json_pieces.proofs.Rows.Puts.{like_element, lost_count, next_element_kept, next_element_put, same_seam}
+use Rattle.json_pieces.proofs.Rows.Parted.{next_element_pieces, next_element_sound}
 use Rattle.json_pieces.proofs.row.next_element.Goals as goal
 
 pub at-requires : goal.at-requires
@@ -14,35 +14,28 @@ at-requires c =
 pub put_part-requires-clause-seams : goal.put_part-requires-clause-seams
 put_part-requires-clause-seams c =
     let r = c.args.row.now in
-    let h = c.trail_of-trail.new.row in
-    omega (arith, seams_are (items_of r.seams.all) (items_of r.values) c.requires.sound.1, c.requires.some, c.count-count.ensures, lost_count (items_of r.seams.all) (c.count-count.result - 1) c.trail_of-trail.result (items_of h.seams.all) c.trail_of-trail.ensures.trail)
+    omega (arith, seams_are (items_of r.seams.all) (items_of r.values) c.requires.sound.1, c.requires.some, c.count-count.ensures)
+
+pub put_part-requires-clause-slot : goal.put_part-requires-clause-slot
+put_part-requires-clause-slot c =
+    let r = c.args.row.now in
+    omega (arith, seams_are (items_of r.seams.all) (items_of r.values) c.requires.sound.1, c.requires.some, c.count-count.ensures)
+
+pub returns-clause-named : goal.returns-clause-named
+returns-clause-named c = on_ok_weaker c.put_part.result (λ g. g.named) c.put_part.ensures.put
 
 pub returns-clause-pieces : goal.returns-clause-pieces
 returns-clause-pieces c =
     let r = c.args.row.now in
-    let h = c.trail_of-trail.new.row in
-    let p = c.put_part.new.row in
-    let e = c.trail_of-trail.ensures in
-    let g = c.in_ok-put_part.ensures in
-    let o = e.trail in
     let n = c.count-count.result - 1 in
     let there : n < length (items_of r.seams.all) = omega (arith, seams_are (items_of r.seams.all) (items_of r.values) c.requires.sound.1, c.requires.some, c.count-count.ensures) in
-    let same = same_seam (items_of r.seams.all) n o.seam c.at.result.now there o.is c.at.ensures in
-    next_element_put r.named p.named r.length h.length p.length (text_bytes r.hollow) (text_bytes p.hollow) (items_of r.seams.all) (items_of h.seams.all) (items_of p.seams.all) (items_of r.values) (items_of h.values) (items_of p.values) c.around.result c.args.value n c.count-count.result c.trail_of-trail.result (omega (arith, c.requires.some, c.count-count.ensures))
-    c.requires.sound (omega (arith, c.requires.some, c.count-count.ensures)) o (ap (λ v. items_of v) e.values) g.seams g.values (λ u. c.around.ensures.piece u ∙ like_element o.seam c.at.result.now _ _ u same c.in_ok-whitespace.ensures (ap text_bytes o.trail_is))
+    on_ok_weaker c.put_part.result (λ g. next_element_pieces r c.put_part.new.row c.around-seam.result c.args.value c.requires.sound c.requires.value n c.count-count.result g (omega (arith, c.requires.some, c.count-count.ensures)) (omega (arith, c.count-count.ensures)) c.at.result.now c.at.ensures there c.around-seam.ensures.trail
+    (record { whitespace_is = ap text_bytes c.around-seam.ensures.whitespace ∙ c.in_ok-whitespace.ensures; name_is = c.around-seam.ensures.name; colons_is = c.around-seam.ensures.colons; trail_is = c.around-seam.ensures.trail })) c.put_part.ensures.put
 
 pub returns-clause-sound : goal.returns-clause-sound
 returns-clause-sound c =
     let r = c.args.row.now in
-    let h = c.trail_of-trail.new.row in
-    let p = c.put_part.new.row in
-    let e = c.trail_of-trail.ensures in
-    let g = c.in_ok-put_part.ensures in
-    let o = e.trail in
     let n = c.count-count.result - 1 in
     let there : n < length (items_of r.seams.all) = omega (arith, seams_are (items_of r.seams.all) (items_of r.values) c.requires.sound.1, c.requires.some, c.count-count.ensures) in
-    let same = same_seam (items_of r.seams.all) n o.seam c.at.result.now there o.is c.at.ensures in
-    next_element_kept r.named p.named r.length h.length p.length (text_bytes r.hollow) (text_bytes p.hollow) (items_of r.seams.all) (items_of h.seams.all) (items_of p.seams.all) (items_of r.values) (items_of h.values) (items_of p.values) c.around.result c.args.value n c.count-count.result c.trail_of-trail.result
-    c.requires.value.0 c.requires.array (g.named ∙ e.named) (omega (arith, c.requires.some, c.count-count.ensures))
-    c.requires.sound (omega (arith, c.requires.some, c.count-count.ensures)) o (ap (λ v. items_of v) e.values) g.seams g.values (λ u. c.around.ensures.piece u ∙ like_element o.seam c.at.result.now _ _ u same c.in_ok-whitespace.ensures (ap text_bytes o.trail_is))
-    (subst IsWhitespace (sym (ap text_bytes (g.hollow ∙ e.hollow))) c.requires.sound.0.whitespace) c.requires.value.1 e.length g.length
+    on_ok_weaker c.put_part.result (λ g. next_element_sound r c.put_part.new.row c.around-seam.result c.args.value c.requires.sound c.requires.value n c.count-count.result g (omega (arith, c.requires.some, c.count-count.ensures)) (omega (arith, c.count-count.ensures)) c.at.result.now c.at.ensures there c.around-seam.ensures.trail c.requires.array
+    (record { whitespace_is = ap text_bytes c.around-seam.ensures.whitespace ∙ c.in_ok-whitespace.ensures; name_is = c.around-seam.ensures.name; colons_is = c.around-seam.ensures.colons; trail_is = c.around-seam.ensures.trail })) c.put_part.ensures.put

@@ -1,9 +1,12 @@
-use Rattle.std.proofs.Common.{◌-◌, ◌<◌, length, ap, sym, ◌∙◌, subst, arith}
-use Rattle.json_text.specs.Cuts.{IsWhitespace}
+use Rattle.std.proofs.Common.{◌-◌, ◌<◌, length, ap, ◌∙◌, arith}
+use Rattle.std.proofs.lemmas.Result.{on_ok_weaker}
+use Rattle.json.specs.Print.{quoted}
+use Rattle.json_text.specs.Styled.{colons_like}
 use Rattle.long_vec.specs.Items.{items_of}
 use Rattle.json_pieces.specs.Nodes.{text_bytes}
 use Rattle.json_pieces.proofs.Lists.{seams_are}
-use Rattle.json_pieces.proofs.Rows.Puts.{like_member, lost_count, next_member_kept, next_member_put, same_seam}
+use Rattle.json_pieces.proofs.Rows.Parted.{next_member_pieces, next_member_sound}
+use Rattle.json_pieces.proofs.Rows.Puts.{same_seam}
 use Rattle.json_pieces.proofs.row.next_member.Goals as goal
 
 pub at-requires : goal.at-requires
@@ -19,39 +22,30 @@ at-requires-2 c =
 pub put_part-requires-clause-seams : goal.put_part-requires-clause-seams
 put_part-requires-clause-seams c =
     let r = c.args.row.now in
-    let h = c.trail_of-trail.new.row in
-    omega (arith, seams_are (items_of r.seams.all) (items_of r.values) c.requires.sound.1, c.requires.some, c.count-count.ensures, lost_count (items_of r.seams.all) (c.count-count.result - 1) c.trail_of-trail.result (items_of h.seams.all) c.trail_of-trail.ensures.trail)
+    omega (arith, seams_are (items_of r.seams.all) (items_of r.values) c.requires.sound.1, c.requires.some, c.count-count.ensures)
+
+pub put_part-requires-clause-slot : goal.put_part-requires-clause-slot
+put_part-requires-clause-slot c =
+    let r = c.args.row.now in
+    omega (arith, seams_are (items_of r.seams.all) (items_of r.values) c.requires.sound.1, c.requires.some, c.count-count.ensures)
+
+pub returns-clause-named : goal.returns-clause-named
+returns-clause-named c = on_ok_weaker c.put_part.result (λ g. g.named) c.put_part.ensures.put
 
 pub returns-clause-pieces : goal.returns-clause-pieces
 returns-clause-pieces c =
     let r = c.args.row.now in
-    let h = c.trail_of-trail.new.row in
-    let p = c.put_part.new.row in
-    let e = c.trail_of-trail.ensures in
-    let g = c.in_ok-put_part.ensures in
-    let o = e.trail in
-    let l = c.labelled.ensures in
     let n = c.count-count.result - 1 in
     let there : n < length (items_of r.seams.all) = omega (arith, seams_are (items_of r.seams.all) (items_of r.values) c.requires.sound.1, c.requires.some, c.count-count.ensures) in
-    let same = same_seam (items_of r.seams.all) n o.seam c.at.result.now there o.is c.at.ensures in
-    let same2 = same_seam (items_of r.seams.all) n o.seam c.at-2.result.now there o.is c.at-2.ensures in
-    next_member_put r.named p.named r.length h.length p.length (text_bytes r.hollow) (text_bytes p.hollow) (items_of r.seams.all) (items_of h.seams.all) (items_of p.seams.all) (items_of r.values) (items_of h.values) (items_of p.values) c.labelled.result c.args.value n c.count-count.result c.trail_of-trail.result _ (omega (arith, c.requires.some, c.count-count.ensures))
-    c.requires.sound (omega (arith, c.requires.some, c.count-count.ensures)) o (ap (λ v. items_of v) e.values) g.seams g.values (like_member c.labelled.result o.seam c.at.result.now c.at-2.result.now _ same same2 (ap text_bytes l.whitespace ∙ c.in_ok-whitespace.ensures) (ap text_bytes l.name ∙ c.in_ok-quoted.ensures) (ap text_bytes l.colons ∙ c.in_ok-colons.ensures) (l.trail ∙ o.trail_is))
+    let same = same_seam (items_of r.seams.all) n c.at.result.now c.at-2.result.now there c.at.ensures c.at-2.ensures in
+    on_ok_weaker c.put_part.result (λ g. next_member_pieces r c.put_part.new.row c.labelled-seam.result c.args.value c.requires.sound c.requires.value n c.count-count.result g (omega (arith, c.requires.some, c.count-count.ensures)) (omega (arith, c.count-count.ensures)) c.at.result.now c.at.ensures there c.labelled-seam.ensures.trail (quoted c.args.name.now)
+    (record { whitespace_is = ap text_bytes c.labelled-seam.ensures.whitespace ∙ c.in_ok-whitespace.ensures; name_is = ap text_bytes c.labelled-seam.ensures.name ∙ c.in_ok-quoted.ensures; colons_is = ap text_bytes c.labelled-seam.ensures.colons ∙ c.in_ok-colons.ensures ∙ ap (λ s. colons_like (text_bytes s.colons)) same; trail_is = c.labelled-seam.ensures.trail })) c.put_part.ensures.put
 
 pub returns-clause-sound : goal.returns-clause-sound
 returns-clause-sound c =
     let r = c.args.row.now in
-    let h = c.trail_of-trail.new.row in
-    let p = c.put_part.new.row in
-    let e = c.trail_of-trail.ensures in
-    let g = c.in_ok-put_part.ensures in
-    let o = e.trail in
-    let l = c.labelled.ensures in
     let n = c.count-count.result - 1 in
     let there : n < length (items_of r.seams.all) = omega (arith, seams_are (items_of r.seams.all) (items_of r.values) c.requires.sound.1, c.requires.some, c.count-count.ensures) in
-    let same = same_seam (items_of r.seams.all) n o.seam c.at.result.now there o.is c.at.ensures in
-    let same2 = same_seam (items_of r.seams.all) n o.seam c.at-2.result.now there o.is c.at-2.ensures in
-    next_member_kept r.named p.named r.length h.length p.length (text_bytes r.hollow) (text_bytes p.hollow) (items_of r.seams.all) (items_of h.seams.all) (items_of p.seams.all) (items_of r.values) (items_of h.values) (items_of p.values) c.labelled.result c.args.value n c.count-count.result c.trail_of-trail.result c.args.name.now
-    c.requires.value.0 c.requires.object (g.named ∙ e.named) (omega (arith, c.requires.some, c.count-count.ensures))
-    c.requires.sound (omega (arith, c.requires.some, c.count-count.ensures)) o (ap (λ v. items_of v) e.values) g.seams g.values (like_member c.labelled.result o.seam c.at.result.now c.at-2.result.now _ same same2 (ap text_bytes l.whitespace ∙ c.in_ok-whitespace.ensures) (ap text_bytes l.name ∙ c.in_ok-quoted.ensures) (ap text_bytes l.colons ∙ c.in_ok-colons.ensures) (l.trail ∙ o.trail_is))
-    (subst IsWhitespace (sym (ap text_bytes (g.hollow ∙ e.hollow))) c.requires.sound.0.whitespace) c.requires.value.1 e.length g.length
+    let same = same_seam (items_of r.seams.all) n c.at.result.now c.at-2.result.now there c.at.ensures c.at-2.ensures in
+    on_ok_weaker c.put_part.result (λ g. next_member_sound r c.put_part.new.row c.labelled-seam.result c.args.value c.requires.sound c.requires.value n c.count-count.result g (omega (arith, c.requires.some, c.count-count.ensures)) (omega (arith, c.count-count.ensures)) c.at.result.now c.at.ensures there c.labelled-seam.ensures.trail c.args.name.now c.requires.object
+    (record { whitespace_is = ap text_bytes c.labelled-seam.ensures.whitespace ∙ c.in_ok-whitespace.ensures; name_is = ap text_bytes c.labelled-seam.ensures.name ∙ c.in_ok-quoted.ensures; colons_is = ap text_bytes c.labelled-seam.ensures.colons ∙ c.in_ok-colons.ensures ∙ ap (λ s. colons_like (text_bytes s.colons)) same; trail_is = c.labelled-seam.ensures.trail })) c.put_part.ensures.put

@@ -30,6 +30,7 @@ loop-number-init c =
     record {
       named = c.if-not-row.false;
       sound = e.sound;
+      shorter = e.shorter;
       less = first_step r.named s.named r.length s.length (text_bytes r.hollow) (text_bytes s.hollow) (row_pieces r) (row_pieces s) n c.args.name.now e.named c.requires.0 e.sound.0 e.pieces e.some
           (some_named r.named (row_pieces r) c.args.name.now c.number_of.result n c.in-Some.is c.number_of.ensures.number) within;
     }
@@ -47,6 +48,7 @@ loop-number-preserved c =
     record {
       named = e.named ∙ i.named;
       sound = e.sound;
+      shorter = omega (arith, e.shorter, i.shorter);
       less = next_step r.named s.named u.named r.length s.length u.length (text_bytes r.hollow) (text_bytes s.hollow) (text_bytes u.hollow) (row_pieces r) (row_pieces s) (row_pieces u) n c.args.name.now object e.named c.requires.0 i.less i.sound.0 e.sound.0 e.pieces e.some
           (some_named s.named (row_pieces s) c.args.name.now c.number_of-in-loop-number.result n c.in-Some-number_of.is c.number_of-in-loop-number.ensures.number) within;
     }

@@ -18,15 +18,15 @@ swap_whitespace-requires c =
 pub len-requires : goal.len-requires
 len-requires c =
     let r = c.args.row.now in
-    let out : IsOut (items_of r.seams.all) (items_of c.remove-seam.new.self.all) (items_of r.values) (items_of c.remove-value.new.self) c.args.number c.remove-seam.result c.swap_whitespace.ensures.seam c.remove-value.result c.args.number = record {
+    let out : IsOut (items_of r.seams.all) (items_of c.remove-seam.new.self.all) (items_of r.values) (items_of c.remove-value.new.self) c.args.number c.remove-seam.result c.swap_whitespace.ensures.whitespace.seam c.remove-value.result c.args.number = record {
       seams = c.remove-seam.ensures.items;
       values = c.remove-value.ensures.items;
       seam = c.remove-seam.ensures.value;
       value = c.remove-value.ensures.value;
-      other = c.swap_whitespace.ensures.is;
+      other = c.swap_whitespace.ensures.whitespace.is;
     } in
-    let size = next_size r.named r.length _ (items_of r.seams.all) (items_of c.remove-seam.new.self.all) (items_of r.values) (items_of c.remove-value.new.self) c.args.number c.remove-seam.result c.swap_whitespace.ensures.seam c.remove-value.result c.remove-seam.result.whitespace c.swap_whitespace.new.whitespace c.requires.sound
-    (omega (arith, c.requires.within)) out c.swap_whitespace.ensures.taken_is in
+    let size = next_size r.named r.length _ (items_of r.seams.all) (items_of c.remove-seam.new.self.all) (items_of r.values) (items_of c.remove-value.new.self) c.args.number c.remove-seam.result c.swap_whitespace.ensures.whitespace.seam c.remove-value.result c.remove-seam.result.whitespace c.swap_whitespace.new.whitespace c.requires.sound
+    (omega (arith, c.requires.within)) out c.swap_whitespace.ensures.whitespace.taken_is in
     omega (arith, size)
 
 pub len-requires-2 : goal.len-requires-2
@@ -37,82 +37,82 @@ len-requires-2 c =
 pub overflow_add-row : goal.overflow_add-row
 overflow_add-row c =
     let r = c.args.row.now in
-    let out : IsOut (items_of r.seams.all) (items_of c.remove-seam.new.self.all) (items_of r.values) (items_of c.remove-value.new.self) c.args.number c.remove-seam.result c.swap_whitespace.ensures.seam c.remove-value.result c.args.number = record {
+    let out : IsOut (items_of r.seams.all) (items_of c.remove-seam.new.self.all) (items_of r.values) (items_of c.remove-value.new.self) c.args.number c.remove-seam.result c.swap_whitespace.ensures.whitespace.seam c.remove-value.result c.args.number = record {
       seams = c.remove-seam.ensures.items;
       values = c.remove-value.ensures.items;
       seam = c.remove-seam.ensures.value;
       value = c.remove-value.ensures.value;
-      other = c.swap_whitespace.ensures.is;
+      other = c.swap_whitespace.ensures.whitespace.is;
     } in
-    let size = next_size r.named r.length _ (items_of r.seams.all) (items_of c.remove-seam.new.self.all) (items_of r.values) (items_of c.remove-value.new.self) c.args.number c.remove-seam.result c.swap_whitespace.ensures.seam c.remove-value.result c.remove-seam.result.whitespace c.swap_whitespace.new.whitespace c.requires.sound
-    (omega (arith, c.requires.within)) out c.swap_whitespace.ensures.taken_is in
+    let size = next_size r.named r.length _ (items_of r.seams.all) (items_of c.remove-seam.new.self.all) (items_of r.values) (items_of c.remove-value.new.self) c.args.number c.remove-seam.result c.swap_whitespace.ensures.whitespace.seam c.remove-value.result c.remove-seam.result.whitespace c.swap_whitespace.new.whitespace c.requires.sound
+    (omega (arith, c.requires.within)) out c.swap_whitespace.ensures.whitespace.taken_is in
     omega (arith, size, c.len.ensures, c.len-2.ensures)
 
 pub overflow_add-row-2 : goal.overflow_add-row-2
 overflow_add-row-2 c =
     let r = c.args.row.now in
-    let out : IsOut (items_of r.seams.all) (items_of c.remove-seam.new.self.all) (items_of r.values) (items_of c.remove-value.new.self) c.args.number c.remove-seam.result c.swap_whitespace.ensures.seam c.remove-value.result c.args.number = record {
+    let out : IsOut (items_of r.seams.all) (items_of c.remove-seam.new.self.all) (items_of r.values) (items_of c.remove-value.new.self) c.args.number c.remove-seam.result c.swap_whitespace.ensures.whitespace.seam c.remove-value.result c.args.number = record {
       seams = c.remove-seam.ensures.items;
       values = c.remove-value.ensures.items;
       seam = c.remove-seam.ensures.value;
       value = c.remove-value.ensures.value;
-      other = c.swap_whitespace.ensures.is;
+      other = c.swap_whitespace.ensures.whitespace.is;
     } in
-    let size = next_size r.named r.length _ (items_of r.seams.all) (items_of c.remove-seam.new.self.all) (items_of r.values) (items_of c.remove-value.new.self) c.args.number c.remove-seam.result c.swap_whitespace.ensures.seam c.remove-value.result c.remove-seam.result.whitespace c.swap_whitespace.new.whitespace c.requires.sound
-    (omega (arith, c.requires.within)) out c.swap_whitespace.ensures.taken_is in
+    let size = next_size r.named r.length _ (items_of r.seams.all) (items_of c.remove-seam.new.self.all) (items_of r.values) (items_of c.remove-value.new.self) c.args.number c.remove-seam.result c.swap_whitespace.ensures.whitespace.seam c.remove-value.result c.remove-seam.result.whitespace c.swap_whitespace.new.whitespace c.requires.sound
+    (omega (arith, c.requires.within)) out c.swap_whitespace.ensures.whitespace.taken_is in
     omega (arith, size, c.len.ensures, c.len-2.ensures)
 
 pub overflow_sub-row : goal.overflow_sub-row
 overflow_sub-row c =
     let r = c.args.row.now in
-    let out : IsOut (items_of r.seams.all) (items_of c.remove-seam.new.self.all) (items_of r.values) (items_of c.remove-value.new.self) c.args.number c.remove-seam.result c.swap_whitespace.ensures.seam c.remove-value.result c.args.number = record {
+    let out : IsOut (items_of r.seams.all) (items_of c.remove-seam.new.self.all) (items_of r.values) (items_of c.remove-value.new.self) c.args.number c.remove-seam.result c.swap_whitespace.ensures.whitespace.seam c.remove-value.result c.args.number = record {
       seams = c.remove-seam.ensures.items;
       values = c.remove-value.ensures.items;
       seam = c.remove-seam.ensures.value;
       value = c.remove-value.ensures.value;
-      other = c.swap_whitespace.ensures.is;
+      other = c.swap_whitespace.ensures.whitespace.is;
     } in
-    let size = next_size r.named r.length _ (items_of r.seams.all) (items_of c.remove-seam.new.self.all) (items_of r.values) (items_of c.remove-value.new.self) c.args.number c.remove-seam.result c.swap_whitespace.ensures.seam c.remove-value.result c.remove-seam.result.whitespace c.swap_whitespace.new.whitespace c.requires.sound
-    (omega (arith, c.requires.within)) out c.swap_whitespace.ensures.taken_is in
+    let size = next_size r.named r.length _ (items_of r.seams.all) (items_of c.remove-seam.new.self.all) (items_of r.values) (items_of c.remove-value.new.self) c.args.number c.remove-seam.result c.swap_whitespace.ensures.whitespace.seam c.remove-value.result c.remove-seam.result.whitespace c.swap_whitespace.new.whitespace c.requires.sound
+    (omega (arith, c.requires.within)) out c.swap_whitespace.ensures.whitespace.taken_is in
     omega (arith, size, c.len.ensures, c.len-2.ensures)
 
 pub returns-clause-pieces : goal.returns-clause-pieces
 returns-clause-pieces c =
     let r = c.args.row.now in
-    let out : IsOut (items_of r.seams.all) (items_of c.remove-seam.new.self.all) (items_of r.values) (items_of c.remove-value.new.self) c.args.number c.remove-seam.result c.swap_whitespace.ensures.seam c.remove-value.result c.args.number = record {
+    let out : IsOut (items_of r.seams.all) (items_of c.remove-seam.new.self.all) (items_of r.values) (items_of c.remove-value.new.self) c.args.number c.remove-seam.result c.swap_whitespace.ensures.whitespace.seam c.remove-value.result c.args.number = record {
       seams = c.remove-seam.ensures.items;
       values = c.remove-value.ensures.items;
       seam = c.remove-seam.ensures.value;
       value = c.remove-value.ensures.value;
-      other = c.swap_whitespace.ensures.is;
+      other = c.swap_whitespace.ensures.whitespace.is;
     } in
-    ap (λ l. pieces_in l (items_of c.remove-value.new.self)) c.swap_whitespace.ensures.left ∙ next_pieces r.named r.length _ (items_of r.seams.all) (items_of c.remove-seam.new.self.all) (items_of r.values) (items_of c.remove-value.new.self) c.args.number c.remove-seam.result c.swap_whitespace.ensures.seam c.remove-value.result c.remove-seam.result.whitespace c.swap_whitespace.new.whitespace c.requires.sound (omega (arith, c.requires.within)) out refl
+    ap (λ l. pieces_in l (items_of c.remove-value.new.self)) c.swap_whitespace.ensures.whitespace.left ∙ next_pieces r.named r.length _ (items_of r.seams.all) (items_of c.remove-seam.new.self.all) (items_of r.values) (items_of c.remove-value.new.self) c.args.number c.remove-seam.result c.swap_whitespace.ensures.whitespace.seam c.remove-value.result c.remove-seam.result.whitespace c.swap_whitespace.new.whitespace c.requires.sound (omega (arith, c.requires.within)) out refl
 
 pub returns-clause-some : goal.returns-clause-some
 returns-clause-some c =
     let r = c.args.row.now in
-    let out : IsOut (items_of r.seams.all) (items_of c.remove-seam.new.self.all) (items_of r.values) (items_of c.remove-value.new.self) c.args.number c.remove-seam.result c.swap_whitespace.ensures.seam c.remove-value.result c.args.number = record {
+    let out : IsOut (items_of r.seams.all) (items_of c.remove-seam.new.self.all) (items_of r.values) (items_of c.remove-value.new.self) c.args.number c.remove-seam.result c.swap_whitespace.ensures.whitespace.seam c.remove-value.result c.args.number = record {
       seams = c.remove-seam.ensures.items;
       values = c.remove-value.ensures.items;
       seam = c.remove-seam.ensures.value;
       value = c.remove-value.ensures.value;
-      other = c.swap_whitespace.ensures.is;
+      other = c.swap_whitespace.ensures.whitespace.is;
     } in
-    λ e. next_some r.named r.length _ (items_of r.seams.all) (items_of c.remove-seam.new.self.all) (items_of r.values) (items_of c.remove-value.new.self) c.args.number c.remove-seam.result c.swap_whitespace.ensures.seam c.remove-value.result c.remove-seam.result.whitespace c.swap_whitespace.new.whitespace c.requires.sound (omega (arith, c.requires.within)) out refl
+    λ e. next_some r.named r.length _ (items_of r.seams.all) (items_of c.remove-seam.new.self.all) (items_of r.values) (items_of c.remove-value.new.self) c.args.number c.remove-seam.result c.swap_whitespace.ensures.whitespace.seam c.remove-value.result c.remove-seam.result.whitespace c.swap_whitespace.new.whitespace c.requires.sound (omega (arith, c.requires.within)) out refl
     (omega (arith, c.remove-value.ensures.len, c.requires.within)) e
 
 pub returns-clause-sound : goal.returns-clause-sound
 returns-clause-sound c =
     let r = c.args.row.now in
-    let out : IsOut (items_of r.seams.all) (items_of c.remove-seam.new.self.all) (items_of r.values) (items_of c.remove-value.new.self) c.args.number c.remove-seam.result c.swap_whitespace.ensures.seam c.remove-value.result c.args.number = record {
+    let out : IsOut (items_of r.seams.all) (items_of c.remove-seam.new.self.all) (items_of r.values) (items_of c.remove-value.new.self) c.args.number c.remove-seam.result c.swap_whitespace.ensures.whitespace.seam c.remove-value.result c.args.number = record {
       seams = c.remove-seam.ensures.items;
       values = c.remove-value.ensures.items;
       seam = c.remove-seam.ensures.value;
       value = c.remove-value.ensures.value;
-      other = c.swap_whitespace.ensures.is;
+      other = c.swap_whitespace.ensures.whitespace.is;
     } in
-    let size = next_size r.named r.length _ (items_of r.seams.all) (items_of c.remove-seam.new.self.all) (items_of r.values) (items_of c.remove-value.new.self) c.args.number c.remove-seam.result c.swap_whitespace.ensures.seam c.remove-value.result c.remove-seam.result.whitespace c.swap_whitespace.new.whitespace c.requires.sound
-    (omega (arith, c.requires.within)) out c.swap_whitespace.ensures.taken_is in
-    subst (λ l. IsKept r.named (r.length - (c.len.result + c.len-2.result + 1)) (text_bytes r.hollow) l (items_of c.remove-value.new.self)) (sym c.swap_whitespace.ensures.left)
-    (next_kept r.named r.length _ (items_of r.seams.all) (items_of c.remove-seam.new.self.all) (items_of r.values) (items_of c.remove-value.new.self) c.args.number c.remove-seam.result c.swap_whitespace.ensures.seam c.remove-value.result c.remove-seam.result.whitespace c.swap_whitespace.new.whitespace (r.length - (c.len.result + c.len-2.result + 1)) c.requires.sound (omega (arith, c.requires.within)) out refl c.swap_whitespace.ensures.taken_is
+    let size = next_size r.named r.length _ (items_of r.seams.all) (items_of c.remove-seam.new.self.all) (items_of r.values) (items_of c.remove-value.new.self) c.args.number c.remove-seam.result c.swap_whitespace.ensures.whitespace.seam c.remove-value.result c.remove-seam.result.whitespace c.swap_whitespace.new.whitespace c.requires.sound
+    (omega (arith, c.requires.within)) out c.swap_whitespace.ensures.whitespace.taken_is in
+    subst (λ l. IsKept r.named (r.length - (c.len.result + c.len-2.result + 1)) (text_bytes r.hollow) l (items_of c.remove-value.new.self)) (sym c.swap_whitespace.ensures.whitespace.left)
+    (next_kept r.named r.length _ (items_of r.seams.all) (items_of c.remove-seam.new.self.all) (items_of r.values) (items_of c.remove-value.new.self) c.args.number c.remove-seam.result c.swap_whitespace.ensures.whitespace.seam c.remove-value.result c.remove-seam.result.whitespace c.swap_whitespace.new.whitespace (r.length - (c.len.result + c.len-2.result + 1)) c.requires.sound (omega (arith, c.requires.within)) out refl c.swap_whitespace.ensures.whitespace.taken_is
     (omega (arith, size, c.len.ensures, c.len-2.ensures)))

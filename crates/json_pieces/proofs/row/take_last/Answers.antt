@@ -13,15 +13,15 @@ remove-seam-requires c =
 pub len-requires : goal.len-requires
 len-requires c =
     let r = c.args.row.now in
-    let out : IsOut (items_of r.seams.all) (items_of c.remove-seam.new.self.all) (items_of r.values) (items_of c.remove-value.new.self) c.args.number c.remove-seam.result c.swap_trail.ensures.seam c.remove-value.result (c.args.number - 1) = record {
+    let out : IsOut (items_of r.seams.all) (items_of c.remove-seam.new.self.all) (items_of r.values) (items_of c.remove-value.new.self) c.args.number c.remove-seam.result c.swap_trail.ensures.trail.seam c.remove-value.result (c.args.number - 1) = record {
       seams = c.remove-seam.ensures.items;
       values = c.remove-value.ensures.items;
       seam = c.remove-seam.ensures.value;
       value = c.remove-value.ensures.value;
-      other = c.swap_trail.ensures.is;
+      other = c.swap_trail.ensures.trail.is;
     } in
-    let size = last_size r.named r.length _ (items_of r.seams.all) (items_of c.remove-seam.new.self.all) (items_of r.values) (items_of c.remove-value.new.self) c.args.number c.remove-seam.result c.swap_trail.ensures.seam c.remove-value.result c.remove-seam.result.trail c.swap_trail.new.trail (c.args.number - 1) (omega (arith, c.requires.first)) c.requires.sound
-    (omega (arith, c.requires.last)) out c.swap_trail.ensures.taken_is in
+    let size = last_size r.named r.length _ (items_of r.seams.all) (items_of c.remove-seam.new.self.all) (items_of r.values) (items_of c.remove-value.new.self) c.args.number c.remove-seam.result c.swap_trail.ensures.trail.seam c.remove-value.result c.remove-seam.result.trail c.swap_trail.new.trail (c.args.number - 1) (omega (arith, c.requires.first)) c.requires.sound
+    (omega (arith, c.requires.last)) out c.swap_trail.ensures.trail.taken_is in
     omega (arith, size)
 
 pub len-requires-2 : goal.len-requires-2
@@ -32,82 +32,82 @@ len-requires-2 c =
 pub overflow_add-row : goal.overflow_add-row
 overflow_add-row c =
     let r = c.args.row.now in
-    let out : IsOut (items_of r.seams.all) (items_of c.remove-seam.new.self.all) (items_of r.values) (items_of c.remove-value.new.self) c.args.number c.remove-seam.result c.swap_trail.ensures.seam c.remove-value.result (c.args.number - 1) = record {
+    let out : IsOut (items_of r.seams.all) (items_of c.remove-seam.new.self.all) (items_of r.values) (items_of c.remove-value.new.self) c.args.number c.remove-seam.result c.swap_trail.ensures.trail.seam c.remove-value.result (c.args.number - 1) = record {
       seams = c.remove-seam.ensures.items;
       values = c.remove-value.ensures.items;
       seam = c.remove-seam.ensures.value;
       value = c.remove-value.ensures.value;
-      other = c.swap_trail.ensures.is;
+      other = c.swap_trail.ensures.trail.is;
     } in
-    let size = last_size r.named r.length _ (items_of r.seams.all) (items_of c.remove-seam.new.self.all) (items_of r.values) (items_of c.remove-value.new.self) c.args.number c.remove-seam.result c.swap_trail.ensures.seam c.remove-value.result c.remove-seam.result.trail c.swap_trail.new.trail (c.args.number - 1) (omega (arith, c.requires.first)) c.requires.sound
-    (omega (arith, c.requires.last)) out c.swap_trail.ensures.taken_is in
+    let size = last_size r.named r.length _ (items_of r.seams.all) (items_of c.remove-seam.new.self.all) (items_of r.values) (items_of c.remove-value.new.self) c.args.number c.remove-seam.result c.swap_trail.ensures.trail.seam c.remove-value.result c.remove-seam.result.trail c.swap_trail.new.trail (c.args.number - 1) (omega (arith, c.requires.first)) c.requires.sound
+    (omega (arith, c.requires.last)) out c.swap_trail.ensures.trail.taken_is in
     omega (arith, size, c.len.ensures, c.len-2.ensures)
 
 pub overflow_add-row-2 : goal.overflow_add-row-2
 overflow_add-row-2 c =
     let r = c.args.row.now in
-    let out : IsOut (items_of r.seams.all) (items_of c.remove-seam.new.self.all) (items_of r.values) (items_of c.remove-value.new.self) c.args.number c.remove-seam.result c.swap_trail.ensures.seam c.remove-value.result (c.args.number - 1) = record {
+    let out : IsOut (items_of r.seams.all) (items_of c.remove-seam.new.self.all) (items_of r.values) (items_of c.remove-value.new.self) c.args.number c.remove-seam.result c.swap_trail.ensures.trail.seam c.remove-value.result (c.args.number - 1) = record {
       seams = c.remove-seam.ensures.items;
       values = c.remove-value.ensures.items;
       seam = c.remove-seam.ensures.value;
       value = c.remove-value.ensures.value;
-      other = c.swap_trail.ensures.is;
+      other = c.swap_trail.ensures.trail.is;
     } in
-    let size = last_size r.named r.length _ (items_of r.seams.all) (items_of c.remove-seam.new.self.all) (items_of r.values) (items_of c.remove-value.new.self) c.args.number c.remove-seam.result c.swap_trail.ensures.seam c.remove-value.result c.remove-seam.result.trail c.swap_trail.new.trail (c.args.number - 1) (omega (arith, c.requires.first)) c.requires.sound
-    (omega (arith, c.requires.last)) out c.swap_trail.ensures.taken_is in
+    let size = last_size r.named r.length _ (items_of r.seams.all) (items_of c.remove-seam.new.self.all) (items_of r.values) (items_of c.remove-value.new.self) c.args.number c.remove-seam.result c.swap_trail.ensures.trail.seam c.remove-value.result c.remove-seam.result.trail c.swap_trail.new.trail (c.args.number - 1) (omega (arith, c.requires.first)) c.requires.sound
+    (omega (arith, c.requires.last)) out c.swap_trail.ensures.trail.taken_is in
     omega (arith, size, c.len.ensures, c.len-2.ensures)
 
 pub overflow_sub-row : goal.overflow_sub-row
 overflow_sub-row c =
     let r = c.args.row.now in
-    let out : IsOut (items_of r.seams.all) (items_of c.remove-seam.new.self.all) (items_of r.values) (items_of c.remove-value.new.self) c.args.number c.remove-seam.result c.swap_trail.ensures.seam c.remove-value.result (c.args.number - 1) = record {
+    let out : IsOut (items_of r.seams.all) (items_of c.remove-seam.new.self.all) (items_of r.values) (items_of c.remove-value.new.self) c.args.number c.remove-seam.result c.swap_trail.ensures.trail.seam c.remove-value.result (c.args.number - 1) = record {
       seams = c.remove-seam.ensures.items;
       values = c.remove-value.ensures.items;
       seam = c.remove-seam.ensures.value;
       value = c.remove-value.ensures.value;
-      other = c.swap_trail.ensures.is;
+      other = c.swap_trail.ensures.trail.is;
     } in
-    let size = last_size r.named r.length _ (items_of r.seams.all) (items_of c.remove-seam.new.self.all) (items_of r.values) (items_of c.remove-value.new.self) c.args.number c.remove-seam.result c.swap_trail.ensures.seam c.remove-value.result c.remove-seam.result.trail c.swap_trail.new.trail (c.args.number - 1) (omega (arith, c.requires.first)) c.requires.sound
-    (omega (arith, c.requires.last)) out c.swap_trail.ensures.taken_is in
+    let size = last_size r.named r.length _ (items_of r.seams.all) (items_of c.remove-seam.new.self.all) (items_of r.values) (items_of c.remove-value.new.self) c.args.number c.remove-seam.result c.swap_trail.ensures.trail.seam c.remove-value.result c.remove-seam.result.trail c.swap_trail.new.trail (c.args.number - 1) (omega (arith, c.requires.first)) c.requires.sound
+    (omega (arith, c.requires.last)) out c.swap_trail.ensures.trail.taken_is in
     omega (arith, size, c.len.ensures, c.len-2.ensures)
 
 pub returns-clause-pieces : goal.returns-clause-pieces
 returns-clause-pieces c =
     let r = c.args.row.now in
-    let out : IsOut (items_of r.seams.all) (items_of c.remove-seam.new.self.all) (items_of r.values) (items_of c.remove-value.new.self) c.args.number c.remove-seam.result c.swap_trail.ensures.seam c.remove-value.result (c.args.number - 1) = record {
+    let out : IsOut (items_of r.seams.all) (items_of c.remove-seam.new.self.all) (items_of r.values) (items_of c.remove-value.new.self) c.args.number c.remove-seam.result c.swap_trail.ensures.trail.seam c.remove-value.result (c.args.number - 1) = record {
       seams = c.remove-seam.ensures.items;
       values = c.remove-value.ensures.items;
       seam = c.remove-seam.ensures.value;
       value = c.remove-value.ensures.value;
-      other = c.swap_trail.ensures.is;
+      other = c.swap_trail.ensures.trail.is;
     } in
-    ap (λ l. pieces_in l (items_of c.remove-value.new.self)) c.swap_trail.ensures.left ∙ last_pieces r.named r.length _ (items_of r.seams.all) (items_of c.remove-seam.new.self.all) (items_of r.values) (items_of c.remove-value.new.self) c.args.number c.remove-seam.result c.swap_trail.ensures.seam c.remove-value.result c.remove-seam.result.trail c.swap_trail.new.trail (c.args.number - 1) (omega (arith, c.requires.first)) c.requires.sound (omega (arith, c.requires.last)) out refl
+    ap (λ l. pieces_in l (items_of c.remove-value.new.self)) c.swap_trail.ensures.trail.left ∙ last_pieces r.named r.length _ (items_of r.seams.all) (items_of c.remove-seam.new.self.all) (items_of r.values) (items_of c.remove-value.new.self) c.args.number c.remove-seam.result c.swap_trail.ensures.trail.seam c.remove-value.result c.remove-seam.result.trail c.swap_trail.new.trail (c.args.number - 1) (omega (arith, c.requires.first)) c.requires.sound (omega (arith, c.requires.last)) out refl
 
 pub returns-clause-some : goal.returns-clause-some
 returns-clause-some c =
     let r = c.args.row.now in
-    let out : IsOut (items_of r.seams.all) (items_of c.remove-seam.new.self.all) (items_of r.values) (items_of c.remove-value.new.self) c.args.number c.remove-seam.result c.swap_trail.ensures.seam c.remove-value.result (c.args.number - 1) = record {
+    let out : IsOut (items_of r.seams.all) (items_of c.remove-seam.new.self.all) (items_of r.values) (items_of c.remove-value.new.self) c.args.number c.remove-seam.result c.swap_trail.ensures.trail.seam c.remove-value.result (c.args.number - 1) = record {
       seams = c.remove-seam.ensures.items;
       values = c.remove-value.ensures.items;
       seam = c.remove-seam.ensures.value;
       value = c.remove-value.ensures.value;
-      other = c.swap_trail.ensures.is;
+      other = c.swap_trail.ensures.trail.is;
     } in
-    λ e. last_some r.named r.length _ (items_of r.seams.all) (items_of c.remove-seam.new.self.all) (items_of r.values) (items_of c.remove-value.new.self) c.args.number c.remove-seam.result c.swap_trail.ensures.seam c.remove-value.result c.remove-seam.result.trail c.swap_trail.new.trail (c.args.number - 1) (omega (arith, c.requires.first)) c.requires.sound (omega (arith, c.requires.last)) out refl
+    λ e. last_some r.named r.length _ (items_of r.seams.all) (items_of c.remove-seam.new.self.all) (items_of r.values) (items_of c.remove-value.new.self) c.args.number c.remove-seam.result c.swap_trail.ensures.trail.seam c.remove-value.result c.remove-seam.result.trail c.swap_trail.new.trail (c.args.number - 1) (omega (arith, c.requires.first)) c.requires.sound (omega (arith, c.requires.last)) out refl
     (omega (arith, c.remove-value.ensures.len, c.requires)) e
 
 pub returns-clause-sound : goal.returns-clause-sound
 returns-clause-sound c =
     let r = c.args.row.now in
-    let out : IsOut (items_of r.seams.all) (items_of c.remove-seam.new.self.all) (items_of r.values) (items_of c.remove-value.new.self) c.args.number c.remove-seam.result c.swap_trail.ensures.seam c.remove-value.result (c.args.number - 1) = record {
+    let out : IsOut (items_of r.seams.all) (items_of c.remove-seam.new.self.all) (items_of r.values) (items_of c.remove-value.new.self) c.args.number c.remove-seam.result c.swap_trail.ensures.trail.seam c.remove-value.result (c.args.number - 1) = record {
       seams = c.remove-seam.ensures.items;
       values = c.remove-value.ensures.items;
       seam = c.remove-seam.ensures.value;
       value = c.remove-value.ensures.value;
-      other = c.swap_trail.ensures.is;
+      other = c.swap_trail.ensures.trail.is;
     } in
-    let size = last_size r.named r.length _ (items_of r.seams.all) (items_of c.remove-seam.new.self.all) (items_of r.values) (items_of c.remove-value.new.self) c.args.number c.remove-seam.result c.swap_trail.ensures.seam c.remove-value.result c.remove-seam.result.trail c.swap_trail.new.trail (c.args.number - 1) (omega (arith, c.requires.first)) c.requires.sound
-    (omega (arith, c.requires.last)) out c.swap_trail.ensures.taken_is in
-    subst (λ l. IsKept r.named (r.length - (c.len.result + c.len-2.result + 1)) (text_bytes r.hollow) l (items_of c.remove-value.new.self)) (sym c.swap_trail.ensures.left)
-    (last_kept r.named r.length _ (items_of r.seams.all) (items_of c.remove-seam.new.self.all) (items_of r.values) (items_of c.remove-value.new.self) c.args.number c.remove-seam.result c.swap_trail.ensures.seam c.remove-value.result c.remove-seam.result.trail c.swap_trail.new.trail (r.length - (c.len.result + c.len-2.result + 1)) (c.args.number - 1) (omega (arith, c.requires.first)) c.requires.sound (omega (arith, c.requires.last)) out refl c.swap_trail.ensures.taken_is
+    let size = last_size r.named r.length _ (items_of r.seams.all) (items_of c.remove-seam.new.self.all) (items_of r.values) (items_of c.remove-value.new.self) c.args.number c.remove-seam.result c.swap_trail.ensures.trail.seam c.remove-value.result c.remove-seam.result.trail c.swap_trail.new.trail (c.args.number - 1) (omega (arith, c.requires.first)) c.requires.sound
+    (omega (arith, c.requires.last)) out c.swap_trail.ensures.trail.taken_is in
+    subst (λ l. IsKept r.named (r.length - (c.len.result + c.len-2.result + 1)) (text_bytes r.hollow) l (items_of c.remove-value.new.self)) (sym c.swap_trail.ensures.trail.left)
+    (last_kept r.named r.length _ (items_of r.seams.all) (items_of c.remove-seam.new.self.all) (items_of r.values) (items_of c.remove-value.new.self) c.args.number c.remove-seam.result c.swap_trail.ensures.trail.seam c.remove-value.result c.remove-seam.result.trail c.swap_trail.new.trail (r.length - (c.len.result + c.len-2.result + 1)) (c.args.number - 1) (omega (arith, c.requires.first)) c.requires.sound (omega (arith, c.requires.last)) out refl c.swap_trail.ensures.trail.taken_is
     (omega (arith, size, c.len.ensures, c.len-2.ensures)))

@@ -1,18 +1,15 @@
-use Rattle.std.proofs.Common.{◌∙◌, ◌∷◌, ap, arith, length, map, rules, subst, sym}
-use Rattle.std.specs.Prelude.{IfOk, OnOk}
-use Rattle.json.specs.Json.{Json}
-use Rattle.json_lexemes.specs.Spelled.{Says}
+use Rattle.std.proofs.Common.{◌∙◌, ap, arith, length, map, refl, rules, subst, sym}
 use Rattle.json_text.specs.Cuts.{row_text}
-use Rattle.json_pieces.specs.Nodes.{IsSound, parts_of, row_view, text_bytes, tree_text, view, wide}
+use Rattle.json_pieces.specs.Nodes.{IsSound, parts_of, row_view, text_bytes, view, wide}
 use Rattle.json_pieces.proofs.Lists.{pieces_in}
-use Rattle.std.proofs.lemmas.Result.{on_ok_weaker}
 use Rattle.std.specs.Box.{with_value}
 use Rattle.jsonptr.specs.Pointers.{token_of, tokens_left}
 use Rattle.long_vec.specs.Items.{items_of}
 use Rattle.json_pieces.specs.Looks.{Looks}
 use Rattle.json_pieces.specs.declared.node.Node.{the_lemmas}
+use Rattle.json_pieces.specs.declared.node.Node.TheVariants.{Open}
 use Rattle.json_pieces.proofs.Looks.{looked_below, none_looked, still_sound}
-use Rattle.json_pieces.proofs.Walks.{open_sound, open_whole, put_back, row_made_at, value_whole}
+use Rattle.json_pieces.proofs.Walks.{open_sound, open_text, open_whole, put_back, row_made_at, set_same, value_whole}
 use Rattle.json_pieces.proofs.shape.+looking.Goals as goal
 
 pub shape_in-returns-in_default-clause-looks : goal.shape_in-returns-in_default-clause-looks
@@ -27,26 +24,31 @@ shape_in-returns-clause-sound t c =
     let n = c.in-Some.number in
     let w = c.shape_at-found.new.node in
     let left = put_back (items_of r.values) _ _ n _ w c.exchange-value.ensures.items c.exchange.ensures.items in
-    subst (λ l. OnOk c.shape_at-found.result (IsSound (wide r.named r.length (text_bytes r.hollow) (parts_of (items_of r.seams.all) (map view l))))) (sym left)
-    (still_sound r n c.exchange-value.result w (tokens_left c.args.rest) c.requires.sound c.in-Some.ensures.within c.exchange-value.ensures.value c.shape_at-found.result c.shape_at-found.ensures.whole c.shape_at-found.ensures.looks)
+    subst (λ l. IsSound (wide r.named r.length (text_bytes r.hollow) (parts_of (items_of r.seams.all) (map view l)))) (sym left)
+    (still_sound r n c.exchange-value.result w (tokens_left c.args.rest) c.requires.sound c.in-Some.ensures.within c.exchange-value.ensures.value c.shape_at-found.ensures.whole c.shape_at-found.ensures.text)
 
-pub shape_in-returns-clause-looks : goal.shape_in-returns-clause-looks
-shape_in-returns-clause-looks t c =
+pub shape_in-returns-clause-text : goal.shape_in-returns-clause-text
+shape_in-returns-clause-text t c =
     let r = c.args.row.now in
     let n = c.in-Some.number in
     let w = c.shape_at-found.new.node in
-    let t = token_of c.args.token in
-    let P = tokens_left c.args.rest in
     let left = put_back (items_of r.values) _ _ n _ w c.exchange-value.ensures.items c.exchange.ensures.items in
-    subst (λ l. IfOk c.shape_at-found.result (λ found. (j : Json) → Says (tree_text (row_view r)) j → Looks (tree_text (row_view r)) j (t ∷ P) (row_text r.named (text_bytes r.hollow) (pieces_in (items_of r.seams.all) l)) found)) (sym left)
-    (looked_below r n c.exchange-value.result w P c.requires.sound c.in-Some.ensures.within c.exchange-value.ensures.value c.shape_at-found.result t c.as_str.result.now (c.as_str.ensures.value ∙ c.in_ok-name.ensures) c.in-Some.ensures.number c.shape_at-found.ensures.looks)
+    ap (λ l. row_text r.named (text_bytes r.hollow) (pieces_in (items_of r.seams.all) l)) left ∙ set_same r n c.exchange-value.result w c.requires.sound c.in-Some.ensures.within c.exchange-value.ensures.value c.shape_at-found.ensures.text
+
+pub shape_in-returns-clause-looks : goal.shape_in-returns-clause-looks
+shape_in-returns-clause-looks t c =
+    looked_below c.args.row.now c.in-Some.number c.exchange-value.result c.shape_at-found.new.node (tokens_left c.args.rest) c.requires.sound c.in-Some.ensures.within c.exchange-value.ensures.value c.shape_at-found.result (token_of c.args.token) c.as_str.result.now (c.as_str.ensures.value ∙ c.in_ok-name.ensures) c.in-Some.ensures.number c.shape_at-found.ensures.looks
 
 pub shape_at-shape_in-requires : goal.shape_at-shape_in-requires
 shape_at-shape_in-requires t c = (omega (arith, c.decreases, ap length c.in-Some.ensures.steps), subst (λ r. IsSound (row_view r)) (sym (c.deref_mut.ensures.value ∙ ap (λ b. b.value) c.in-Open.row-is)) (open_sound c.open.new.node c.in-Open.row c.in-Open.is c.in_ok-open.ensures.whole))
 
 pub shape_at-returns-in-Open-clause-whole : goal.shape_at-returns-in-Open-clause-whole
-shape_at-returns-in-Open-clause-whole t c = on_ok_weaker c.shape_in.result (open_whole _ (with_value c.in-Open.row c.shape_in.new.row) (search (rules, the_lemmas))) c.shape_in.ensures.sound
+shape_at-returns-in-Open-clause-whole t c = open_whole _ (with_value c.in-Open.row c.shape_in.new.row) (search (rules, the_lemmas)) c.shape_in.ensures.sound
+
+pub shape_at-returns-in-Open-clause-text : goal.shape_at-returns-in-Open-clause-text
+shape_at-returns-in-Open-clause-text t c =
+    open_text c.args.node.now c.open.new.node _ c.deref_mut.result.now c.in-Open.row (with_value c.in-Open.row c.shape_in.new.row) c.in_ok-open.ensures.text (c.deref_mut.ensures.value ∙ ap (λ b. b.value) c.in-Open.row-is) c.in-Open.is (search (rules, the_lemmas)) c.shape_in.ensures.text
 
 pub shape_at-returns-in-Open-clause-looks : goal.shape_at-returns-in-Open-clause-looks
 shape_at-returns-in-Open-clause-looks t c =
-    row_made_at c.shape_in.result (λ P found text j new. Looks text j P new found) c.args.node.now c.open.new.node _ c.deref_mut.result.now c.in-Open.row (with_value c.in-Open.row c.shape_in.new.row) _ _ c.in-Some.ensures.steps c.in_ok-open.ensures.text (c.deref_mut.ensures.value ∙ ap (λ b. b.value) c.in-Open.row-is) c.in-Open.is (search (rules, the_lemmas)) c.shape_in.ensures.looks
+    row_made_at c.shape_in.result (λ P found text j new. Looks j P found) c.args.node.now c.open.new.node (Open (with_value c.in-Open.row c.shape_in.new.row)) c.deref_mut.result.now c.in-Open.row (with_value c.in-Open.row c.shape_in.new.row) _ _ c.in-Some.ensures.steps c.in_ok-open.ensures.text (c.deref_mut.ensures.value ∙ ap (λ b. b.value) c.in-Open.row-is) c.in-Open.is refl c.shape_in.ensures.looks

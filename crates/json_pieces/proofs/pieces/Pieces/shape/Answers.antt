@@ -12,6 +12,5 @@ returns-clause-shape c =
     let p = c.requires.pieces in
     IfOk-weaker c.shape_at.result _ _
     (λ found looked j says.
-    let (_, shape) = looks_around c.args.self.now.before.now c.args.self.now.behind.now (tree_text (view c.args.self.now.root)) (tree_text (view c.shape_at.new.node)) _ found p.before p.behind (p.root.1.0, p.root.1.1.0) looked j says in
-    shape ∙ ap (λ P. option_map shape_of (tree_at P j)) c.tokens.ensures.value)
+    looks_around c.args.self.now.before.now c.args.self.now.behind.now (tree_text (view c.args.self.now.root)) _ found p.before p.behind (p.root.1.0, p.root.1.1.0) looked j says ∙ ap (λ P. option_map shape_of (tree_at P j)) c.tokens.ensures.value)
     c.shape_at.ensures.looks

@@ -6,8 +6,8 @@ use Rattle.long_vec.specs.Items.{items_of}
 use Rattle.json_pieces.proofs.Places.{still_agrees}
 use Rattle.json_pieces.proofs.seams.Seams.swap_trail.Goals as goal
 
-pub returns : goal.returns
-returns c =
+pub returns-clause-trail : goal.returns-clause-trail
+returns-clause-trail c =
     let ss = items_of c.args.self.now.all in
     let s = with_trail c.args.trail.now c.exchange-seam.result in
     record {

@@ -6,8 +6,8 @@ use Rattle.long_vec.specs.Items.{items_of}
 use Rattle.json_pieces.proofs.Places.{still_agrees}
 use Rattle.json_pieces.proofs.seams.Seams.swap_whitespace.Goals as goal
 
-pub returns : goal.returns
-returns c =
+pub returns-clause-whitespace : goal.returns-clause-whitespace
+returns-clause-whitespace c =
     let ss = items_of c.args.self.now.all in
     let s = with_whitespace c.args.whitespace.now c.exchange-seam.result in
     record {
