@@ -12,6 +12,24 @@ use lib.Pow.{split, shr_lt}
 use mir.Val.{bool_byte}
 use Rattle.json.specs.Scan.{test, xor, parity}
 
+-- ---- tests
+
+pub and_true : (b : Bool) → (b && true) ≡ b
+and_true true = refl
+and_true false = refl
+
+pub and_false : (b : Bool) → (b && false) ≡ false
+and_false true = refl
+and_false false = refl
+
+pub or_false : (b : Bool) → (b || false) ≡ b
+or_false true = refl
+or_false false = refl
+
+pub xor_false : (b : Bool) → xor b false ≡ b
+xor_false true = refl
+xor_false false = refl
+
 -- ---- operations
 
 lifted : (f : ℕ → ℕ → ℕ) (g : Bool → Bool → Bool) → (f 0 0 == 1) ≡ g false false → (f 0 1 == 1) ≡ g false true → (f 1 0 == 1) ≡ g true false → (f 1 1 == 1) ≡ g true true
@@ -105,10 +123,6 @@ test_mask p v i h = ap (λ n. n == 1) (bit_mask_l (map p v) i) ∙ as_bool (get_
     as_bool false = refl
 
 -- ---- the parity of the bits up to each
-
-xor_false : (a : Bool) → xor a false ≡ a
-xor_false true = refl
-xor_false false = refl
 
 xor_twice : (a b : Bool) → b ≡ xor (xor a b) a
 xor_twice true true = refl
@@ -252,10 +266,6 @@ not_moved x i d j y e h = test_and x _ j ∙ ap (λ b. test x j && b) (test_not 
 pub not_moved_low : (x i j y : ℕ) → j < i → j < 64 → test (bit_and x (flipped (shifted i y))) j ≡ test x j
 not_moved_low x i j y l h =
     test_and x _ j ∙ ap (λ b. test x j && b) (test_not (shifted i y) j (mod-lt (y * 2 ^ i) (pow_pos 64)) h ∙ ap not (shifted_low i j y l h)) ∙ and_true (test x j)
-  where
-    and_true : (b : Bool) → (b && true) ≡ b
-    and_true true = refl
-    and_true false = refl
 
 -- ---- a bit that is shifted down
 
@@ -270,7 +280,3 @@ clear_by_shift x i h = ne_eqb (bit_at x i) 1 (λ e. h (shr_and_one x i ∙ e))
 -- and one that is cleared
 pub cleared : (x i : ℕ) → i < 64 → test (bit_and x (flipped (shifted i 1))) i ≡ false
 cleared x i h = not_moved x i 0 i 1 (sym (add-zero i)) h ∙ ap (λ v. test x i && not v) low_bits.0 ∙ and_false (test x i)
-  where
-    and_false : (b : Bool) → (b && false) ≡ false
-    and_false true = refl
-    and_false false = refl

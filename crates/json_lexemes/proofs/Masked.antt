@@ -6,7 +6,7 @@ use mir.Val.{bool_byte}
 use Rattle.json.specs.Word.{is_operator, is_space}
 use Rattle.json.specs.Lex.{Class, quote, backslash, operator, space, other, class}
 use Rattle.json.specs.Scan.{test, xor, escaped_in, parity}
-use Rattle.json_lexemes.proofs.Bits.{test_and, test_or, test_xor, flipped, test_not, test_zero, shifted, shifted_one, shifted_low, flag_lt, flag_first, flag_next, test_above, flipped_lt, IsLowest, moved, not_moved, not_moved_low, low_bits, one_bits, two_bits, three_bits}
+use Rattle.json_lexemes.proofs.Bits.{and_true, and_false, or_false, xor_false, test_and, test_or, test_xor, flipped, test_not, test_zero, shifted, shifted_one, shifted_low, flag_lt, flag_first, flag_next, test_above, flipped_lt, IsLowest, moved, not_moved, not_moved_low, low_bits, one_bits, two_bits, three_bits}
 use Rattle.json_lexemes.specs.Lexing.{next_mode}
 use Rattle.json_lexemes.specs.Skipped.{one_less}
 use Rattle.json_lexemes.specs.Runs.{of_word, is_of_word}
@@ -14,18 +14,6 @@ use Rattle.json_lexemes.specs.Blocks.{is_opening, is_closing, is_outside, mode_a
 use Rattle.json_lexemes.proofs.Steps.{space_class}
 
 -- ---- bits
-
-pub and-true : (b : Bool) → (b && true) ≡ b
-and-true true = refl
-and-true false = refl
-
-pub and-false : (b : Bool) → (b && false) ≡ false
-and-false true = refl
-and-false false = refl
-
-or-false : (b : Bool) → (b || false) ≡ b
-or-false true = refl
-or-false false = refl
 
 -- no bit of these stays behind another
 abbrev pub behind : ℕ → Bool → ℕ
@@ -46,11 +34,11 @@ not_behind_next bits others first i h =
     test_and bits _ (suc i)
     ∙ ap (λ b. test bits (suc i) && b)
     (test_not (behind others first) (suc i) (behind_lt others first) h
-    ∙ ap not (test_or (shifted 1 others) _ (suc i) ∙ ap₂ (λ x y. x || y) (shifted_one i others h) (flag_next first i) ∙ or-false (test others i)))
+    ∙ ap not (test_or (shifted 1 others) _ (suc i) ∙ ap₂ (λ x y. x || y) (shifted_one i others h) (flag_next first i) ∙ or_false (test others i)))
 
 -- ---- bytes that no word goes on behind
 
-opening_ends : (x : ℕ) → is_opening x ≡ true → is_of_word x ≡ false
+pub opening_ends : (x : ℕ) → is_opening x ≡ true → is_of_word x ≡ false
 opening_ends x h = by_byte (or_cases (x == 123) (x == 91) h)
   where
     by_byte : ((x == 123) ≡ true) ⊎ ((x == 91) ≡ true) → is_of_word x ≡ false
@@ -169,10 +157,6 @@ no_quote x b (inr h) = by_byte (or_cases (x == 125) (x == 93) h)
     by_byte (inl e) = ap (λ y. (y == 34) && b) (eqb-true x 125 e)
     by_byte (inr e) = ap (λ y. (y == 34) && b) (eqb-true x 93 e)
 
-xor-false : (a : Bool) → xor a false ≡ a
-xor-false true = refl
-xor-false false = refl
-
 -- all bits as this one
 abbrev pub spread : Bool → ℕ
 spread c = (0 + (2 ^ 64 - bool_byte c)) % 2 ^ 64
@@ -236,7 +220,7 @@ module _ (t : List ℕ) (at : ℕ) (s e : Bool) (b q : ℕ) where
   -- a bracket leaves strings as they are
   same_there : Fair → (i : ℕ) → i < 64 → (is_opening (byte i) ≡ true) ⊎ (is_closing (byte i) ≡ true) → open_at (suc i) ≡ open_at i
   unfolding parity
-  same_there f i h k = swap (parity q i) (test q i) s ∙ ap (xor (open_at i)) (f.quotes i h ∙ no_quote (byte i) _ k) ∙ xor-false (open_at i)
+  same_there f i h k = swap (parity q i) (test q i) s ∙ ap (xor (open_at i)) (f.quotes i h ∙ no_quote (byte i) _ k) ∙ xor_false (open_at i)
 
   -- as the masks have them
   masked : (x a b : Bool) → (x ≡ true → a ≡ b) → (x && a) ≡ (x && b)
@@ -258,7 +242,7 @@ module _ (t : List ℕ) (at : ℕ) (s e : Bool) (b q : ℕ) where
   pub quiet : ((i : ℕ) → i < 64 → test q i ≡ false) → (i : ℕ) → i ≤ 64 → open_at i ≡ s
   unfolding parity
   quiet none zero h = refl
-  quiet none (suc i) h = swap (parity q i) (test q i) s ∙ ap (xor (open_at i)) (none i (omega arith)) ∙ xor-false (open_at i) ∙ quiet none i (omega arith)
+  quiet none (suc i) h = swap (parity q i) (test q i) s ∙ ap (xor (open_at i)) (none i (omega arith)) ∙ xor_false (open_at i) ∙ quiet none i (omega arith)
 
   pub quiet_escaped : test b 63 ≡ false → escaped_at 64 ≡ false
   unfolding escaped_in
@@ -272,7 +256,7 @@ module _ (t : List ℕ) (at : ℕ) (s e : Bool) (b q : ℕ) where
       let x : byte i ≡ 92 = eqb-true (byte i) 92 (sym (hb i h) ∙ p) in
       let no : test q i ≡ false = hq i h ∙ ap (λ y. (y == 34) && not (escaped_at i)) x in
       let held : test r i ≡ true = held_by (test r i) (ap (λ v. v && not (test r i)) (sym p) ∙ sym (test_and b (flipped r) i ∙ ap (λ v. test b i && v) (test_not r i small h)) ∙ ap (λ y. test y i) none ∙ test_zero i) in
-      sym (swap (parity q i) (test q i) s ∙ ap (xor (open_at i)) no ∙ xor-false (open_at i)) ∙ sym (hr i h) ∙ held
+      sym (swap (parity q i) (test q i) s ∙ ap (xor (open_at i)) no ∙ xor_false (open_at i)) ∙ sym (hr i h) ∙ held
     where
       held_by : (v : Bool) → (true && not v) ≡ false → v ≡ true
       held_by true w = refl
@@ -302,20 +286,20 @@ pub record EscapesTo (c : Bool) (b e x k : ℕ) : Type 0 where
 pub escapes_begin : (c : Bool) (b : ℕ) → EscapesTo c b (bool_byte c) (bit_and b (flipped (bool_byte c))) (cond c 1 0)
 unfolding escaped_in
 escapes_begin true b = record {
-  free = and-false (test b 0);
+  free = and_false (test b 0);
   found = λ i h l. let e : i ≡ 0 = omega arith in ap (test 1) e ∙ low_bits.0 ∙ sym (ap (escaped_in true b) e);
   later = λ i h l. let e : i ≡ suc (i - 1) = omega arith in ap (test 1) e ∙ one_bits (i - 1);
-  passed = λ i l. let e : i ≡ 0 = omega arith in ap (test (bit_and b (flipped 1))) e ∙ test_and b (flipped 1) 0 ∙ ap (λ v. test b 0 && v) (test_not 1 0 (omega arith) (omega arith) ∙ ap not low_bits.0) ∙ and-false (test b 0);
+  passed = λ i l. let e : i ≡ 0 = omega arith in ap (test (bit_and b (flipped 1))) e ∙ test_and b (flipped 1) 0 ∙ ap (λ v. test b 0 && v) (test_not 1 0 (omega arith) (omega arith) ∙ ap not low_bits.0) ∙ and_false (test b 0);
   ahead = λ i h l.
       let e : i ≡ suc (i - 1) = omega arith in
-      test_and b (flipped 1) i ∙ ap (λ v. test b i && v) (test_not 1 i (omega arith) h ∙ ap not (ap (test 1) e ∙ one_bits (i - 1))) ∙ and-true (test b i);
+      test_and b (flipped 1) i ∙ ap (λ v. test b i && v) (test_not 1 i (omega arith) h ∙ ap not (ap (test 1) e ∙ one_bits (i - 1))) ∙ and_true (test b i);
 }
 escapes_begin false b = record {
   free = refl;
   found = λ i h l. absurd (omega (arith, l));
   later = λ i h l. test_zero i;
   passed = λ i l. absurd (omega (arith, l));
-  ahead = λ i h l. test_and b (flipped 0) i ∙ ap (λ v. test b i && v) (test_not 0 i (omega arith) h ∙ ap not (test_zero i)) ∙ and-true (test b i);
+  ahead = λ i h l. test_and b (flipped 0) i ∙ ap (λ v. test b i && v) (test_not 0 i (omega arith) h ∙ ap not (test_zero i)) ∙ and_true (test b i);
 }
 
 module _ (c : Bool) (b e x k : ℕ) (s : EscapesTo c b e x k) where
@@ -368,7 +352,7 @@ module _ (c : Bool) (b e x k : ℕ) (s : EscapesTo c b e x k) where
         before (inr a) lt = s.later j h a ∙ sym (unescaped_to i j no_backslash a (omega (arith, lt)))
 
         by_place : (j < i) ⊎ (i ≤ j) → (i < j) ⊎ (j ≤ i) → (test e j || test (shifted i 2) j) ≡ escaped_in c b j
-        by_place (inl a) o = ap (λ v. test e j || v) (shifted_low i j 2 a h) ∙ or-false (test e j) ∙ before (cases_lt j k) a
+        by_place (inl a) o = ap (λ v. test e j || v) (shifted_low i j 2 a h) ∙ or_false (test e j) ∙ before (cases_lt j k) a
         by_place (inr a) (inr z) =
             let same : j ≡ i = omega arith in
             ap₂ (λ v w. v || w) (s.later j h (omega (arith, behind_k, a))) (moved i 0 j 2 (omega arith) h ∙ low_bits.1) ∙ sym unescaped_here ∙ ap (escaped_in c b) (sym same)
@@ -381,17 +365,17 @@ module _ (c : Bool) (b e x k : ℕ) (s : EscapesTo c b e x k) where
       where
         by_place : j < 64 → (j < i) ⊎ (i ≤ j) → (i < j) ⊎ (j ≤ i) → test rest j ≡ false
         by_place h (inl a) o = not_moved_low x i j 3 a h ∙ low.below j a
-        by_place h (inr a) (inr z) = not_moved x i 0 j 3 (omega arith) h ∙ ap (λ v. test x j && not v) low_bits.3 ∙ and-false (test x j)
-        by_place h (inr a) (inl z) = not_moved x i 1 j 3 (omega (arith, l, z)) h ∙ ap (λ v. test x j && not v) low_bits.4 ∙ and-false (test x j)
+        by_place h (inr a) (inr z) = not_moved x i 0 j 3 (omega arith) h ∙ ap (λ v. test x j && not v) low_bits.3 ∙ and_false (test x j)
+        by_place h (inr a) (inl z) = not_moved x i 1 j 3 (omega (arith, l, z)) h ∙ ap (λ v. test x j && not v) low_bits.4 ∙ and_false (test x j)
 
         by_size : (j < 64) ⊎ (64 ≤ j) → test rest j ≡ false
         by_size (inl h) = by_place h (cases_lt j i) (cases_lt i j)
-        by_size (inr m) = test_and x (flipped (shifted i 3)) j ∙ ap (λ v. test x j && v) (test_above (flipped (shifted i 3)) j (flipped_lt (shifted i 3)) m) ∙ and-false (test x j)
+        by_size (inr m) = test_and x (flipped (shifted i 3)) j ∙ ap (λ v. test x j && v) (test_above (flipped (shifted i 3)) j (flipped_lt (shifted i 3)) m) ∙ and_false (test x j)
 
     pub escapes_on : EscapesTo c b more rest (i + 2)
     unfolding escaped_in
     escapes_on = record {
-      free = let e : i + 2 ≡ suc (suc i) = omega arith in ap (escaped_in c b) e ∙ ap (λ v. test b (suc i) && not v) escaped_next ∙ and-false (test b (suc i));
+      free = let e : i + 2 ≡ suc (suc i) = omega arith in ap (escaped_in c b) e ∙ ap (λ v. test b (suc i) && not v) escaped_next ∙ and_false (test b (suc i));
       found = found_on;
       later = λ j h l.
           let d = j - (i + 2) in
@@ -401,7 +385,7 @@ module _ (c : Bool) (b e x k : ℕ) (s : EscapesTo c b e x k) where
       ahead = λ j h l.
           let d = j - (i + 2) in
           let there : j ≡ i + suc (suc d) = omega arith in
-          not_moved x i (suc (suc d)) j 3 there h ∙ ap (λ v. test x j && not v) (three_bits d) ∙ and-true (test x j) ∙ s.ahead j h (omega (arith, behind_k, l));
+          not_moved x i (suc (suc d)) j 3 there h ∙ ap (λ v. test x j && not v) (three_bits d) ∙ and_true (test x j) ∙ s.ahead j h (omega (arith, behind_k, l));
     }
 
 -- ---- brackets, one after another
@@ -497,7 +481,7 @@ module _ (o s n count x k : ℕ) (c : CountsTo o s n count x k) where
       ahead = λ j h m.
           let d = j - suc i in
           let there : j ≡ i + suc d = omega arith in
-          not_moved x i (suc d) j 1 there h ∙ ap (λ v. test x j && not v) (one_bits d) ∙ and-true (test x j) ∙ c.ahead j h (omega (arith, from_k, m));
+          not_moved x i (suc d) j 1 there h ∙ ap (λ v. test x j && not v) (one_bits d) ∙ and_true (test x j) ∙ c.ahead j h (omega (arith, from_k, m));
     }
       where
         by_end : (m : ℕ) → m ≤ suc i → 0 < open_by o s n m
@@ -512,7 +496,7 @@ module _ (o s n count x k : ℕ) (c : CountsTo o s n count x k) where
           where
             by_place : (j < i) ⊎ (i ≤ j) → test (bit_and x (flipped (shifted i 1))) j ≡ false
             by_place (inl a) = not_moved_low x i j 1 a (omega (arith, a, low.within)) ∙ low.below j a
-            by_place (inr a) = not_moved x i 0 j 1 (omega arith) (omega (arith, l, low.within)) ∙ ap (λ v. test x j && not v) low_bits.0 ∙ and-false (test x j)
+            by_place (inr a) = not_moved x i 0 j 1 (omega arith) (omega (arith, l, low.within)) ∙ ap (λ v. test x j && not v) low_bits.0 ∙ and_false (test x j)
 
     pub counts_open : (next : ℕ) → next ≡ count + 1 → test o i ≡ true → CountsTo o s n next (bit_and x (flipped (shifted i 1))) (suc i)
     counts_open next e t = counts_on next (opens_here t ∙ sym e) (omega (arith, e)) (omega (arith, e))

@@ -1,6 +1,6 @@
 -- A block is passed by its masks as by its bytes.
-use Rattle.std.proofs.Common.{◌≡◌, ℕ, zero, suc, ◌+◌, ◌-◌, ◌<◌, ◌≤◌, ◌^◌, Bool, true, false, cond, ◌&&◌, ◌==◌, ◌⊎◌, inl, inr, List, length, drop, get_or, refl, sym, ap, ap₂, ◌∙◌, subst, arith}
-use Rattle.std.proofs.lemmas.Bool.{true≢false, or_cases, eqb-true, cases_lt, lt-ltb, le-ltb}
+use Rattle.std.proofs.Common.{◌≡◌, ◌≢◌, ℕ, zero, suc, ◌+◌, ◌-◌, ◌<◌, ◌≤◌, ◌^◌, Bool, true, false, cond, ◌&&◌, ◌||◌, ◌==◌, ◌⊎◌, inl, inr, List, length, drop, get_or, refl, sym, ap, ap₂, ◌∙◌, subst, arith}
+use Rattle.std.proofs.lemmas.Bool.{or_parts, true≢false, or_cases, eqb-true, cases_lt, lt-ltb, le-ltb}
 use lib.Count.{ones}
 use Rattle.json.specs.Word.{is_operator}
 use Rattle.json.specs.Lex.{Class, operator, class, Mode, between, in_word, in_string, in_escape, lex}
@@ -8,10 +8,16 @@ use Rattle.json.specs.Scan.{test}
 use Rattle.json_lexemes.specs.Lexing.{next_mode}
 use Rattle.json_lexemes.specs.Skipped.{one_less, skip}
 use Rattle.json_lexemes.specs.Places.{mode_at, left_at, depth_by}
-use Rattle.json_lexemes.specs.Runs.{of_word, is_of_word, goes_on, mode_of, run_mode}
-use Rattle.json_lexemes.specs.Blocks.{is_opening, is_closing, is_outside, mode_along, open_along, carried, HasBrackets, open_by, StaysOpen}
+use Rattle.json_lexemes.specs.Runs.{is_of_word, goes_on, mode_of, run_mode}
+use Rattle.json_lexemes.specs.Blocks.{is_string_mark, is_opening, is_closing, is_outside, mode_along, open_along, mode_by, carried, HasBrackets, open_by, StaysOpen}
 use Rattle.json_lexemes.proofs.Bits.{set_below, ones_below, below_within}
-use Rattle.json_lexemes.proofs.Steps.{operator_class}
+use Rattle.json_lexemes.proofs.Steps.{operator_class, string_passes, string_mode}
+use Rattle.json_lexemes.proofs.Masked.{neither, opening_ends}
+use Rattle.json_lexemes.proofs.Wide.{free_along}
+use Rattle.json_lexemes.specs.Grammar.{IsFree}
+use Rattle.std.proofs.lemmas.Simd.{get_or-chunk}
+use lib.Bits.{bit_or}
+use lib.Lanes.{chunk}
 use Rattle.json_lexemes.proofs.Blocks.{along_skips, along_closes}
 
 -- ---- counts
@@ -160,9 +166,6 @@ other_depth x h = ap (λ b. cond b 1 (cond (is_closing x) (one_less 0) 0)) h ∙
     none true = refl
     none false = refl
 
-opening_ends_word : (x : ℕ) → is_opening x ≡ true → is_of_word x ≡ false
-opening_ends_word x h = ap of_word (operator_class x (opening_operator x h))
-
 module _ (t : List ℕ) (from k : ℕ) (le : from ≤ k) (opening : is_opening (get_or t (from - 1) 0) ≡ true) where
   -- the byte before tells whether a word goes on, since none does at the beginning
   word_before : is_of_word (get_or t (k - 1) 0) ≡ goes_on t from k
@@ -172,11 +175,40 @@ module _ (t : List ℕ) (from k : ℕ) (le : from ≤ k) (opening : is_opening (
       by_place (inl l) = ap (λ b. b && is_of_word (get_or t (k - 1) 0)) (sym (lt-ltb from k l))
       by_place (inr m) =
           let same : k ≡ from = omega (arith, le, m) in
-          ap (λ j. is_of_word (get_or t (j - 1) 0)) same ∙ opening_ends_word (get_or t (from - 1) 0) opening ∙ sym (ap (λ b. b && is_of_word (get_or t (k - 1) 0)) (le-ltb from k m))
+          ap (λ j. is_of_word (get_or t (j - 1) 0)) same ∙ opening_ends (get_or t (from - 1) 0) opening ∙ sym (ap (λ b. b && is_of_word (get_or t (k - 1) 0)) (le-ltb from k m))
 
   pub carried_run : carried t k false false ≡ run_mode t from k
   carried_run = ap mode_of word_before
 
   pub carried_here : mode_at t from ≡ between → (k ≡ from) ⊎ (mode_at t k ≡ run_mode t from k) → mode_at t k ≡ carried t k false false
   carried_here e (inr m) = m ∙ sym carried_run
-  carried_here e (inl same) = ap (mode_at t) same ∙ e ∙ sym (ap (λ j. mode_of (is_of_word (get_or t (j - 1) 0))) same ∙ ap mode_of (opening_ends_word (get_or t (from - 1) 0) opening))
+  carried_here e (inl same) = ap (mode_at t) same ∙ e ∙ sym (ap (λ j. mode_of (is_of_word (get_or t (j - 1) 0))) same ∙ ap mode_of (opening_ends (get_or t (from - 1) 0) opening))
+
+-- ---- blocks that a string holds
+
+string_mark_free : (x : ℕ) → is_string_mark x ≡ false → (x ≢ 34) × (x ≢ 92)
+string_mark_free x h = let p = or_parts (x == 34) (x == 92) h in (λ e. true≢false (sym (ap (λ y. y == 34) e) ∙ p.0), λ e. true≢false (sym (ap (λ y. y == 92) e) ∙ p.1))
+
+pub unmarked_load : (t : List ℕ) (i a b : ℕ) → ((j : ℕ) → j < 64 → test a j ≡ (get_or (chunk i 64 t) j 0 == 34)) → ((j : ℕ) → j < 64 → test b j ≡ (get_or (chunk i 64 t) j 0 == 92)) → bit_or a b ≡ 0 → IsFree is_string_mark t i (i + 64)
+unmarked_load t i a b ha hb none k le lt =
+    let j = k - i in
+    let h : j < 64 = omega (arith, le, lt) in
+    let there : i + j ≡ k = omega (arith, le) in
+    let n = neither a b j none in
+    let x = ap (λ m. get_or t m 0) (sym there) ∙ sym (get_or-chunk i 64 t j 0 h) in
+    ap is_string_mark x ∙ ap₂ (λ v w. v || w) (sym (ha j h) ∙ n.0) (sym (hb j h) ∙ n.1)
+
+-- in a string the mode stays
+abbrev KeepsString : List ℕ → ℕ → ℕ → Type 0
+KeepsString t at k = (lex in_string (drop k t) ≡ lex in_string (drop at t)) × (mode_at t at ≡ in_string → mode_at t k ≡ in_string)
+
+pub string_kept : (t : List ℕ) (at k : ℕ) → at ≤ k → k ≤ length t → IsFree is_string_mark t at k → KeepsString t at k
+string_kept t at k le h free =
+    free_along (KeepsString t at) is_string_mark t at (k - at) k (omega (arith, le)) h
+    (λ j l lt f r.
+    let q = string_mark_free (get_or t j 0) f in
+    (sym (string_passes t j lt q.0 q.1) ∙ r.0, λ m. string_mode t j lt q.0 q.1 (r.1 m)))
+    free (refl, λ m. m)
+
+pub carried_string : (t : List ℕ) (k : ℕ) {s e : Bool} → s ≡ true → e ≡ false → carried t k s e ≡ in_string
+carried_string t k p q = ap₂ (λ a b. mode_by a b (is_of_word (get_or t (k - 1) 0))) p q

@@ -13,6 +13,9 @@ is_opening x = (x == 123) || (x == 91)
 abbrev pub is_closing : ℕ → Bool
 is_closing x = (x == 125) || (x == 93)
 
+abbrev pub is_string_mark : ℕ → Bool
+is_string_mark x = (x == 34) || (x == 92)
+
 -- no string is open
 abbrev pub is_outside : Mode → Bool
 is_outside between = true
@@ -52,7 +55,3 @@ open_by opens shuts n (suc i) = cond (test opens i) (suc (open_by opens shuts n 
 -- one is open all along
 abbrev pub StaysOpen : ℕ → ℕ → ℕ → ℕ → Type 0
 StaysOpen opens shuts n i = (j : ℕ) → j ≤ i → 0 < open_by opens shuts n j
-
--- no byte is both
-abbrev pub Apart : ℕ → ℕ → Type 0
-Apart opens shuts = (i : ℕ) → i < 64 → (test opens i && test shuts i) ≡ false

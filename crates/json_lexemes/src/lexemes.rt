@@ -12,7 +12,7 @@ ghost use Rattle.json_lexemes.specs.Skipped.{if_open, nesting, skip};
 ghost use Rattle.json_lexemes.specs.Blocks.{is_opening, is_closing, carried};
 ghost use Rattle.json_lexemes.specs.Runs.{goes_on, is_bracket, is_flat, is_mark, is_of_word, is_quote, run_mode, InRun, InString, Passes};
 
-use crate::masks::{BLOCK, Carry, block_brackets, closing_bit};
+use crate::masks::{BLOCK, Carry, block_brackets, closing_bit, string_blocks_end};
 use crate::scan::{Sought, WIDE, first_of};
 use std::simd::prelude::*;
 
@@ -427,7 +427,7 @@ fn blocks_end(text: &[u8], from: usize) -> (usize, usize)
         }
         depth = depth + found.opens.count_ones() as usize - found.shuts.count_ones() as usize;
         carry = found.carry;
-        at += BLOCK;
+        at = string_blocks_end(text, at + BLOCK, found);
     }
     (resumed(text, at, carry), depth)
 }

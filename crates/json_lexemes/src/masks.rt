@@ -1,11 +1,14 @@
 //! The brackets outside of strings in a block of 64 bytes, by masks: bit i is the block's byte i. The tricks
 //! with bits are simdjson's (Langdale and Lemire).
 
-ghost use Rattle.std.specs.Prelude.{◌≡◌, ◌<◌, ◌≤◌, ◌+◌, ◌-◌, ◌^◌, ◌==◌, ◌||◌, ◌&&◌, not, ℕ, suc, true, false, length, get_or};
+ghost use Rattle.std.specs.Prelude.{◌≡◌, ◌<◌, ◌≤◌, ◌+◌, ◌-◌, ◌^◌, ◌==◌, ◌||◌, ◌&&◌, not, ℕ, suc, true, false, length, drop, get_or};
 ghost use Rattle.std.specs.Prelude.{IfSome, IfNone};
 ghost use Rattle.json.specs.Word.{is_space};
 ghost use Rattle.json.specs.Scan.{test, escaped_in, parity};
-ghost use Rattle.json_lexemes.specs.Blocks.{is_opening, is_closing, mode_along, carried, HasBrackets, open_by, StaysOpen};
+ghost use Rattle.json_lexemes.specs.Blocks.{is_string_mark, is_opening, is_closing, mode_along, carried, HasBrackets, open_by, StaysOpen};
+ghost use Rattle.json.specs.Lex.{lex};
+ghost use Rattle.json_lexemes.specs.Places.{mode_at};
+ghost use Rattle.json_lexemes.specs.Grammar.{IsFree};
 ghost use Rattle.json_lexemes.specs.Runs.{is_of_word};
 
 use crate::lexemes::is_of_word;
@@ -29,6 +32,8 @@ pub(crate) struct Brackets {
     pub(crate) opens: u64,
     pub(crate) shuts: u64,
     pub(crate) carry: Carry,
+    /// A quote or a backslash stands in it.
+    pub(crate) marked: bool,
 }
 
 #[inline(always)]
@@ -144,12 +149,14 @@ fn unmarked(v: u8x64, inside: bool) -> Brackets
             opens: 0,
             shuts: 0,
             carry,
+            marked: false,
         };
     }
     Brackets {
         opens: openings(v),
         shuts: closings(v),
         carry,
+        marked: false,
     }
 }
 
@@ -188,7 +195,42 @@ pub(crate) fn block_brackets(text: &[u8], at: usize, carry: Carry) -> Option<Bra
             inside: strings >> 63 == 1,
             escaped: next_escaped,
         },
+        marked: true,
     })
+}
+
+/// The first place from `from` on, by whole blocks, where a quote or a backslash may stand.
+fn unmarked_end(text: &[u8], from: usize) -> usize
+    requires { from ≤ length text.now }
+    ensures bounds { (from ≤ result) × (result ≤ length text.now) }
+    ensures free { IsFree is_string_mark text.now from result }
+{
+    let mut i = from;
+    while text.len() - i >= BLOCK {
+        let v = u8x64::from_slice(&text[i..]);
+        let quotes = equal_to(v, b'"');
+        let backslashes = equal_to(v, b'\\');
+        if quotes | backslashes != 0 {
+            break;
+        }
+        i += BLOCK;
+    }
+    i
+}
+
+/// Where a string goes on that held the whole block before `at`: behind the blocks that it holds, too.
+pub(crate) fn string_blocks_end(text: &[u8], at: usize, block: Brackets) -> usize
+    requires { at ≤ length text.now }
+    ensures bounds { (at ≤ result) × (result ≤ length text.now) }
+    ensures left { lex (carried text.now result block.carry.inside block.carry.escaped) (drop result text.now)
+        ≡ lex (carried text.now at block.carry.inside block.carry.escaped) (drop at text.now) }
+    ensures mode { mode_at text.now at ≡ carried text.now at block.carry.inside block.carry.escaped
+        → mode_at text.now result ≡ carried text.now result block.carry.inside block.carry.escaped }
+{
+    if block.marked || !block.carry.inside || block.carry.escaped {
+        return at;
+    }
+    unmarked_end(text, at)
 }
 
 /// The bit that closes the last of `depth` open brackets, if one does.

@@ -49,14 +49,16 @@ loop-at-preserved c =
     let s = c.in-Some.found.shuts in
     let stays = c.in_default-closing_bit.ensures.none in
     let next : l.depth + ones o - ones s ≡ open_by o s l.depth 64 = let e = total t l.at _ o s c.in-Some.ensures.has (omega arith) l.depth (omega arith) (omega arith) stays in omega (arith, e) in
+    let on = c.string_blocks_end-at.ensures in
     record {
-      low = omega arith;
-      high = omega arith;
+      low = omega (arith, on.bounds, l.invariant.low);
+      high = on.bounds.1;
       some = subst (λ n. 0 < n) (sym next) (stays 64 (omega arith));
-      depth = let few = ones-le 64 o (omega arith) in omega (arith, few, l.invariant.depth);
+      depth = let few = ones-le 64 o (omega arith) in omega (arith, few, l.invariant.depth, on.bounds);
       carry = c.in-Some.ensures.carry;
       left =
-          ap₂ (λ d m. skip d (lex m (drop (l.at + 64) t))) next c.in-Some.ensures.mode
+          ap (skip (l.depth + ones o - ones s)) on.left
+          ∙ ap₂ (λ d m. skip d (lex m (drop (l.at + 64) t))) next c.in-Some.ensures.mode
           ∙ sym (passes_block t l.at _ o s c.in-Some.ensures.has (omega arith) l.depth stays) ∙ l.invariant.left;
-      mode = λ p. along_mode t l.at _ 64 (omega arith) (l.invariant.mode p) ∙ sym c.in-Some.ensures.mode;
+      mode = λ p. on.mode (along_mode t l.at _ 64 (omega arith) (l.invariant.mode p) ∙ sym c.in-Some.ensures.mode);
     }

@@ -2,8 +2,8 @@ use Rattle.std.proofs.Common.{◌≡◌, suc, false, not, ◌&&◌, ◌||◌, ge
 use Rattle.std.proofs.lemmas.Bool.{eqb-true}
 use Rattle.json.specs.Scan.{test}
 use Rattle.json.specs.Word.{is_space}
-use Rattle.json_lexemes.proofs.Bits.{test_or, test_zero}
-use Rattle.json_lexemes.proofs.Masked.{and-true, first_behind, ends_behind}
+use Rattle.json_lexemes.proofs.Bits.{and_true, test_or, test_zero}
+use Rattle.json_lexemes.proofs.Masked.{first_behind, ends_behind}
 use Rattle.json_lexemes.proofs.masks.may_begin.Goals as goal
 
 pub returns-then-others-eq0-clause-first : goal.returns-then-others-eq0-clause-first
@@ -21,7 +21,7 @@ returns-then-others-eq0-clause-behind c = λ r i h b.
 pub returns-else-others-eq0-clause-first : goal.returns-else-others-eq0-clause-first
 returns-else-others-eq0-clause-first c = λ r b.
     first_behind _ _ b
-    (sym c.not_behind-others.ensures.first ∙ sym (and-true _) ∙ sym c.not_behind.ensures.first ∙ ap (λ n. test n 0) (eqb-true c.not_behind.result 0 r) ∙ test_zero 0)
+    (sym c.not_behind-others.ensures.first ∙ sym (and_true _) ∙ sym c.not_behind.ensures.first ∙ ap (λ n. test n 0) (eqb-true c.not_behind.result 0 r) ∙ test_zero 0)
 
 pub returns-else-others-eq0-clause-behind : goal.returns-else-others-eq0-clause-behind
 returns-else-others-eq0-clause-behind c = λ r i h b.
