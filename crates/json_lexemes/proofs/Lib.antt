@@ -6,6 +6,10 @@ pub mod Skipping
 pub mod Read
 pub mod Steps
 mod Runs
+mod Bits
+mod Blocks
+mod Masked
+mod Passed
 mod Ascii
 pub mod Closed
 pub mod FirstBytes

@@ -210,7 +210,7 @@ word_left t i e = in_word-ended (drop i t) e
 
 -- ---- a lexeme
 
-string_depth : (n : ℕ) (o : Option (List ℕ)) → open_after n (string_token o) ≡ n
+pub string_depth : (n : ℕ) (o : Option (List ℕ)) → open_after n (string_token o) ≡ n
 string_depth n None = refl
 string_depth n (Some s) = refl
 
@@ -252,7 +252,7 @@ first_word : (b : Bool) (x : ℕ) (xs : List ℕ) → lex_byte between (cond b b
 first_word true x xs = refl
 first_word false x xs = refl
 
-flat_byte : (n x : ℕ) → is_operator x ≡ false → depth_by n x ≡ n
+pub flat_byte : (n x : ℕ) → is_operator x ≡ false → depth_by n x ≡ n
 flat_byte n x o =
     let a = or_false ((x == 123) || (x == 125) || (x == 91) || (x == 93) || (x == 58)) (x == 44) o in
     let b = or_false ((x == 123) || (x == 125) || (x == 91) || (x == 93)) (x == 58) a.0 in
@@ -276,7 +276,7 @@ word_first t i k h q o s l =
       opens = λ n. (either_flat (x == 92) bad (word (x ∷ xs)) flat_bad (flat_word (x ∷ xs))).stays n ∙ sym (flat_byte n x o);
     }
 
-operator_class : (x : ℕ) → is_operator x ≡ true → class x ≡ operator
+pub operator_class : (x : ℕ) → is_operator x ≡ true → class x ≡ operator
 operator_class = each_operator (λ x. class x ≡ operator) refl refl refl refl refl refl
 
 operator_next : (m : Mode) (c : Class) → c ≡ operator → (m ≡ between) ⊎ (m ≡ in_word) → next_mode m c ≡ between
@@ -321,7 +321,7 @@ pub string_has_end : (t : List ℕ) (k : ℕ) → Closes t k → IsEnd t k × Ha
 string_has_end t k (inl c) = (inl c.0, inl (ap is_space c.1))
 string_has_end t k (inr c) = (inr (inr c.0), inr c.1)
 
-operator_no_space : (x : ℕ) → is_operator x ≡ true → is_space x ≡ false
+pub operator_no_space : (x : ℕ) → is_operator x ≡ true → is_space x ≡ false
 operator_no_space = each_operator (λ x. is_space x ≡ false) refl refl refl refl refl refl
 
 pub operator_has_end : (t : List ℕ) (i : ℕ) → i < length t → is_operator (get_or t i 0) ≡ true → IsEnd t i → IsEnd t (i + 1) × HasEnd t (i + 1)
@@ -346,7 +346,7 @@ operator_lex x xs o = ap (λ c. lex_byte between c x xs (λ m. lex m xs)) (opera
 pub operator_left : (t : List ℕ) (i c : ℕ) → i < length t → get_or t i 0 ≡ c → is_operator c ≡ true → left_at t i ≡ operator_lexeme c ∷ left_at t (i + 1)
 operator_left t i c h e o = ap (lex between) (drop_step t i h ∙ ap (λ x. x ∷ drop (i + 1) t) e) ∙ operator_lex c (drop (i + 1) t) o
 
-operator_opens : (n x : ℕ) → is_operator x ≡ true → depth_after n (operator_lexeme x) ≡ depth_by n x
+pub operator_opens : (n x : ℕ) → is_operator x ≡ true → depth_after n (operator_lexeme x) ≡ depth_by n x
 operator_opens n x = each_operator (λ y. depth_after n (operator_lexeme y) ≡ depth_by n y) refl refl refl refl refl refl x
 
 pub operator_first : (t : List ℕ) (i : ℕ) → i < length t → is_operator (get_or t i 0) ≡ true → Steps t i (i + 1)

@@ -5,3 +5,4 @@ pub mod Runs
 pub mod Spelled
 pub mod Found
 pub mod Grammar
+pub mod Blocks

@@ -8,9 +8,11 @@ ghost use Rattle.json.specs.Word.{is_operator, is_space, ends_word};
 ghost use Rattle.json.specs.Lex.{Lexeme, between, in_word, in_string, lex, operator_lexeme};
 ghost use Rattle.json_lexemes.specs.Lexing.{Outside};
 ghost use Rattle.json_lexemes.specs.Places.{mode_at, left_at, depth_by, Closes, HasEnd, IsEnd, Steps};
-ghost use Rattle.json_lexemes.specs.Skipped.{nesting, skip};
+ghost use Rattle.json_lexemes.specs.Skipped.{if_open, nesting, skip};
+ghost use Rattle.json_lexemes.specs.Blocks.{is_opening, is_closing, carried};
 ghost use Rattle.json_lexemes.specs.Runs.{goes_on, is_bracket, is_flat, is_mark, is_of_word, is_quote, run_mode, InRun, InString, Passes};
 
+use crate::masks::{BLOCK, Carry, block_brackets, closing_bit, string_blocks_end};
 use crate::scan::{Sought, WIDE, first_of};
 use std::simd::prelude::*;
 
@@ -215,6 +217,22 @@ fn lexeme_end(text: &[u8], from: usize) -> usize
     }
 }
 
+/// Whether this opens an object or an array.
+#[inline(always)]
+fn is_opening(c: u8) -> bool
+    ensures { result ≡ is_opening c }
+{
+    c == b'{' || c == b'['
+}
+
+/// Whether this closes one.
+#[inline(always)]
+fn is_closing(c: u8) -> bool
+    ensures { result ≡ is_closing c }
+{
+    c == b'}' || c == b']'
+}
+
 /// How many brackets are open after the bracket `c`, of `depth` before it.
 #[inline(always)]
 fn open_after_bracket(depth: usize, c: u8) -> usize
@@ -223,26 +241,10 @@ fn open_after_bracket(depth: usize, c: u8) -> usize
     ensures value { result ≡ depth_by depth c }
     ensures bound { result ≤ depth + 1 }
 {
-    if c == b'{' || c == b'[' {
+    if is_opening(c) {
         depth + 1
     } else {
         depth.saturating_sub(1)
-    }
-}
-
-/// How many brackets are open after a lexeme that begins with `c`, of `depth` before it.
-#[inline(always)]
-fn open_after(depth: usize, c: u8) -> usize
-    requires { depth + 1 < 2 ^ 64 }
-    ensures value { result ≡ depth_by depth c }
-    ensures bound { result ≤ depth + 1 }
-{
-    if c == b'{' || c == b'[' {
-        depth + 1
-    } else if c == b'}' || c == b']' {
-        depth.saturating_sub(1)
-    } else {
-        depth
     }
 }
 
@@ -256,7 +258,7 @@ fn is_flat(c: u8) -> bool
 
 /// Whether this is a part of a word wherever it stands outside of strings.
 #[inline(always)]
-fn is_of_word(c: u8) -> bool
+pub(crate) fn is_of_word(c: u8) -> bool
     ensures { result ≡ is_of_word c }
 {
     KIND[usize::from(c)] == b'2'
@@ -375,6 +377,91 @@ fn last_lexeme_end(text: &[u8], from: usize) -> usize
     end
 }
 
+/// The first place from `at` on where no string and no word goes on, of a text whose block before `at` left
+/// `carry`.
+fn resumed(text: &[u8], at: usize, carry: Carry) -> usize
+    requires order { 0 < at }
+    requires within { at ≤ length text.now }
+    ensures bounds { (at ≤ result) × (result ≤ length text.now) }
+    ensures left { left_at text.now result ≡ lex (carried text.now at carry.inside carry.escaped) (drop at text.now) }
+    ensures end { mode_at text.now at ≡ carried text.now at carry.inside carry.escaped → IsEnd text.now result }
+{
+    if !carry.inside {
+        if is_of_word(text[at - 1]) {
+            word_end(text, at)
+        } else {
+            at
+        }
+    } else if carry.escaped && at < text.len() {
+        string_end(text, at + 1)
+    } else {
+        string_end(text, at)
+    }
+}
+
+/// How far the inside of an object or array is passed by blocks from `from` on, where no string is open, and how
+/// many brackets are open there: none behind the one that closes it.
+fn blocks_end(text: &[u8], from: usize) -> (usize, usize)
+    requires order { 0 < from }
+    requires within { from ≤ length text.now }
+    ensures bounds { (from ≤ result.0) × (result.0 ≤ length text.now) }
+    ensures depth { result.1 + from ≤ result.0 + 1 }
+    ensures left { if_open result.1 (left_at text.now result.0) (skip result.1 (left_at text.now result.0))
+        ≡ skip 1 (lex (carried text.now from false false) (drop from text.now)) }
+    ensures end { mode_at text.now from ≡ carried text.now from false false → IsEnd text.now result.0 }
+    ensures closed { result.1 ≡ 0 → HasEnd text.now result.0
+        × (IsUtf8 text.now → IsCharBoundary text.now result.0) }
+{
+    let mut at = from;
+    let mut depth = 1;
+    let mut carry = Carry {
+        inside: false,
+        escaped: false,
+    };
+    while text.len() - at >= BLOCK {
+        let Some(found) = block_brackets(text, at, carry) else {
+            break;
+        };
+        if let Some(i) = closing_bit(found.opens, found.shuts, depth) {
+            return (at + i as usize + 1, 0);
+        }
+        depth = depth + found.opens.count_ones() as usize - found.shuts.count_ones() as usize;
+        carry = found.carry;
+        at = string_blocks_end(text, at + BLOCK, found);
+    }
+    (resumed(text, at, carry), depth)
+}
+
+/// The place after the object or array whose inside begins at `from`, or after the last lexeme where brackets
+/// stay open.
+fn container_end(text: &[u8], from: usize) -> usize
+    requires order { 0 < from }
+    requires within { from ≤ length text.now }
+    requires begins { is_opening (get_or text.now (from - 1) 0) ≡ true }
+    ensures bounds { (from ≤ result) × (result ≤ length text.now) }
+    ensures left { left_at text.now result ≡ skip 1 (left_at text.now from) }
+    ensures end { mode_at text.now from ≡ between → IsEnd text.now result × HasEnd text.now result }
+    ensures boundary { IsUtf8 text.now → IsCharBoundary text.now from → IsCharBoundary text.now result }
+{
+    let Some(first) = flat_end(text, from) else {
+        return last_lexeme_end(text, from);
+    };
+    // An array of numbers ends here.
+    if is_closing(text[first]) {
+        return first + 1;
+    }
+    let (mut end, mut depth) = blocks_end(text, first);
+    while depth > 0 {
+        let i = bracket_from(text, end);
+        if i == text.len() {
+            return last_lexeme_end(text, from);
+        }
+        depth = open_after_bracket(depth, text[i]);
+        end = i + 1;
+    }
+    end
+}
+
 /// The place after the value that begins at `from`, whitespace before it aside, or after the last lexeme
 /// where brackets stay open.
 pub fn value_end(text: &[u8], from: usize) -> usize
@@ -389,17 +476,11 @@ pub fn value_end(text: &[u8], from: usize) -> usize
     if start == text.len() {
         return from;
     }
-    let mut depth = open_after(0, text[start]);
-    let mut end = lexeme_end(text, start);
-    while depth > 0 {
-        let i = bracket_from(text, end);
-        if i == text.len() {
-            return last_lexeme_end(text, end);
-        }
-        depth = open_after_bracket(depth, text[i]);
-        end = i + 1;
+    if is_opening(text[start]) {
+        container_end(text, start + 1)
+    } else {
+        lexeme_end(text, start)
     }
-    end
 }
 
 /// The place after the last byte that isn't whitespace, or `from` where none stands behind that.

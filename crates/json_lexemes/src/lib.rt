@@ -13,6 +13,7 @@
 mod grammar;
 mod leaves;
 mod lexemes;
+mod masks;
 mod names;
 mod scan;
 mod span;

@@ -1,8 +1,8 @@
 //! Places of one text, and names.
 
 use crate::{
-    Span, after, byte_at, element, is_deeper, is_json_within, is_name, last_end, member,
-    string_end, value_end, value_from, whitespace_end, word_end,
+    Span, after, byte_at, element, is_deeper, is_json_within, is_name, is_operator, is_whitespace,
+    last_end, member, string_end, value_end, value_from, whitespace_end, word_end,
 };
 use std::test::Fail;
 
@@ -179,4 +179,86 @@ fn many_levels(rt: HostRuntime) {
     assert!(rt; is_json_within(&text[1..257], 128) && is_json_within(&text[1..257], usize::MAX));
     assert!(rt; !is_json_within(&text[1..257], 127) && !is_json_within(&text, usize::MAX));
     assert!(rt; is_json_within(&text[126..132], 3) && !is_json_within(&text[126..132], 2));
+}
+
+/// The place after the object or array that begins at 0, by one byte after another.
+fn end_by_bytes(text: &[u8]) -> usize {
+    let mut depth: usize = 0;
+    let mut in_string = false;
+    let mut in_escape = false;
+    let mut in_word = false;
+    let mut end = 0;
+    for i in 0..text.len() {
+        let c = text[i];
+        if in_string {
+            in_string = in_escape || c != b'"';
+            in_escape = !in_escape && c == b'\\';
+            end = i + 1;
+        } else if is_whitespace(c) {
+            in_word = false;
+        } else {
+            end = i + 1;
+            in_string = c == b'"' && !in_word;
+            in_word = !in_string && !is_operator(c);
+            if c == b'[' || c == b'{' {
+                depth = depth.saturating_add(1);
+            } else if c == b']' || c == b'}' {
+                depth = depth.saturating_sub(1);
+                if depth == 0 {
+                    return i + 1;
+                }
+            }
+        }
+    }
+    if in_string { text.len() } else { end }
+}
+
+const PIECES: [&str; 16] = [
+    "[",
+    "[",
+    "]",
+    "]",
+    "{",
+    "}",
+    ",",
+    ":",
+    " ",
+    "\n",
+    ",1",
+    ",\"a\"",
+    ",\"[\"",
+    ",\"\\\"]\"",
+    ",\"\\\\\"",
+    ", \"}\\\\\\\"\"",
+];
+
+fn is_passed_as_by_bytes(text: &[u8]) -> bool {
+    for length in 60..text.len() {
+        if value_end(&text[..length], 0) != end_by_bytes(&text[..length]) {
+            return false;
+        }
+    }
+    true
+}
+
+#[test]
+fn blocks(rt: HostRuntime) {
+    let mut state: u32 = 1;
+    for _ in 0..40 {
+        let mut text = [b'['; 200];
+        let mut filled = 8;
+        for _ in 0..200 {
+            state = state.wrapping_mul(1_664_525).wrapping_add(1_013_904_223);
+            for c in PIECES[(state >> 28) as usize].bytes() {
+                if filled < 200 {
+                    text[filled] = c;
+                    filled += 1;
+                }
+            }
+        }
+        assert!(rt; is_passed_as_by_bytes(&text));
+        // with one byte more or less likely to spoil it
+        text[8 + (state >> 25) as usize] = b"\"\\a]"[(state >> 23) as usize % 4];
+        assert!(rt; is_passed_as_by_bytes(&text));
+    }
 }
