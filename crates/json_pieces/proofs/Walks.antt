@@ -1,5 +1,5 @@
 -- The walk to the place of an edit, and the edit there.
-use Rattle.std.proofs.Common.{◌≡◌, inl, inr, ℕ, zero, suc, ◌+◌, ◌<◌, ◌≤◌, ◌^◌, Bool, true, false, List, [], ◌∷◌, length, get_or, map, Option, Some, None, option_and_then, refl, sym, ap, ◌∙◌, subst, arith, append-nil, Box}
+use Rattle.std.proofs.Common.{◌≡◌, inl, inr, ℕ, ◌+◌, ◌<◌, ◌≤◌, ◌^◌, Bool, true, false, List, [], ◌∷◌, length, get_or, map, Option, Some, None, option_and_then, refl, sym, ap, ◌∙◌, subst, arith, append-nil, Box}
 use Rattle.std.specs.Box.{with_value as boxed_with}
 use Rattle.std.specs.Prelude.{IfOk, IsSome, OnErr, OnOk, Result, Ok, Err, String, slice_set}
 use Rattle.std.specs.declared.alloc.AllocError.{AllocError}

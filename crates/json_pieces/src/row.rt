@@ -17,8 +17,8 @@ ghost use Rattle.json_text.specs.Pointed.{child};
 ghost use Rattle.json_text.specs.Rows.{Child, tree_in};
 ghost use Rattle.long_vec.specs.Items.{capacity_of, items_of};
 
-use crate::node::{Node, Row};
 use crate::means::{Means, sum};
+use crate::node::{Node, Row};
 use crate::seams::Seam;
 use crate::text::Text;
 use json_text::quoted;
@@ -334,7 +334,12 @@ fn next_member<'a>(
     let count = row.count();
     let last = count - 1;
     let name = Text::Made(quoted(means.alloc, name)?);
-    let whitespace = row.seams.all.at(last).whitespace.whitespace_like(means.alloc)?;
+    let whitespace = row
+        .seams
+        .all
+        .at(last)
+        .whitespace
+        .whitespace_like(means.alloc)?;
     let colons = row.seams.all.at(last).colons.colons_like(means.alloc)?;
     let seam = labelled(whitespace, name, colons);
     put_part(means, row, count, (seam, value), Slot::Trail(last))
@@ -370,7 +375,12 @@ fn next_element<'a>(means: Means, row: &mut Row<'a>, value: Text<'a>) -> Result<
 {
     let count = row.count();
     let last = count - 1;
-    let whitespace = row.seams.all.at(last).whitespace.whitespace_like(means.alloc)?;
+    let whitespace = row
+        .seams
+        .all
+        .at(last)
+        .whitespace
+        .whitespace_like(means.alloc)?;
     let seam = around(whitespace);
     put_part(means, row, count, (seam, value), Slot::Trail(last))
 }
@@ -405,7 +415,12 @@ fn element_before<'a>(
     ensures unchanged { OnErr result (row_view row.new ≡ row_view row.old) }
 {
     let like = like_number(number, row.count());
-    let behind = row.seams.all.at(like).whitespace.whitespace_like(means.alloc)?;
+    let behind = row
+        .seams
+        .all
+        .at(like)
+        .whitespace
+        .whitespace_like(means.alloc)?;
     let seam = around(behind);
     put_part(means, row, number, (seam, value), Slot::Whitespace(number))
 }
@@ -437,12 +452,7 @@ fn put_member(means: Means, row: &mut Row<'_>, name: &str, value: &str) -> Resul
 }
 
 /// Puts a value in as the element at a place, if an array of so many has it.
-fn put_element(
-    means: Means,
-    row: &mut Row<'_>,
-    name: &str,
-    value: &str,
-) -> Result<bool, AllocError>
+fn put_element(means: Means, row: &mut Row<'_>, name: &str, value: &str) -> Result<bool, AllocError>
     requires sound { IsSound (row_view row.old) }
     requires array { row.old.named ≡ false }
     requires value { (w : Json) × IsTextOf value.now w }

@@ -8,13 +8,12 @@ use Rattle.json_text.specs.Styled.{colons_like, whitespace_like}
 use Rattle.long_vec.specs.Items.{items_of}
 use Rattle.json_pieces.specs.Lengths.{HasGained, HasLost, seam_length}
 use Rattle.json_pieces.specs.Nodes.{IsSound, piece_with, row_pieces, row_view, text_bytes}
-use Rattle.json_pieces.specs.PieceLists.{element_between, element_pushed, element_put, member_alone, member_like, member_pushed}
+use Rattle.json_pieces.specs.PieceLists.{element_between, element_pushed, element_put, member_like, member_pushed}
 use Rattle.json_pieces.specs.Slots.{IsPut}
 use Rattle.json_pieces.specs.declared.node.Row.{Row}
 use Rattle.json_pieces.specs.declared.row.Slot.TheVariants.{Hollow, Whitespace, Trail}
 use Rattle.json_pieces.specs.declared.seams.Seam.{Seam}
 use Rattle.json_pieces.specs.declared.text.Text.{Text}
-use Rattle.json_pieces.proofs.Lists.{pieces_in}
 use Rattle.json_pieces.proofs.Rows.Lengths.{hollow_fits, its_whitespace_fits, last_trail_fits}
 use Rattle.json_pieces.proofs.Rows.Puts.{IsLike, element_before_kept, element_before_put, first_element_kept, first_element_put, first_member_kept, first_member_put, like_member, next_element_kept, next_element_put, next_member_kept, next_member_put, same_piece, same_seam}
 use Rattle.json_pieces.proofs.Rows.Stands.{whitespace_nil}

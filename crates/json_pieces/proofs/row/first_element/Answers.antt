@@ -1,6 +1,5 @@
-use Rattle.std.proofs.Common.{length, ap, arith}
+use Rattle.std.proofs.Common.{ap}
 use Rattle.std.proofs.lemmas.Result.{on_ok_weaker}
-use Rattle.long_vec.specs.Items.{items_of}
 use Rattle.json_pieces.specs.Nodes.{text_bytes}
 use Rattle.json_pieces.proofs.Rows.Parted.{first_element_pieces, first_element_sound}
 use Rattle.json_pieces.proofs.row.first_element.Goals as goal

@@ -1,7 +1,6 @@
-use Rattle.std.proofs.Common.{length, ap, ◌∙◌, arith}
+use Rattle.std.proofs.Common.{ap, ◌∙◌}
 use Rattle.std.proofs.lemmas.Result.{on_ok_weaker}
 use Rattle.json.specs.Print.{quoted}
-use Rattle.long_vec.specs.Items.{items_of}
 use Rattle.json_pieces.specs.Nodes.{text_bytes}
 use Rattle.json_pieces.proofs.Rows.Parted.{first_member_pieces, first_member_sound}
 use Rattle.json_pieces.proofs.row.first_member.Goals as goal
