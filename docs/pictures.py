@@ -35,6 +35,7 @@ CAPTIONS = {
     "json_patch_diff": ("the patch between two documents", "library"),
     "json_patch_moves": ("the patch with moves", "library"),
     "json_diff_text": ("patches between two texts", "library"),
+    "json_kept_text": ("a text that is kept, with undo", "library"),
     "json_patch_bytes": ("from bytes to bytes, or why not", "library"),
     "json_patch_text_bytes": ("texts in place, bytes to bytes", "library"),
     "json_patch_c": ("the calls for C and Python", "library"),

@@ -2,7 +2,7 @@
 
 use crate::places::{found, shape_name};
 use crate::rows::told;
-use crate::{differences, merges, patches, records};
+use crate::{differences, keeps, merges, patches, records};
 use json_pieces::Pieces;
 use json_text::{
     ChangeFault, CheckedText, TextFault, add, child_texts, is_deeper, remove, replace, string_of,
@@ -42,7 +42,7 @@ fn of_checked(alloc: Global, call: &str, place: Pointer) -> Result<String, Alloc
         "Pieces::add" => told(alloc, added_to_pieces(alloc, place)),
         "Pieces::remove" => told(alloc, removed_from_pieces(alloc, place)),
         "Pieces::replace" => told(alloc, replaced_in_pieces(alloc, place)),
-        _ => told(alloc, found(alloc, None)),
+        _ => keeps::shown(alloc, call, place),
     }
 }
 

@@ -1,5 +1,5 @@
 //! Calls on JSON texts, a row at a time: those of `json_text`, `json_pieces`, `json_patch_text`,
-//! `json_merge_text` and `json_diff_text`, and the examples of their comments. Each line of standard
+//! `json_merge_text`, `json_diff_text` and `json_kept_text`, and the examples of their comments. Each line of standard
 //! input is a row, an array of a call's name and its arguments, and each line of standard output is the
 //! text that the call answers with, as a JSON string, or why there is none. A line that begins with `#`
 //! comes out as it is.
@@ -7,6 +7,7 @@
 
 mod differences;
 mod examples;
+mod keeps;
 mod merges;
 mod patches;
 mod pieces;

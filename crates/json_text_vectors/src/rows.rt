@@ -1,7 +1,8 @@
 //! What a row asks for.
 
-use crate::{examples, merges, patches, pieces, places, records};
+use crate::{examples, keeps, merges, patches, pieces, places, records};
 use json_diff_text::{merge_both_text, merge_diff_text};
+use json_patch_limits::limits::Limits;
 use json_text::{CheckedText, add, remove, replace};
 use jsonptr::Pointer;
 use serde_json::Value;
@@ -27,15 +28,30 @@ pub(crate) fn answer(alloc: Global, line: &str) -> Result<String, AllocError> {
         [call, text, patch, depth, copied] => {
             let depth = number(depth.as_str());
             let copied = number(copied.as_str());
-            if call.as_str() == "record_text_within" {
-                return records::within(alloc, text.as_str(), patch.as_str(), depth, copied);
-            }
-            told(
+            within(
                 alloc,
-                patches::within(alloc, text.as_str(), patch.as_str(), depth, copied),
+                call.as_str(),
+                text.as_str(),
+                patch.as_str(),
+                Limits { depth, copied },
             )
         }
         _ => no_row(alloc),
+    }
+}
+
+fn within(
+    alloc: Global,
+    call: &str,
+    text: &str,
+    patch: &str,
+    limits: Limits,
+) -> Result<String, AllocError> {
+    let Limits { depth, copied } = limits;
+    match call {
+        "record_text_within" => records::within(alloc, text, patch, depth, copied),
+        "KeptText::merge" => told(alloc, keeps::merged(alloc, text, patch, depth, copied)),
+        _ => told(alloc, patches::within(alloc, text, patch, depth, copied)),
     }
 }
 
@@ -63,6 +79,7 @@ fn on_two(alloc: Global, call: &str, text: &str, second: &str) -> Result<String,
         "patch_text" => told(alloc, json_patch_text::patch_text(alloc, text, second)),
         "record_text" => records::recorded(alloc, text, second),
         "Pieces" => told(alloc, pieces::changed(alloc, text, second)),
+        "KeptText" => told(alloc, keeps::changed(alloc, text, second)),
         _ => on_place(alloc, call, text, second),
     }
 }
