@@ -1,5 +1,5 @@
 -- One value put into a row, with what is kept.
-use Rattle.std.proofs.Common.{◌≡◌, ◌⊎◌, ℕ, zero, suc, ◌+◌, ◌<◌, ◌≤◌, Bool, true, false, List, [], ◌∷◌, length, get_or, refl, sym, ap, ◌∙◌, subst, inl, inr, arith}
+use Rattle.std.proofs.Common.{◌≡◌, ◌⊎◌, ℕ, ◌+◌, ◌<◌, ◌≤◌, Bool, true, false, List, [], length, get_or, refl, sym, ap, ◌∙◌, subst, inl, inr, arith}
 use Rattle.std.proofs.lemmas.Bool.{cases_eq}
 use Rattle.std.proofs.lemmas.List.{get_or_default}
 use Rattle.std.specs.List.{insert}
@@ -166,26 +166,7 @@ same_piece a b c d e f g h u i j k l = ap (λ x. piece_of_parts x c e u g) i ∙
 pub like_member : (s o t t2 : Seam) (name : List ℕ) → t ≡ o → t2 ≡ o → text_bytes s.whitespace ≡ whitespace_like (text_bytes t.whitespace) → text_bytes s.name ≡ name → text_bytes s.colons ≡ colons_like (text_bytes t2.colons) → s.trail ≡ o.trail → (x u : List ℕ) → piece_with s u ≡ member_like (piece_with o x) name u
 like_member s o t t2 name e f a b c d x u = same_piece (text_bytes s.whitespace) (whitespace_like (text_bytes o.whitespace)) (text_bytes s.name) name (text_bytes s.colons) (colons_like (text_bytes o.colons)) (text_bytes s.trail) (text_bytes o.trail) u (a ∙ ap (λ y. whitespace_like (text_bytes y.whitespace)) e) b (c ∙ ap (λ y. colons_like (text_bytes y.colons)) f) (ap text_bytes d)
 
-pub like_element : (o t : Seam) (whitespace trail u : List ℕ) → t ≡ o → whitespace ≡ whitespace_like (text_bytes t.whitespace) → trail ≡ text_bytes o.trail → element_between whitespace u trail ≡ element_between (whitespace_like (text_bytes o.whitespace)) u (text_bytes o.trail)
-like_element o t whitespace trail u e a b = same_piece whitespace (whitespace_like (text_bytes o.whitespace)) [] [] [] [] trail (text_bytes o.trail) u (a ∙ ap (λ y. whitespace_like (text_bytes y.whitespace)) e) refl refl b
-
-pub lost_count : (ss : List Seam) (n : ℕ) (trail : Text) (ts : List Seam) → HasLost ss n trail ts → length ts ≡ length ss
-lost_count ss n trail ts o = ap length o.left ∙ set_count ss n _
-  where
-    set_count : (ss : List Seam) (n : ℕ) (s : Seam) → length (slice_set ss n s) ≡ length ss
-    set_count [] n s = refl
-    set_count (t ∷ ss) zero s = refl
-    set_count (t ∷ ss) (suc n) s = ap suc (set_count ss n s)
-
 -- ---- an element before another
-
-pub gained_count : (ss : List Seam) (n : ℕ) (bytes : List ℕ) (old : Text) (ts : List Seam) → HasGained ss n bytes old ts → length ts ≡ length ss
-gained_count ss n bytes old ts o = ap length o.left ∙ set_count ss n _
-  where
-    set_count : (ss : List Seam) (n : ℕ) (s : Seam) → length (slice_set ss n s) ≡ length ss
-    set_count [] n s = refl
-    set_count (t ∷ ss) zero s = refl
-    set_count (t ∷ ss) (suc n) s = ap suc (set_count ss n s)
 
 -- x is the seam whose whitespace comes before the element of number n
 pub record IsLike (ss : List Seam) (count n : ℕ) (like : ℕ) (x : Seam) : Type 0 where
