@@ -1,10 +1,9 @@
 /*
  * Times the calls of json_patch.h as bench/driver.rt.txt times those of the crate: its arguments are
  * `MODE COUNT accepted`, its input is `[document,patch]`, and it prints the nanoseconds of one call, or
- * 0 where one is refused. In mode `texts` a call goes from the two texts to the new one, and keeps the other
- * bytes of the document's; in mode `anew` a document is opened, changed, written and closed; in mode `kept` it
- * stays open, and a call changes it by the patch's text. Mode `copied` copies the document's text, which any
- * call at least does.
+ * 0 where one is refused. In mode `texts` a call goes from the two texts to the new one; in mode `kept` the
+ * document stays open, and a call changes it by the patch's text. Mode `copied` copies the document's text, which
+ * any call from texts at least does.
  */
 #include <json_patch.h>
 
@@ -54,17 +53,7 @@ static json_patch_status call(const char *mode, json_patch_document *kept, text 
     }
     if (strcmp(mode, "kept") == 0)
         return json_patch_update(kept, patch.bytes, patch.length, out, room, &report);
-    if (strcmp(mode, "anew") != 0)
-        return json_patch_apply(document.bytes, document.length, patch.bytes, patch.length, NULL, out, room,
-                                &report);
-    json_patch_document opened = JSON_PATCH_DOCUMENT;
-    json_patch_status status = json_patch_open(&opened, document.bytes, document.length, NULL, &report);
-    if (!status)
-        status = json_patch_update(&opened, patch.bytes, patch.length, out, room, &report);
-    if (!status)
-        status = json_patch_text(&opened, out, room, &report);
-    json_patch_close(&opened);
-    return status;
+    return json_patch_apply(document.bytes, document.length, patch.bytes, patch.length, NULL, out, room, &report);
 }
 
 int main(int count, char **words) {

@@ -72,6 +72,8 @@ def of_faults(kinds):
     start = re.search(r"^const FAULTS: &\[\(&str, &str\)\] = ", text, re.MULTILINE).end()
     for patch, fault in Pairs(text[start:], {}).value():
         operation, name = re.fullmatch(r"(?:(\d+) )?(\w+)(?:\(.*\))?", fault).groups()
+        if name == "ValueNotWhole":  # in a text a number may be any
+            continue
         told = [NO_PATCH, int(operation or 0), kinds[name], ""]
         yield ["apply", "null", patch, *told]
         yield ["record", "null", patch, *told]

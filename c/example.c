@@ -64,9 +64,10 @@ static void on_texts(void) {
 }
 
 static void on_a_kept_document(void) {
-    const char *text = "{\"rows\":[1,2]}", *merge_patch = "{\"name\":\"x\"}", *pointer = "/rows/0";
-    const char *patch = "[{\"op\":\"replace\",\"path\":\"/rows/0\",\"value\":3}]";
-    const char *goal = "{\"name\":\"x\",\"rows\":[3,2,1]}";
+    const char *text = "{\"rows\": [1, 2]}", *merge_patch = "{\"name\":\"x\"}", *pointer = "/rows/0";
+    const char *patch = "[{\"op\":\"replace\",\"path\":\"/rows/0\",\"value\":2.50}]";
+    const char *removal = "[{\"op\":\"remove\",\"path\":\"/rows/0\"}]";
+    const char *goal = "{\"name\":\"x\",\"rows\":[2.0,1]}";
     json_patch_document document = JSON_PATCH_DOCUMENT;
     char out[128];
     json_patch_report report;
@@ -78,7 +79,7 @@ static void on_a_kept_document(void) {
     print("update", status, out, &report);
     status = json_patch_update_merged(&document, merge_patch, strlen(merge_patch), &report);
     print("update_merged", status, out, &report);
-    status = json_patch_update_recorded(&document, patch, strlen(patch), out, sizeof out, &report);
+    status = json_patch_update_recorded(&document, removal, strlen(removal), out, sizeof out, &report);
     print("update_recorded", status, out, &report);
     status = json_patch_inverse(&document, out, sizeof out, &report);
     print("inverse", status, out, &report);
@@ -86,6 +87,8 @@ static void on_a_kept_document(void) {
     print("diff_to", status, out, &report);
     status = json_patch_value_at(&document, pointer, strlen(pointer), out, sizeof out, &report);
     print("value_at", status, out, &report);
+    status = json_patch_undo(&document, &report);
+    print("undo", status, out, &report);
     status = json_patch_text(&document, out, sizeof out, &report);
     print("text", status, out, &report);
     json_patch_close(&document);

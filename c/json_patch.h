@@ -66,11 +66,6 @@ enum {
     JSON_PATCH_UNPAIRED_SURROGATE = 9,   /* it would be JSON, but for an escape such as \ud800 that is half of
                                             a surrogate pair without the other half: JSON's grammar has it,
                                             and it stands for no character (RFC 8259, section 8.2) */
-    /* of a document that is kept, whose numbers are 64-bit integers, and of its patches */
-    JSON_PATCH_NUMBER_OUT_OF_RANGE = 10, /* it is JSON, with a number past a float's range, such as 1e400 */
-    JSON_PATCH_NOT_WHOLE = 2, /* else a number with a fraction or an exponent, minus zero, or one past
-                                 64 bits; in a patch that isn't a merge patch
-                                 JSON_PATCH_VALUE_NOT_WHOLE is told */
     /* of JSON_PATCH_NO_DOCUMENT, JSON_PATCH_NO_PATCH and JSON_PATCH_OVER */
     JSON_PATCH_TOO_DEEP = 7, /* a document or a merge patch has more levels than the limit, or a text
                                 nests more than 127 arrays and objects in one another; an operation
@@ -95,8 +90,7 @@ enum {
     JSON_PATCH_MISSING_PATH = 19,
     JSON_PATCH_PATH_NOT_TEXT = 20,
     JSON_PATCH_BAD_PATH = 21,
-    JSON_PATCH_MISSING_VALUE = 22,
-    JSON_PATCH_VALUE_NOT_WHOLE = 23
+    JSON_PATCH_MISSING_VALUE = 22
 };
 
 /* What a call tells beside its status. Each call writes all of it; what no status above speaks of
@@ -142,13 +136,7 @@ typedef struct {
  * and `bytes` together: the new text, after each operation and after a merge, and the inverse. Nor do all
  * copies of a patch together copy more, also where what they put in is exchanged or removed again. The first
  * operation with which this isn't so is over: JSON_PATCH_OVER, and nothing is changed. One that is refused
- * leaves no text, and is not over.
- *
- * In a document that is kept `bytes` is what the copies of a patch may add, where a value counts one for each
- * value in it, itself included, and one for each byte of a string or a member's name; of a recorded patch
- * what it moves counts, too, since the inverse holds it. There each can take 900 bytes of memory, and 1,800
- * where the patch is recorded, so that what JSON_PATCH_MOST_BYTES lets a patch copy takes at most
- * 900,000,000; an operation is over before it is made, also where it would be refused.
+ * leaves no text, and is not over. A document that is kept counts as the text that it has at the call.
  */
 typedef struct {
     size_t size;
@@ -226,9 +214,8 @@ json_patch_status json_patch_value(const char *document, size_t document_length,
                                    size_t out_length, json_patch_report *report);
 
 /*
- * A document that is kept, so that an edit takes the time that the edit wants, and not that of
- * reading and writing the whole. Its numbers are 64-bit integers, and so are those of its patches; its text is
- * written anew, with no whitespace and the members of an object in byte order of their names.
+ * A document that is kept, as its text: what a change makes of it is what the call on texts makes, byte for
+ * byte, and the last change is taken back to the very bytes before it.
  *
  *     json_patch_document document = JSON_PATCH_DOCUMENT;
  *     if (json_patch_open(&document, text, strlen(text), NULL, &report) == JSON_PATCH_OK) {
@@ -257,44 +244,43 @@ typedef struct {
 json_patch_status json_patch_open(json_patch_document *document, const char *text, size_t length,
                                   const json_patch_limits *limits, json_patch_report *report);
 
-/* Changes the document as the patch says. JSON_PATCH_OK, JSON_PATCH_REFUSED, with the path in out,
+/* Changes the document as json_patch_apply does. JSON_PATCH_OK, JSON_PATCH_REFUSED, with the path in out,
    JSON_PATCH_OVER, JSON_PATCH_NO_PATCH or JSON_PATCH_NO_MEMORY. */
 json_patch_status json_patch_update(json_patch_document *document, const char *patch,
                                     size_t patch_length, char *out, size_t out_length,
                                     json_patch_report *report);
 
-/* The same, and keeps the patch that leads back, for json_patch_inverse and json_patch_undo. */
+/* The same, and keeps what takes the change back, for json_patch_inverse and json_patch_undo. The inverse may have
+   as many bytes as that of json_patch_record. */
 json_patch_status json_patch_update_recorded(json_patch_document *document, const char *patch,
                                              size_t patch_length, char *out, size_t out_length,
                                              json_patch_report *report);
 
-/* Merges the merge patch into the document. JSON_PATCH_OK, JSON_PATCH_NO_PATCH or
-   JSON_PATCH_NO_MEMORY. */
+/* Merges the merge patch into the document, as json_patch_merge does. JSON_PATCH_OK, JSON_PATCH_OVER,
+   JSON_PATCH_NO_PATCH or JSON_PATCH_NO_MEMORY. */
 json_patch_status json_patch_update_merged(json_patch_document *document, const char *patch,
                                            size_t patch_length, json_patch_report *report);
 
-/* Takes back the last change, if that was recorded, in place and with no text, once: then there is
-   nothing more to take back. JSON_PATCH_OK, JSON_PATCH_NOTHING, also where what was recorded
-   has no operation but tests, or JSON_PATCH_NO_MEMORY. */
+/* Takes back the last change, if that was recorded, once: the text is that before it, byte for byte. It asks for
+   no memory. JSON_PATCH_OK or JSON_PATCH_NOTHING. */
 json_patch_status json_patch_undo(json_patch_document *document, json_patch_report *report);
 
-/* Writes the patch that takes back the last change, if that was recorded, and else []. JSON_PATCH_OK,
-   JSON_PATCH_NO_MEMORY or JSON_PATCH_NO_ROOM. */
+/* Writes the inverse of the last change, if that was recorded and isn't taken back, as json_patch_record writes
+   it, and else []. JSON_PATCH_OK, JSON_PATCH_NO_MEMORY or JSON_PATCH_NO_ROOM. */
 json_patch_status json_patch_inverse(json_patch_document *document, char *out, size_t out_length,
                                      json_patch_report *report);
 
-/* Writes the patch that leads from the document to that of the text, within the document's limits, and leaves
-   the document. It adds, removes and replaces alone, is [] exactly where the documents are equal, and is no
-   longer than the patch that replaces the whole. JSON_PATCH_OK, JSON_PATCH_NO_PATCH, where the text
-   says no document, JSON_PATCH_NO_MEMORY or JSON_PATCH_NO_ROOM. */
+/* Writes the patch that leads from the document to what the text says, as json_patch_diff does, and leaves the
+   document. JSON_PATCH_OK, JSON_PATCH_NO_PATCH, where the text is no JSON text, JSON_PATCH_NO_MEMORY or
+   JSON_PATCH_NO_ROOM. */
 json_patch_status json_patch_diff_to(json_patch_document *document, const char *text, size_t length,
                                      char *out, size_t out_length, json_patch_report *report);
 
-/* Writes the document. JSON_PATCH_OK, JSON_PATCH_NO_MEMORY or JSON_PATCH_NO_ROOM. */
+/* Writes the document's text. JSON_PATCH_OK, JSON_PATCH_NO_MEMORY or JSON_PATCH_NO_ROOM. */
 json_patch_status json_patch_text(json_patch_document *document, char *out, size_t out_length,
                                   json_patch_report *report);
 
-/* Writes what stands where the pointer leads. JSON_PATCH_OK, JSON_PATCH_NO_MEMORY,
+/* Writes the value's text where the pointer leads, as json_patch_value does. JSON_PATCH_OK, JSON_PATCH_NO_MEMORY,
    JSON_PATCH_NO_ROOM, JSON_PATCH_NO_POINTER or JSON_PATCH_NOTHING. */
 json_patch_status json_patch_value_at(json_patch_document *document, const char *pointer,
                                       size_t pointer_length, char *out, size_t out_length,

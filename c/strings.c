@@ -8,7 +8,6 @@ const char *json_patch_version(void) {
 const char *json_patch_kind_text(uint8_t kind) {
     static const char *const texts[] = {
         [JSON_PATCH_NOT_JSON] = "is not JSON",
-        [JSON_PATCH_NOT_WHOLE] = "holds a number that is not whole",
         [JSON_PATCH_TEST_FAILED] = "value did not match",
         [JSON_PATCH_INVALID_FROM_POINTER] = "\"from\" path is invalid",
         [JSON_PATCH_INVALID_POINTER] = "path is invalid",
@@ -16,7 +15,6 @@ const char *json_patch_kind_text(uint8_t kind) {
         [JSON_PATCH_TOO_DEEP] = "nests too deep",
         [JSON_PATCH_TOO_MUCH] = "leaves too much",
         [JSON_PATCH_UNPAIRED_SURROGATE] = "holds an unpaired surrogate",
-        [JSON_PATCH_NUMBER_OUT_OF_RANGE] = "holds a number that is out of range",
         [JSON_PATCH_NOT_A_LIST] = "is not a list",
         [JSON_PATCH_NOT_AN_OBJECT] = "is not an object",
         [JSON_PATCH_MISSING_OP] = "member \"op\" is missing",
@@ -29,7 +27,6 @@ const char *json_patch_kind_text(uint8_t kind) {
         [JSON_PATCH_PATH_NOT_TEXT] = "member \"path\" is not a text",
         [JSON_PATCH_BAD_PATH] = "member \"path\" is not a pointer",
         [JSON_PATCH_MISSING_VALUE] = "member \"value\" is missing",
-        [JSON_PATCH_VALUE_NOT_WHOLE] = "member \"value\" holds a number that is not whole",
     };
     const char *text = kind < sizeof texts / sizeof *texts ? texts[kind] : NULL;
     return text ? text : "is wrong";

@@ -27,17 +27,6 @@ static const char *written(json_patch_status call(json_patch_document *, char *,
     return out;
 }
 
-/* What is kept of a text, written anew. */
-static const char *anew(const text *it) {
-    json_patch_document document = JSON_PATCH_DOCUMENT;
-    json_patch_report report;
-    if (json_patch_open(&document, it->bytes, it->length, NULL, &report))
-        fail("%s isn't opened", it->bytes);
-    const char *out = written(json_patch_text, &document);
-    json_patch_close(&document);
-    return out;
-}
-
 static void expect_told(const json_patch_report *report, size_t size, size_t operation,
                         json_patch_kind kind) {
     if (report->size != size || report->operation != operation || report->kind != kind || report->inverse_size != 0)
@@ -56,7 +45,16 @@ static json_patch_status updated(const row *row, json_patch_document *document, 
     return json_patch_update(document, row->patch.bytes, row->patch.length, out, ROOM, report);
 }
 
-/* The document is what the row tells, and the inverse too, and this leads back. */
+/* No operation leads from the document to what the text says. */
+static void expect_said(json_patch_document *document, const char *text) {
+    json_patch_report report;
+    char out[ROOM];
+    if (json_patch_diff_to(document, text, strlen(text), out, ROOM, &report) || report.size != 2)
+        fail("%.*s leads to %s", (int)report.size, out, text);
+}
+
+/* The document is what the row tells, and the inverse too. Both ways lead back: the inverse to what the text
+   before says, and json_patch_undo to its bytes. */
 static void expect_changed(const row *row, json_patch_document *document, const char *before) {
     static char both[2 * ROOM];
     char out[ROOM];
@@ -65,14 +63,21 @@ static void expect_changed(const row *row, json_patch_document *document, const 
     const char *inverse = written(json_patch_inverse, document);
     int is_recorded = row->call == RECORD;
     snprintf(both, sizeof both, is_recorded ? "[%s,%s]" : "%s", now, inverse);
-    if (strcmp(both, anew(&row->written)) != 0)
+    if (strlen(both) != row->written.length || memcmp(both, row->written.bytes, row->written.length) != 0)
         fail("%s and not %s for %s", both, row->written.bytes, row->patch.bytes);
     if (!is_recorded && strcmp(inverse, "[]") != 0)
         fail("%s is kept, and nothing was recorded", inverse);
-    if (is_recorded && json_patch_update(document, inverse, strlen(inverse), out, ROOM, &report))
+    if (json_patch_undo(document, &report) != (is_recorded ? JSON_PATCH_OK : JSON_PATCH_NOTHING))
+        fail("a change is taken back, or not: %s", row->patch.bytes);
+    if (!is_recorded)
+        return;
+    if (strcmp(written(json_patch_text, document), before) != 0)
+        fail("%s and not %s is left", written(json_patch_text, document), before);
+    if (strcmp(written(json_patch_inverse, document), "[]") != 0 || json_patch_undo(document, &report) != JSON_PATCH_NOTHING)
+        fail("a change is taken back twice: %s", row->patch.bytes);
+    if (updated(row, document, out, &report) || json_patch_update(document, inverse, strlen(inverse), out, ROOM, &report))
         fail("the inverse %s is refused", inverse);
-    if (is_recorded && strcmp(written(json_patch_text, document), before) != 0)
-        fail("the inverse %s doesn't lead back to %s", inverse, before);
+    expect_said(document, before);
 }
 
 /* The patch that leads from what is kept to the second text is what the row tells, and leads there. */
@@ -91,11 +96,9 @@ static void expect_difference(const row *row) {
         fail("%.*s and not %s leads to %s", (int)report.size, out, row->written.bytes, to);
     if (strcmp(written(json_patch_text, &document), row->document.bytes) != 0)
         fail("%s is changed", row->document.bytes);
-    if (json_patch_update(&document, out, report.size, path, ROOM, &report) ||
-        strcmp(written(json_patch_text, &document), to) != 0)
+    if (json_patch_update(&document, out, report.size, path, ROOM, &report))
         fail("%s doesn't lead to %s", row->written.bytes, to);
-    if (json_patch_diff_to(&document, to, row->patch.length, out, ROOM, &report) || report.size != 2)
-        fail("%.*s leads from %s to itself", (int)report.size, out, to);
+    expect_said(&document, to);
     json_patch_close(&document);
 }
 
@@ -117,6 +120,8 @@ static void expect_on_kept(const row *row) {
         fail("status %d for %s", status, row->patch.bytes);
     expect_told(&report, status == JSON_PATCH_REFUSED ? row->written.length : 0, row->operation,
                 row->kind);
+    if (strcmp(before, row->document.bytes) != 0)
+        fail("%s and not %s is kept", before, row->document.bytes);
     if (status == JSON_PATCH_OK)
         expect_changed(row, &document, before);
     else if (strcmp(written(json_patch_text, &document), before) != 0)
@@ -162,22 +167,22 @@ static void expect_opened(void) {
     json_patch_document document = JSON_PATCH_DOCUMENT;
     json_patch_report r;
     char out[8];
-    EXPECT(json_patch_open(&document, TEXT("{\"a\":1}"), NULL, &r), JSON_PATCH_OK);
-    EXPECT(json_patch_open(&document, TEXT("[1.5]"), NULL, &r), JSON_PATCH_NO_DOCUMENT);
-    if (r.kind != JSON_PATCH_NOT_WHOLE || strcmp(written(json_patch_text, &document), "{\"a\":1}"))
+    EXPECT(json_patch_open(&document, TEXT("{\"a\": 1.50}"), NULL, &r), JSON_PATCH_OK);
+    EXPECT(json_patch_open(&document, TEXT("[1.5"), NULL, &r), JSON_PATCH_NO_DOCUMENT);
+    if (r.kind != JSON_PATCH_NOT_JSON || strcmp(written(json_patch_text, &document), "{\"a\": 1.50}"))
         fail("a text that is refused closes the document");
     EXPECT(json_patch_open(&document, TEXT(" [ ] "), NULL, &r), JSON_PATCH_OK);
-    if (strcmp(written(json_patch_text, &document), "[]") != 0)
+    if (strcmp(written(json_patch_text, &document), " [ ] ") != 0)
         fail("the other document isn't open");
     const json_patch_limits later = {sizeof later + 8, 1, 1};
     EXPECT_TOLD(json_patch_open(&document, TEXT("1"), &later, &r), JSON_PATCH_BAD_LIMITS, 0);
-    if (strcmp(written(json_patch_text, &document), "[]") != 0)
+    if (strcmp(written(json_patch_text, &document), " [ ] ") != 0)
         fail("limits of another size close the document");
     EXPECT(json_patch_open(&document, TEXT(" {\"b\":[1 ,2],\"a\":0,\"a\":-7} "), NULL, &r), JSON_PATCH_OK);
-    if (strcmp(written(json_patch_text, &document), "{\"a\":-7,\"b\":[1,2]}") != 0)
+    if (strcmp(written(json_patch_text, &document), " {\"b\":[1 ,2],\"a\":0,\"a\":-7} ") != 0)
         fail("%s is written", written(json_patch_text, &document));
-    EXPECT(json_patch_diff_to(&document, TEXT("{\"b\":[1,2],\"a\":-7}"), out, sizeof out, &r), JSON_PATCH_OK);
-    expect_told(&r, 2, 0, 0);
+    expect_said(&document, "{\"a\":-70e-1,\"b\":[1,2]}");
+    EXPECT_TOLD(json_patch_update(&document, TEXT("[]"), out, sizeof out, &r), JSON_PATCH_OK, 0);
     json_patch_close(&document);
 }
 
@@ -192,8 +197,6 @@ static void expect_unreadable(void) {
                 JSON_PATCH_NO_PATCH, JSON_PATCH_NOT_JSON);
     EXPECT_TOLD(json_patch_update_merged(&document, TEXT(""), &r), JSON_PATCH_NO_PATCH,
                 JSON_PATCH_NOT_JSON);
-    EXPECT_TOLD(json_patch_update_merged(&document, TEXT("[1.5]"), &r), JSON_PATCH_NO_PATCH,
-                JSON_PATCH_NOT_WHOLE);
     EXPECT_TOLD(json_patch_diff_to(&document, TEXT("["), out, 8, &r), JSON_PATCH_NO_PATCH,
                 JSON_PATCH_NOT_JSON);
     if (strcmp(written(json_patch_text, &document), "{\"a\":1}") != 0)
@@ -201,7 +204,7 @@ static void expect_unreadable(void) {
     json_patch_close(&document);
 }
 
-/* Each value as a document, in a patch, and as a merge patch. */
+/* Each value as a document, in a patch, and as a merge patch: a number stays, whatever it is. */
 static void expect_values(void) {
     json_patch_document document = JSON_PATCH_DOCUMENT;
     json_patch_report r;
@@ -209,20 +212,27 @@ static void expect_values(void) {
     EXPECT(json_patch_open(&document, TEXT("{}"), NULL, &r), JSON_PATCH_OK);
     for (size_t i = 0; i < VALUES; i++) {
         text patch = adding(i);
-        EXPECT_TOLD(json_patch_open(&document, values[i].bytes, values[i].length, NULL, &r),
-                    JSON_PATCH_NO_DOCUMENT, values[i].kind);
-        EXPECT_TOLD(json_patch_update(&document, patch.bytes, patch.length, out, 8, &r),
-                    JSON_PATCH_NO_PATCH, kind_in_patch(i));
-        EXPECT_TOLD(json_patch_update_recorded(&document, patch.bytes, patch.length, out, 8, &r),
-                    JSON_PATCH_NO_PATCH, kind_in_patch(i));
-        EXPECT_TOLD(json_patch_update_merged(&document, values[i].bytes, values[i].length, &r),
-                    JSON_PATCH_NO_PATCH, values[i].kind);
-        EXPECT_TOLD(json_patch_diff_to(&document, values[i].bytes, values[i].length, out, 8, &r),
-                    JSON_PATCH_NO_PATCH, values[i].kind);
+        int is_number = values[i].kind == JSON_PATCH_KIND_NONE;
+        json_patch_status of_patch = is_number ? JSON_PATCH_OK : JSON_PATCH_NO_PATCH;
+        json_patch_document other = JSON_PATCH_DOCUMENT;
+        EXPECT_TOLD(json_patch_open(&other, values[i].bytes, values[i].length, NULL, &r),
+                    is_number ? JSON_PATCH_OK : JSON_PATCH_NO_DOCUMENT, values[i].kind);
+        EXPECT_TOLD(json_patch_update(&document, patch.bytes, patch.length, out, 8, &r), of_patch, values[i].kind);
+        EXPECT_TOLD(json_patch_update_recorded(&document, patch.bytes, patch.length, out, 8, &r), of_patch,
+                    values[i].kind);
+        EXPECT(json_patch_diff_to(&document, values[i].bytes, values[i].length, out, 0, &r),
+               is_number ? JSON_PATCH_NO_ROOM : JSON_PATCH_NO_PATCH);
+        EXPECT_TOLD(json_patch_update_merged(&document, values[i].bytes, values[i].length, &r), of_patch,
+                    values[i].kind);
+        if (is_number && (strcmp(written(json_patch_text, &document), values[i].bytes) != 0 ||
+                          strcmp(written(json_patch_text, &other), values[i].bytes) != 0))
+            fail("%s isn't kept", values[i].bytes);
+        EXPECT(json_patch_update_merged(&document, TEXT("{}"), &r), JSON_PATCH_OK);
+        if (strcmp(written(json_patch_text, &document), "{}") != 0)
+            fail("%s changes the document", values[i].bytes);
+        json_patch_close(&other);
         free(patch.bytes);
     }
-    if (strcmp(written(json_patch_text, &document), "{}") != 0)
-        fail("a text that isn't read changes the document");
     json_patch_close(&document);
 }
 
@@ -292,7 +302,7 @@ static void expect_found(const char *pointer, json_patch_status wanted, const ch
     json_patch_document document = JSON_PATCH_DOCUMENT;
     json_patch_report r;
     char out[64];
-    EXPECT(json_patch_open(&document, TEXT("{\"a/b\":[1,{\"m~n\":null}]}"), NULL, &r), JSON_PATCH_OK);
+    EXPECT(json_patch_open(&document, TEXT("{\"a/b\": [1e2, { \"m~n\":null}]}"), NULL, &r), JSON_PATCH_OK);
     expect(json_patch_value_at(&document, TEXT(pointer), out, sizeof out, &r), wanted, pointer);
     if (r.size != strlen(text) || memcmp(out, text, r.size) != 0)
         fail("%.*s and not %s stands at %s", (int)r.size, out, text, pointer);
@@ -309,7 +319,9 @@ int main(int count, char **words) {
     expect_values();
     expect_rooms();
     expect_paths();
-    expect_found("", JSON_PATCH_OK, "{\"a/b\":[1,{\"m~n\":null}]}");
+    expect_found("", JSON_PATCH_OK, "{\"a/b\": [1e2, { \"m~n\":null}]}");
+    expect_found("/a~1b/0", JSON_PATCH_OK, "1e2");
+    expect_found("/a~1b/1", JSON_PATCH_OK, "{ \"m~n\":null}");
     expect_found("/a~1b/1/m~0n", JSON_PATCH_OK, "null");
     expect_found("/a~1b/2", JSON_PATCH_NOTHING, "");
     expect_found("/a~1b/-", JSON_PATCH_NOTHING, "");

@@ -1,16 +1,13 @@
 /*
  * Tests of the limits, each call on a thread with the stack that the header names: patches that nest
  * a document in itself, values and texts nested up to the limit and past it, and patches that copy
- * too much. What has to come of each is counted here, from the levels and sizes alone. And what the
- * default limits let a patch copy takes no more memory than the header says.
+ * too much. What has to come of each is counted here, from the levels and sizes alone.
  *
  *     test_limits [STACK]     the stack's bytes (196608)
  */
 #include "put.h"
 
 #include <pthread.h>
-#include <sys/wait.h>
-#include <unistd.h>
 
 enum { ROOM = 1 << 21, MOST = JSON_PATCH_MOST_LEVELS, LONGEST = 1 << 20 };
 
@@ -402,8 +399,8 @@ static void expect_names(size_t turns) {
     free(patch.bytes);
 }
 
-/* Brackets that never close: so many in a text and, where one is opened, in what is kept. */
-static void expect_open_brackets(text open, size_t count, json_patch_kind kind, json_patch_kind kind_where_kept) {
+/* Brackets that never close: so many in a text, and in a patch's. */
+static void expect_open_brackets(text open, size_t count, json_patch_kind kind, json_patch_kind kind_of_patch) {
     json_patch_document kept = JSON_PATCH_DOCUMENT;
     json_patch_report report;
     open.length = count;
@@ -411,9 +408,9 @@ static void expect_open_brackets(text open, size_t count, json_patch_kind kind, 
                    JSON_PATCH_NO_DOCUMENT, 0, kind, "brackets that never close");
     expect(json_patch_value(OF(open), "/0", 2, NULL, out, ROOM, &report), &report, JSON_PATCH_NO_DOCUMENT, 0, kind,
            "brackets that never close, and a pointer");
-    expect(json_patch_open(&kept, OF(open), NULL, &report), &report, JSON_PATCH_NO_DOCUMENT, 0, kind_where_kept,
+    expect(json_patch_open(&kept, OF(open), NULL, &report), &report, JSON_PATCH_NO_DOCUMENT, 0, kind,
            "brackets that never close, opened");
-    expect(json_patch_check(OF(open), &report), &report, JSON_PATCH_NO_PATCH, 0, kind_where_kept,
+    expect(json_patch_check(OF(open), &report), &report, JSON_PATCH_NO_PATCH, 0, kind_of_patch,
            "brackets of a patch that never close");
 }
 
@@ -436,10 +433,7 @@ static void expect_brackets(void) {
     expect(json_patch_open(&kept, OF(quoted), NULL, &report), &report, JSON_PATCH_NO_DOCUMENT, 0, JSON_PATCH_NOT_JSON,
            "brackets in a string");
     put(&quoted, "]");
-    expect_in_text(&quoted, &none, &limits, JSON_PATCH_OK, 0, 0, "brackets in a string of a text");
-    expect(json_patch_open(&kept, OF(quoted), NULL, &report), &report, JSON_PATCH_OK, 0, 0,
-           "brackets in a string of a document");
-    json_patch_close(&kept);
+    expect_each(&quoted, &none, &limits, JSON_PATCH_OK, 0, 0, "brackets in a string of a text");
     free(open.bytes);
     free(quoted.bytes);
 }
@@ -464,28 +458,15 @@ static text by_turns(size_t count, const char *one, const char *two) {
     return made;
 }
 
-/* Copies of a string of so many bytes, one after another, in what is kept: each counts one and its bytes. */
+/* Copies of a string of so many bytes, one after another, in a text of n + 4 bytes, where each copy adds a comma,
+   two marks and the bytes: the texts' own bytes count too. */
 static void expect_copies(size_t bytes, size_t copies, const json_patch_limits *limits) {
-    static const char copy[] = "{\"op\":\"copy\",\"from\":\"/a\",\"path\":\"/b\"}";
-    text document = of_bytes("{\"a\":", bytes, "}"), patch = by_turns(copies, copy, copy);
-    size_t most = limits->bytes / (bytes + 1);
-    int fits = copies <= most;
-    for (int is_recorded = 0; is_recorded <= 1; is_recorded++)
-        expect_kept(&document, &patch, limits, is_recorded, fits ? JSON_PATCH_OK : JSON_PATCH_OVER, fits ? 0 : most,
-                    fits ? JSON_PATCH_KIND_NONE : JSON_PATCH_TOO_MUCH, "copies");
-    free(document.bytes);
-    free(patch.bytes);
-}
-
-/* The same in a text, of n + 4 bytes, where each copy adds a comma, two marks and the bytes: the texts'
-   own bytes count too. */
-static void expect_copies_in_text(size_t bytes, size_t copies, const json_patch_limits *limits) {
     static const char copy[] = "{\"op\":\"copy\",\"from\":\"/0\",\"path\":\"/-\"}";
     text document = of_bytes("[", bytes, "]"), patch = by_turns(copies, copy, copy);
     size_t most = (patch.length + limits->bytes) / (bytes + 3);
     int fits = copies <= most;
-    expect_in_text(&document, &patch, limits, fits ? JSON_PATCH_OK : JSON_PATCH_OVER, fits ? 0 : most,
-                   fits ? JSON_PATCH_KIND_NONE : JSON_PATCH_TOO_MUCH, "copies in a text");
+    expect_each(&document, &patch, limits, fits ? JSON_PATCH_OK : JSON_PATCH_OVER, fits ? 0 : most,
+                fits ? JSON_PATCH_KIND_NONE : JSON_PATCH_TOO_MUCH, "copies");
     free(document.bytes);
     free(patch.bytes);
 }
@@ -496,8 +477,10 @@ static void expect_copies_over(size_t bytes, size_t copies, const json_patch_lim
     text document = of_bytes("{\"a\":", bytes, "}"), patch = by_turns(copies, copy, copy);
     size_t most = (document.length + patch.length + limits->bytes) / (bytes + 2);
     int fits = copies <= most;
-    expect_applied(&document, &patch, limits, fits ? JSON_PATCH_OK : JSON_PATCH_OVER, fits ? 0 : most,
-                   fits ? JSON_PATCH_KIND_NONE : JSON_PATCH_TOO_MUCH, "copies over a member of a text");
+    json_patch_status wanted = fits ? JSON_PATCH_OK : JSON_PATCH_OVER;
+    json_patch_kind kind = fits ? JSON_PATCH_KIND_NONE : JSON_PATCH_TOO_MUCH;
+    expect_applied(&document, &patch, limits, wanted, fits ? 0 : most, kind, "copies over a member");
+    expect_kept(&document, &patch, limits, 0, wanted, fits ? 0 : most, kind, "copies over a member");
     free(document.bytes);
     free(patch.bytes);
 }
@@ -514,44 +497,27 @@ static void expect_growth(size_t bytes, size_t copies, const json_patch_limits *
     }
     if (over == copies)
         fail("%zu copies are too few", copies);
-    expect_in_text(&document, &patch, limits, JSON_PATCH_OVER, over, JSON_PATCH_TOO_MUCH, "a list that grows");
+    expect_each(&document, &patch, limits, JSON_PATCH_OVER, over, JSON_PATCH_TOO_MUCH, "a list that grows");
     free(document.bytes);
     free(patch.bytes);
 }
 
-/* Moves of a string of n bytes, there and back. Where they are recorded each counts one and its bytes in what is
-   kept, and its operations' bytes in a text, all of which the inverse holds; otherwise none counts. */
+/* Moves of a string of n bytes, there and back. Where they are recorded their operations' bytes count, all of which
+   the inverse holds; otherwise none counts. */
 static void expect_moves_back(size_t bytes, size_t moves, const json_patch_limits *limits) {
     text document = of_bytes("{\"a\":", bytes, "}");
     text patch = by_turns(moves, "{\"op\":\"move\",\"from\":\"/a\",\"path\":\"/b\"}",
                           "{\"op\":\"move\",\"from\":\"/b\",\"path\":\"/a\"}");
     /* {"op":"remove","path":"/b"} has 27 bytes, {"op":"add","path":"/a","value":"..."} n + 35, and there are two
        commas for each move but the first, and two brackets */
-    size_t most = limits->bytes / (bytes + 1);
-    size_t most_in_text = (document.length + patch.length + limits->bytes - 1) / (27 + bytes + 35 + 2);
-    int fits = moves <= most, fits_in_text = moves <= most_in_text;
+    size_t most = (document.length + patch.length + limits->bytes - 1) / (27 + bytes + 35 + 2);
+    int fits = moves <= most;
+    json_patch_status wanted = fits ? JSON_PATCH_OK : JSON_PATCH_OVER;
+    json_patch_kind kind = fits ? JSON_PATCH_KIND_NONE : JSON_PATCH_TOO_MUCH;
+    expect_applied(&document, &patch, limits, JSON_PATCH_OK, 0, 0, "moves back");
     expect_kept(&document, &patch, limits, 0, JSON_PATCH_OK, 0, 0, "moves back");
-    expect_kept(&document, &patch, limits, 1, fits ? JSON_PATCH_OK : JSON_PATCH_OVER, fits ? 0 : most,
-                fits ? JSON_PATCH_KIND_NONE : JSON_PATCH_TOO_MUCH, "recorded moves back");
-    expect_applied(&document, &patch, limits, JSON_PATCH_OK, 0, 0, "moves back in a text");
-    expect_recorded(&document, &patch, limits, fits_in_text ? JSON_PATCH_OK : JSON_PATCH_OVER,
-                    fits_in_text ? 0 : most_in_text, fits_in_text ? JSON_PATCH_KIND_NONE : JSON_PATCH_TOO_MUCH,
-                    "recorded moves back in a text");
-    free(document.bytes);
-    free(patch.bytes);
-}
-
-/* In what is kept a name counts its bytes too, and so does each value: {"ab":[1,2]} counts 6. */
-static void expect_sizes(void) {
-    text document = {NULL, 0, 0}, patch = {NULL, 0, 0};
-    put(&document, "{\"x\":{\"ab\":[1,2]}}");
-    put(&patch, "[{\"op\":\"copy\",\"from\":\"/x\",\"path\":\"/y\"}]");
-    for (size_t bytes = 5; bytes <= 6; bytes++) {
-        const json_patch_limits limits = limits_of(MOST, bytes);
-        for (int is_recorded = 0; is_recorded <= 1; is_recorded++)
-            expect_kept(&document, &patch, &limits, is_recorded, bytes < 6 ? JSON_PATCH_OVER : JSON_PATCH_OK, 0,
-                        bytes < 6 ? JSON_PATCH_TOO_MUCH : JSON_PATCH_KIND_NONE, "the size of a value");
-    }
+    expect_recorded(&document, &patch, limits, wanted, fits ? 0 : most, kind, "recorded moves back");
+    expect_kept(&document, &patch, limits, 1, wanted, fits ? 0 : most, kind, "recorded moves back");
     free(document.bytes);
     free(patch.bytes);
 }
@@ -586,83 +552,6 @@ static void expect_undo(void) {
     free(patch.bytes);
 }
 
-/* ---- memory */
-
-/* The header's bytes for each that is copied, and so many more for the process and the texts. */
-enum { PLAIN = 900, RECORDED = 1800, MORE = 32 << 20, CHAIN = 100 };
-
-/* How many bytes this process held at most so far. */
-static size_t held_at_most(void) {
-    FILE *status = fopen("/proc/self/status", "r");
-    char line[128];
-    size_t kilobytes = 0;
-    while (status && !kilobytes && fgets(line, sizeof line, status))
-        sscanf(line, "VmHWM: %zu kB", &kilobytes);
-    if (!kilobytes)
-        fail("/proc/self/status has no VmHWM");
-    fclose(status);
-    return kilobytes * 1024;
-}
-
-/* Copies or moves of a chain of objects of one member with no name, which take the most for each that
-   is copied: as many as the default limits let through. */
-static text chains(int moved) {
-    size_t count = JSON_PATCH_MOST_BYTES / (CHAIN + 1);
-    text patch = {NULL, 0, 0};
-    put(&patch, "[");
-    for (size_t i = 0; i < count; i++) {
-        put(&patch, "%s{\"op\":\"%s\",", i ? "," : "", moved ? "move" : "copy");
-        if (moved)
-            put(&patch, "\"from\":\"/%s\",\"path\":\"/%s\"}", i % 2 ? "b" : "a", i % 2 ? "a" : "b");
-        else
-            put(&patch, "\"from\":\"/a\",\"path\":\"/l/-\"}");
-    }
-    put(&patch, "]");
-    return patch;
-}
-
-/* What is kept, or the inverse, is a text that is too large for `out`. */
-static int is_made(int recorded, const text *document, const text *patch) {
-    json_patch_document held = JSON_PATCH_DOCUMENT;
-    json_patch_report report;
-    return json_patch_open(&held, OF(*document), NULL, &report) == JSON_PATCH_OK &&
-           (recorded ? json_patch_update_recorded : json_patch_update)(&held, OF(*patch), out, 0, &report) ==
-               JSON_PATCH_OK &&
-           (recorded ? json_patch_inverse : json_patch_text)(&held, out, 0, &report) == JSON_PATCH_NO_ROOM;
-}
-
-/* The call in a process of its own, which holds no more than the header says. */
-static void expect_held(int moved, int recorded, const char *of) {
-    text document = {NULL, 0, 0}, patch = chains(moved);
-    size_t most = (size_t)JSON_PATCH_MOST_BYTES * (recorded ? RECORDED : PLAIN) + MORE;
-    put(&document, "{\"a\":");
-    put_times(&document, "{\"\":", CHAIN);
-    put(&document, "0");
-    put_times(&document, "}", CHAIN);
-    put(&document, ",\"l\":[]}");
-    pid_t child = fork();
-    int status = 1;
-    if (child == 0) {
-        if (!is_made(recorded, &document, &patch))
-            fail("%s: not made", of);
-        size_t held = held_at_most();
-        if (held > most)
-            fail("%s: %zu bytes are held, and not %zu at most", of, held, most);
-        exit(0);
-    }
-    if (child < 0 || waitpid(child, &status, 0) != child || status != 0)
-        fail("%s: status %d", of, status);
-    calls++;
-    free(document.bytes);
-    free(patch.bytes);
-}
-
-static void expect_memory(void) {
-    expect_held(0, 0, "memory of copies");
-    expect_held(0, 1, "memory of recorded copies");
-    expect_held(1, 1, "memory of recorded moves");
-}
-
 /* ---- all of it, on a thread */
 
 static void *made(void *unused) {
@@ -691,15 +580,11 @@ static void *made(void *unused) {
             expect_difference(levels, given.depth > MOST ? &given : &limits);
     }
     const json_patch_limits usual = JSON_PATCH_LIMITS, small = limits_of(MOST, 1000), larger = limits_of(MOST, 200000);
-    expect_copies(50000, 1400, &usual);
-    expect_copies(9, 100, &small);
-    expect_copies(9, 101, &small);
-    expect_copies(0, 1000, &small);
-    expect_copies(0, 1001, &small);
     /* the text of one copy has 39 bytes */
-    expect_copies_in_text(1036, 1, &small);
-    expect_copies_in_text(1037, 1, &small);
-    expect_copies_in_text(1000, 250, &larger);
+    expect_copies(1036, 1, &small);
+    expect_copies(1037, 1, &small);
+    expect_copies(1000, 250, &larger);
+    expect_copies(50000, 1400, &usual);
     /* six copies have as many bytes as a text may have, or five more */
     expect_copies_over(245, 6, &small);
     expect_copies_over(246, 6, &small);
@@ -714,7 +599,6 @@ static void *made(void *unused) {
     expect_moves_back(9, 30, &small);
     expect_growth(10, 100, &small);
     expect_growth(1000, 100, &usual);
-    expect_sizes();
     expect_names(0);
     expect_names(MOST - 1);
     expect_brackets();
@@ -730,12 +614,6 @@ int main(int count, char **words) {
     if (!out || !inverse || !other || pthread_attr_init(&attributes) || pthread_attr_setstacksize(&attributes, stack) ||
         pthread_create(&thread, &attributes, made, NULL) || pthread_join(thread, NULL))
         fail("no thread with a stack of %zu bytes", stack);
-    /* the sanitizers take more */
-#ifndef __SANITIZE_ADDRESS__
-    expect_memory();
-#else
-    (void)expect_memory;
-#endif
     printf("c: %lu calls within limits, on a stack of %zu bytes\n", calls, stack);
     free(out);
     free(inverse);

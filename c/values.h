@@ -1,4 +1,4 @@
-/* Texts that are no document, and the kind that is told of each. */
+/* Texts, and the kind that is told of each: none of a number, whatever it is, and else why it is no JSON. */
 #define TEN_ZEROS "0000000000"
 #define HUNDRED_ZEROS                                                                              \
     TEN_ZEROS TEN_ZEROS TEN_ZEROS TEN_ZEROS TEN_ZEROS TEN_ZEROS TEN_ZEROS TEN_ZEROS TEN_ZEROS      \
@@ -12,11 +12,11 @@ static const struct {
     size_t length;
     json_patch_kind kind;
 } values[] = {
-    VALUE("1e400", JSON_PATCH_NUMBER_OUT_OF_RANGE),
-    VALUE("-1e400", JSON_PATCH_NUMBER_OUT_OF_RANGE),
-    VALUE("1" ZEROS "0", JSON_PATCH_NUMBER_OUT_OF_RANGE),
-    VALUE("-1" ZEROS "0", JSON_PATCH_NUMBER_OUT_OF_RANGE),
-    VALUE("1" ZEROS HUNDRED_ZEROS, JSON_PATCH_NUMBER_OUT_OF_RANGE),
+    VALUE("1e400", JSON_PATCH_KIND_NONE),
+    VALUE("-1e400", JSON_PATCH_KIND_NONE),
+    VALUE("1" ZEROS "0", JSON_PATCH_KIND_NONE),
+    VALUE("-1" ZEROS "0", JSON_PATCH_KIND_NONE),
+    VALUE("1" ZEROS HUNDRED_ZEROS, JSON_PATCH_KIND_NONE),
     VALUE("\"\\ud800\"", JSON_PATCH_UNPAIRED_SURROGATE),
     VALUE("\"\\udc00\\ud800\"", JSON_PATCH_UNPAIRED_SURROGATE),
     VALUE("\"\\uD83D\\uDE00\\\\\\ud83d\\n\"", JSON_PATCH_UNPAIRED_SURROGATE),
@@ -31,13 +31,13 @@ static const struct {
     VALUE("[\0]\0", JSON_PATCH_NOT_JSON),
     VALUE("\0[\0]", JSON_PATCH_NOT_JSON),
     VALUE("\xff\xfe[\0]\0", JSON_PATCH_NOT_JSON),
-    VALUE("1" ZEROS, JSON_PATCH_NOT_WHOLE),
-    VALUE("1e308", JSON_PATCH_NOT_WHOLE),
-    VALUE("1e-400", JSON_PATCH_NOT_WHOLE),
-    VALUE("-1e-400", JSON_PATCH_NOT_WHOLE),
-    VALUE("-0", JSON_PATCH_NOT_WHOLE),
-    VALUE("-0.0", JSON_PATCH_NOT_WHOLE),
-    VALUE("18446744073709551616", JSON_PATCH_NOT_WHOLE),
+    VALUE("1" ZEROS, JSON_PATCH_KIND_NONE),
+    VALUE("1e308", JSON_PATCH_KIND_NONE),
+    VALUE("1e-400", JSON_PATCH_KIND_NONE),
+    VALUE("-1e-400", JSON_PATCH_KIND_NONE),
+    VALUE("-0", JSON_PATCH_KIND_NONE),
+    VALUE("-0.0", JSON_PATCH_KIND_NONE),
+    VALUE("18446744073709551616", JSON_PATCH_KIND_NONE),
 };
 
 enum { VALUES = sizeof values / sizeof *values };
@@ -53,10 +53,4 @@ static text adding(size_t value) {
     memcpy(patch.bytes + before, values[value].bytes, length);
     memcpy(patch.bytes + before + length, tail, sizeof tail - 1);
     return patch;
-}
-
-/* What is told where it is the value of an operation. */
-static inline json_patch_kind kind_in_patch(size_t value) {
-    return values[value].kind == JSON_PATCH_NOT_WHOLE ? JSON_PATCH_VALUE_NOT_WHOLE
-                                                      : values[value].kind;
 }

@@ -21,8 +21,7 @@ CALLS = {"patch": applied, "record": recorded, "merge": merged}
 
 
 def text(value):
-    """A text in which the members are in one order: that which the calls on texts keep isn't that of a document that is
-    kept, and no part of what an answer says."""
+    """A text in which the members are in one order: which is no part of what an answer says."""
     return json.dumps(value, ensure_ascii=False, separators=(",", ":"), sort_keys=True)
 
 

@@ -4,21 +4,33 @@
     diff/in_place.py [--seed S] [--cases N]
 
 c/build has to have built the library, which is called in this process. Of four cases three have the random
-small limits of diff/limits.py, and are held against a document that is kept, and one has numbers of any kind and is
-held against the call on texts. What the library leaves has to be what stands in the object afterwards, which is the
-same one; it has to have its members in their order, as the text has them, where the patch adds no name that it
+small limits, mostly about where one of its operations would be over: which is told by diff/limits_model.py. One
+has numbers of any kind. What the library leaves has to be what stands in the object afterwards, which is the same
+one; it has to have its members in their order, as the text has them, where the patch adds no name that it
 removed, and to share no list or dict with the patch. What the library refuses has to be refused with the same
 exception, and each list and dict of the object has to hold what it held, in the same order. The run fails where one
 of this doesn't hold, and where a kind of case never came."""
 import argparse
 import json
+import os
 import sys
 from collections import Counter
+from pathlib import Path
 
 from cases import Cases
-from limits import LimitedCases, json_patch, kept, text
-from model import copied, tokens_of
+from limits_model import LimitsModel, levels, size
+from limits_tables import faults as faults_of_model
+from model import Refused, copied, tokens_of
 
+TOP = Path(__file__).resolve().parent.parent
+sys.path.append(str(TOP / "python/src"))
+os.environ.setdefault("JSON_PATCH_LIBRARY", str(TOP / "c/out/lib/libjson_patch.so"))
+import json_patch  # noqa: E402
+
+LARGE = 10_000
+# within these the library never is over
+ENOUGH = json_patch.Limits(bytes=2**63)
+SAYS = {"TooDeep": "nests too deep", "TooMuch": "leaves too much"}
 KINDS = ("made", "made in order", "refused", "over TooDeep", "over TooMuch", "deep document", "numbers made", "numbers refused")
 # Those of a line are one number, as json.dumps writes them, and those of two lines aren't: as a double, 2**63 is
 # written as 9223372036854775808.0 isn't.
@@ -26,6 +38,49 @@ NUMBERS = (
     (0, 0.0, -0.0), (1, 1.0), (1.5,), (0.1,), (0.30000000000000004,), (1e23, 10**23), (int(1e23),), (2**63,),
     (float(2**63), 9223372036854776000), (1e300, 10**300), (2**53 + 1,), (float(2**53), 2**53), (5e-324,), (-1, -1.0),
 )
+
+
+class LimitedCases:
+    """Cases with limits, the same for one seed."""
+
+    def __init__(self, seed):
+        self.cases, self.model = Cases(seed), LimitsModel()
+        self.random = self.cases.random
+
+    def next(self):
+        make = self.random.choice([self.cases.patch_case, self.cases.dense_case, self.nesting_case])
+        document, operations = make()
+        reached, much = self.profile(document, operations)
+        least = levels(document)
+        depth = self.about([max(least, reach) for reach in (0, *reached)], 124)
+        return document, operations, json_patch.Limits(depth, self.about(much, json_patch.Limits().bytes))
+
+    def nesting_case(self):
+        """A list of copies and moves from places near the root to any, until the document is large."""
+        def operation(state):
+            name = self.random.choice(["copy", "copy", "move", "add"]) if size(state) < LARGE else "remove"
+            near = lambda: self.cases.way(state)[0][: self.random.randrange(4)]
+            return self.cases.operation_at(state, name, near, lambda: self.cases.target(state))
+
+        return self.cases.list_on(self.cases.value(), self.random.randrange(20), 0.05, operation)
+
+    def profile(self, document, operations):
+        """How deep each operation reaches, and how much is copied by its end, up to one that is refused."""
+        state, reached, much = copied(document), [], [0]
+        for operation in operations:
+            reached.append(self.model.reach(state, operation))
+            much.append(much[-1] + self.model.copies(state, operation, recorded=False))
+            try:
+                state = self.model.model.step(state, operation)
+            except Refused:
+                break
+        return reached, much
+
+    def about(self, counts, most):
+        """One of the counts, or one more or less; or the largest limit."""
+        if self.random.random() < 0.2:
+            return most
+        return min(most, max(0, self.random.choice(counts) + self.random.choice([-1, 0, 0, 1])))
 
 
 class NumberCases:
@@ -114,13 +169,26 @@ def faults(document, operations, wanted, wanted_error, call):
         yield "a list or dict stands at two places"
 
 
+def over(document, operations, limits):
+    """The exception of the operation that the model says is over, if one is."""
+    told = LimitsModel().answer(document, operations, limits.depth, limits.bytes, recorded=False)
+    if told[0] != "over":
+        return None
+    _, number, kind = told
+    path = operations[number]["path"]
+    message = f"operation {number} at path {path!r} is over the limits: it {SAYS[kind]}"
+    return json_patch.OverLimit(message, operation=number, kind=kind, path=path)
+
+
 def of_limits(case, counts):
     """Compares within limits. The text's answer tells the order."""
     document, operations, limits = case
-    wanted, error = outcome(lambda: kept(text(document), operations, limits))
-    if isinstance(error, json_patch.TooDeep):
+    if levels(document) > limits.depth:
         counts["deep document"] += 1
         return
+    wanted, error = None, over(document, operations, limits)
+    if not error:
+        wanted, error = outcome(lambda: json_patch.apply_patch(document, operations, limits=ENOUGH))
     counts["over " + error.kind if isinstance(error, json_patch.OverLimit) else "refused" if error else "made"] += 1
     call = lambda obj, patch: json_patch.JsonPatch(patch).apply(obj, in_place=True, limits=limits)
     yield from faults(document, operations, wanted, error, call)
@@ -151,7 +219,7 @@ def main():
     words.add_argument("--cases", type=int, default=2_000)
     asked = words.parse_args()
     limited, numbered = LimitedCases(asked.seed), NumberCases(asked.seed)
-    counts, wrong = Counter(), []
+    counts, wrong = Counter(), list(faults_of_model(LimitsModel()))
     for number in range(asked.cases):
         compare, cases = (of_numbers, numbered) if number % 4 == 3 else (of_limits, limited)
         case = cases.next()

@@ -1,4 +1,4 @@
-"""The calls of json_patch.h on texts, made by ctypes: c/build has to have built the library, or the environment
+"""The calls of json_patch.h on texts, and on a text that is kept, made by ctypes: c/build has to have built the library, or the environment
 variable JSON_PATCH_LIBRARY says where it is."""
 import ctypes
 import os
@@ -19,6 +19,10 @@ class Limits(ctypes.Structure):
     _fields_ = [("size", ctypes.c_size_t), ("depth", ctypes.c_size_t), ("bytes", ctypes.c_size_t)]
 
 
+class Handle(ctypes.Structure):
+    _fields_ = [("at", ctypes.c_void_p)]
+
+
 LIBRARY = ctypes.CDLL(os.environ["JSON_PATCH_LIBRARY"])
 LIBRARY.json_patch_kind_text.restype = ctypes.c_char_p
 TEXT = [ctypes.c_char_p, ctypes.c_size_t]
@@ -27,6 +31,21 @@ for name, call in CALLS.items():
     outputs = TEXT * (1 + (name == "record"))
     call.argtypes = [*TEXT, *TEXT, ctypes.POINTER(Limits), *outputs, ctypes.POINTER(Report)]
     call.restype = ctypes.c_uint8
+
+HANDLE = [ctypes.POINTER(Handle)]
+KEPT = {name: getattr(LIBRARY, f"json_patch_{name}") for name in (
+    "open", "update", "update_recorded", "update_merged", "undo", "inverse", "text", "close",
+)}
+for name, given in (
+    ("open", [*TEXT, ctypes.POINTER(Limits)]), ("update", [*TEXT, *TEXT]), ("update_recorded", [*TEXT, *TEXT]),
+    ("update_merged", TEXT), ("undo", []), ("inverse", TEXT), ("text", TEXT),
+):
+    KEPT[name].argtypes, KEPT[name].restype = [*HANDLE, *given, ctypes.POINTER(Report)], ctypes.c_uint8
+KEPT["close"].argtypes, KEPT["close"].restype = HANDLE, None
+
+
+def kind_of(report):
+    return LIBRARY.json_patch_kind_text(report.kind).decode()
 
 
 def answer(name, document, patch, depth=MOST_LEVELS, most=MOST_BYTES):
@@ -44,7 +63,44 @@ def answer(name, document, patch, depth=MOST_LEVELS, most=MOST_BYTES):
             rooms = sizes
             continue
         written = [ctypes.string_at(output, size).decode() for output, size in zip(outputs, sizes)]
-        why = LIBRARY.json_patch_kind_text(report.kind).decode()
+        why = kind_of(report)
         told = {OK: ("ok", *written), OVER: ("over", report.operation, why), NO_DOCUMENT: ("document", why)}
         told.update({REFUSED: ("refused", report.operation, written[0], why), NO_PATCH: ("patch", why)})
         return told[status]
+
+
+def written(call, *given):
+    """The status of a call that is handed room, what it writes, and its report."""
+    report, room = Report(), 1024
+    while True:
+        out = ctypes.create_string_buffer(room)
+        status = call(*given, out, room, report)
+        if report.size <= room:
+            return status, ctypes.string_at(out, report.size).decode(), report
+        room = report.size
+
+
+def changed(handle, name, patch):
+    """Makes a change of what is kept."""
+    if name != "merge":
+        return written(KEPT["update_recorded" if name == "record" else "update"], handle, patch, len(patch))
+    report = Report()
+    return KEPT["update_merged"](handle, patch, len(patch), report), "", report
+
+
+def answer_of_kept(name, document, patch, depth, most):
+    """The same where the text is kept. What isn't made has to leave it, and what is recorded to be taken back, byte
+    for byte: else the last of the answer is the text that stands there."""
+    document, patch, report, handle = document.encode(), patch.encode(), Report(), Handle()
+    if KEPT["open"](handle, document, len(document), Limits(ctypes.sizeof(Limits), depth, most), report):
+        return ("document", kind_of(report))
+    status, path, report = changed(handle, name, patch)
+    made, inverse = (written(KEPT[call], handle)[1] for call in ("text", "inverse"))
+    if name == "record" and status == OK:
+        KEPT["undo"](handle, Report())
+    now = written(KEPT["text"], handle)[1]
+    KEPT["close"](handle)
+    told = {OK: ("ok", made, inverse)[: 2 + (name == "record")], OVER: ("over", report.operation, kind_of(report))}
+    told.update({REFUSED: ("refused", report.operation, path, kind_of(report)), NO_PATCH: ("patch", kind_of(report))})
+    wanted = made if status == OK and name != "record" else document.decode()
+    return told[status] if now == wanted else (*told[status], now)

@@ -8,6 +8,7 @@ diff/texts.py, with more copies and moves, and the model is that of the bytes (`
 operation it counts how deep the new text nests, and how many bytes it has, the inverse, and all that was copied.
 The limits of a case lie about where one of its operations would be over, mostly. The answer has to be the model's, byte by byte, or
 name the operation that is refused or over, and why; and an inverse has to lead back to a text that says the same.
+A text that is kept has to come to the same, and what is recorded to be taken back, byte for byte.
 A merge of another text into each, which diff/merges.py makes without limits, has to come to the same within
 them, or to be over where it is longer. The run fails where an answer is another, and where a kind of answer
 never came."""
@@ -160,6 +161,9 @@ def main():
                 wrong.append(f"{name} {text!r} {given!r} within {within}\n  wanted {right}\n  got    {got}")
             elif name == "record" and got[0] == "ok" and not is_led_back(text, *got[1:], within[0]):
                 wrong.append(f"{name} {text!r} {given!r}: {got} doesn't lead back")
+            of_kept = library.answer_of_kept(name, text, given, *within)
+            if of_kept != right:
+                wrong.append(f"{name} of a kept {text!r} {given!r} within {within}\n  wanted {right}\n  got    {of_kept}")
     for line in sorted(wrong, key=len)[:5]:
         print(f"WRONG: {line}")
     missing = [kind for kind in KINDS if not came[kind]]

@@ -36,7 +36,7 @@ CAPTIONS = {
     "json_patch_moves": ("the patch with moves", "library"),
     "json_diff_text": ("patches between two texts", "library"),
     "json_kept_text": ("a text that is kept, with undo", "library"),
-    "json_patch_bytes": ("from bytes to bytes, or why not", "library"),
+    "json_patch_bytes": ("limits, and why no text is made", "library"),
     "json_patch_text_bytes": ("texts in place, bytes to bytes", "library"),
     "json_patch_c": ("the calls for C and Python", "library"),
     "json_patch_answers": ("what the program answers to bytes", "library"),

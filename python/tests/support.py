@@ -14,12 +14,12 @@ OK, REFUSED, IMPOSSIBLE = 0, 1, 11
 # what messages say of these kinds
 SAYS = {
     "NotJson": "is not JSON", "UnpairedSurrogate": "holds an unpaired surrogate", "TooDeep": "nests too deep", "TooMuch": "leaves too much",
-    "NotWhole": "holds a number that is not whole", "NumberOutOfRange": "holds a number that is out of range",
+    "NumberOutOfRange": "holds a number that is out of range",
 }
 # what the package asks a thread to have
 SMALL_STACK = 256 * 1024
 
-# numbers that a Document refuses, and those that no text says
+# numbers that are no 64-bit integers, those past a float's range, and those that no text says
 NOT_WHOLE = (1.5, 1.0, -0.0, 1e-400, 2**64, -(2**63) - 1, 10**308)
 PAST_FLOATS = (10**309, 10**400, -(10**400))
 NO_NUMBERS = (float("nan"), float("inf"), -1e400)

@@ -5,7 +5,7 @@ import random
 import unittest
 
 from json_patch import (
-    Document, InvalidJsonPatch, JsonPatch, JsonPatchException, JsonPointer, Limits, NumberNotWhole, TooDeep, apply_patch, make_patch,
+    Document, InvalidJsonPatch, JsonPatch, JsonPatchException, JsonPointer, Limits, TooDeep, apply_patch, make_patch,
 )
 from support import NO_NUMBERS, NOT_WHOLE, PAST_FLOATS, ROWS, SAYS, holding_itself, nested, on_another_thread, on_each_stack
 
@@ -25,11 +25,6 @@ def text_of(document):
     return json.dumps(document, sort_keys=True)
 
 
-def size(patch):
-    """Of its text, as the library writes it."""
-    return len(json.dumps(patch.patch, ensure_ascii=False, separators=(",", ":")).encode())
-
-
 class Differences(unittest.TestCase):
     def assertLeads(self, src, dst):
         """Each call makes a patch that leads there. What it is made of stays."""
@@ -39,12 +34,7 @@ class Differences(unittest.TestCase):
         self.assertEqual(text_of(patch.apply(src)), text_of(dst))
         self.assertEqual(bool(patch), text_of(src) != text_of(dst))
         with Document(src) as kept, Document(dst) as goal:
-            # it may be another where lengths decide: there one number is as long as any other
-            of_kept = kept.diff(dst)
-            self.assertEqual(kept.diff(goal), of_kept)
-            self.assertEqual((bool(of_kept), text_of(of_kept.apply(src))), (bool(patch), text_of(dst)))
-            whole = JsonPatch([{"op": "replace", "path": "", "value": dst}])
-            self.assertLessEqual(size(of_kept), size(whole))
+            self.assertEqual((kept.diff(dst), kept.diff(goal)), (patch, patch))
             kept.apply(patch)
             self.assertEqual((text_of(kept.get()), text_of(goal.get())), (text_of(dst), text_of(dst)))
             self.assertEqual(list(kept.diff(goal)), [])
@@ -192,10 +182,6 @@ class Differences(unittest.TestCase):
 
     def test_refused(self):
         """A document is refused as one, whichever of the two it is."""
-        for number in NOT_WHOLE:
-            self.assertToldOfDocument("NotWhole", lambda: Document({}).diff(number), lambda: Document({}).diff([number]))
-        for number in PAST_FLOATS:
-            self.assertToldOfDocument("NumberOutOfRange", lambda: Document({}).diff(number), lambda: Document({}).diff([number]))
         for value, kind in (("\ud800", "UnpairedSurrogate"), *((number, "NotJson") for number in NO_NUMBERS)):
             self.assertToldOfDocument(kind, lambda: make_patch(value, 1), lambda: make_patch({}, [value]), lambda: Document({}).diff(value))
 
@@ -205,7 +191,6 @@ class Differences(unittest.TestCase):
                 call()
             self.assertNotIsInstance(caught.exception, InvalidJsonPatch)
             self.assertEqual((str(caught.exception), caught.exception.kind), (f"document {SAYS[kind]}", kind))
-            self.assertEqual(isinstance(caught.exception, NumberNotWhole), "Number" in kind or "Whole" in kind)
 
     def test_any_numbers(self):
         chance = random.Random(8259)
@@ -215,6 +200,8 @@ class Differences(unittest.TestCase):
             patch = make_patch(src, dst)
             # values are compared, and 1.0 is 1: so it may stay
             self.assertEqual(patch.apply(src), dst)
+            with Document(src) as kept:
+                self.assertEqual(kept.diff(dst), patch)
             self.assertEqual(bool(patch), src != dst)
 
     def test_closed_and_threads(self):

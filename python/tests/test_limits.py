@@ -10,7 +10,7 @@ from json_patch import (
     Document, JsonPatch, JsonPatchConflict, JsonPatchException, Limits, NothingToUndo, OverLimit, TooDeep, apply_patch,
     apply_text, merge_patch, record_patch,
 )
-from json_patch._library import LIBRARY, NO_MEMORY
+from json_patch._library import NO_MEMORY
 from json_patch.limits import MOST_LEVELS
 from support import SAYS, holding_itself, nested
 
@@ -24,15 +24,13 @@ def of_texts(document, patch, limits):
         lambda: apply_patch(document, patch, limits=limits), lambda: record_patch(document, patch, limits=limits)[0],
         lambda: JsonPatch(patch).apply(document, limits=limits), lambda: JsonPatch(patch).record(document, limits=limits)[0],
         lambda: json.loads(apply_text(json.dumps(document, separators=(",", ":")), patch, limits=limits)),
-    )
-
-
-def of_copies(document, patch, limits):
-    """Those that count copies: what they are handed stays, where they refuse it."""
-    return (
-        lambda: apply_patch(copy.deepcopy(document), patch, in_place=True, limits=limits),
         lambda: kept("apply", document, patch, limits), lambda: kept("record", document, patch, limits),
     )
+
+
+def in_place(document, patch, limits):
+    """That which counts copies."""
+    return (lambda: apply_patch(copy.deepcopy(document), patch, in_place=True, limits=limits),)
 
 
 def kept(name, document, patch, limits):
@@ -46,7 +44,7 @@ def kept(name, document, patch, limits):
 
 
 def each_call(document, patch, limits):
-    return *of_texts(document, patch, limits), *of_copies(document, patch, limits)
+    return *of_texts(document, patch, limits), *in_place(document, patch, limits)
 
 
 class Within(unittest.TestCase):
@@ -75,7 +73,7 @@ class Within(unittest.TestCase):
     def test_operations_that_would_be_refused(self):
         """They leave no text that could be over; where copies are counted, they are over before."""
         patch = [{"op": "add", "path": "/0/a", "value": 1}]
-        self.assertOver([], patch, Limits(depth=1), 0, "TooDeep", of_copies)
+        self.assertOver([], patch, Limits(depth=1), 0, "TooDeep", in_place)
         for call in of_texts([], patch, Limits(depth=1)):
             with self.assertRaises(JsonPatchConflict):
                 call()
@@ -83,13 +81,12 @@ class Within(unittest.TestCase):
     def test_copies(self):
         document = {"a": "cde"}
         self.assertMakes(document, [COPY], Limits(bytes=4), {"a": "cde", "b": "cde"})
-        self.assertOver(document, [COPY], Limits(bytes=3), 0, "TooMuch", of_copies)
-        self.assertOver(document, [COPY] * 3, Limits(bytes=8), 2, "TooMuch", of_copies)
+        self.assertOver(document, [COPY], Limits(bytes=3), 0, "TooMuch", in_place)
+        self.assertOver(document, [COPY] * 3, Limits(bytes=8), 2, "TooMuch", in_place)
         self.assertMakes(document, [COPY] * 3, Limits(bytes=2**100), {"a": "cde", "b": "cde"})
         many = {"a": "x" * 499}
         self.assertMakes(many, [COPY] * 1000, Limits(), {**many, "b": many["a"]})
-        self.assertOver(many, [COPY] * 1001, Limits(), 1000, "TooMuch", of_copies)
-        self.assertMakes(many, [COPY] * 900, Limits(), {**many, "b": many["a"]}, of_texts)
+        self.assertOver(many, [COPY] * 1001, Limits(), 1000, "TooMuch", in_place)
 
     def test_bytes(self):
         """The document has 108 bytes, the patch 39 and 40 for each that follows, and what a copy leaves 215."""
@@ -108,7 +105,10 @@ class Within(unittest.TestCase):
         size = [len(json.dumps(value, separators=(",", ":"))) for value in (document, moves, inverse.patch)]
         self.assertEqual((made, len(inverse)), (document, 36))
         spare = size[2] - size[0] - size[1]
-        for record in (lambda limits: record_patch(document, moves, limits=limits), lambda limits: JsonPatch(moves).record(document, limits=limits)):
+        for record in (
+            lambda limits: record_patch(document, moves, limits=limits), lambda limits: JsonPatch(moves).record(document, limits=limits),
+            lambda limits: (kept("record", document, moves, limits), inverse),
+        ):
             self.assertEqual(record(Limits(bytes=spare)), (made, inverse))
             with self.assertRaises(OverLimit) as caught:
                 record(Limits(bytes=spare - 1))
@@ -126,26 +126,16 @@ class Within(unittest.TestCase):
         error = caught.exception
         self.assertEqual((error.operation, error.kind, error.path), (None, "TooMuch", None))
 
-    def test_moves_count_where_they_are_recorded(self):
-        """The inverse of each holds the value that it moves."""
-        document, moves = {"a": "cde"}, [MOVE, BACK]
-        self.assertMakes(document, moves, Limits(bytes=8), document, of_copies)
-        in_place, applied, recorded = of_copies(document, moves, Limits(bytes=7))
-        self.assertEqual((in_place(), applied()), (document, document))
-        with self.assertRaises(OverLimit) as caught:
-            recorded()
-        self.assertEqual((caught.exception.operation, caught.exception.kind), (1, "TooMuch"))
-        many = {"a": "x" * 4_999}
-        self.assertEqual(kept("record", many, moves * 50, Limits()), many)
-        self.assertEqual(kept("apply", many, moves * 51, Limits()), many)
-        with self.assertRaises(OverLimit) as caught:
-            kept("record", many, moves * 51, Limits())
-        self.assertEqual(caught.exception.operation, 100)
-
-    def test_copies_of_a_kept_document_count_for_each_patch(self):
-        with Document({"a": "cde"}, limits=Limits(bytes=4)) as kept:
+    def test_a_kept_document_counts_at_each_patch(self):
+        """Each copy adds 40 bytes, and the patch has 39."""
+        copied = [{"op": "copy", "from": "/0", "path": "/-"}]
+        with Document(["x" * 37], limits=Limits(bytes=1)) as kept:
             for _ in range(9):
-                kept.apply([COPY])
+                kept.apply(copied)
+            self.assertEqual(len(kept.get()), 10)
+        with Document(["x" * 37], limits=Limits(bytes=0)) as kept, self.assertRaises(OverLimit) as caught:
+            kept.apply(copied)
+        self.assertEqual(caught.exception.kind, "TooMuch")
 
     def test_documents_and_merge_patches(self):
         limits = Limits(depth=2)
@@ -253,14 +243,6 @@ class Undone(unittest.TestCase):
                     kept.record(patch)
                 self.assertEqual(kept.get(), {"a": 1})
                 self.assertNothing(kept)
-            # nor can it be taken back for want of memory: it can be later
-            nothing = mock.Mock(return_value=NO_MEMORY)
-            with mock.patch.object(LIBRARY, "json_patch_inverse", nothing), mock.patch.object(LIBRARY, "json_patch_undo", nothing):
-                with self.assertRaises(MemoryError):
-                    kept.record(patch)
-            self.assertEqual(kept.get(), {})
-            kept.undo()
-            self.assertEqual(kept.get(), {"a": 1})
 
 
 class InPlace(unittest.TestCase):

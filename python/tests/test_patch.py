@@ -7,7 +7,7 @@ from decimal import Decimal
 
 from json_patch import (
     Document, InvalidJsonPatch, JsonPatch, JsonPatchConflict, JsonPatchException, JsonPatchTestFailed, JsonPointer,
-    JsonPointerException, Limits, NumberNotWhole, apply_patch, apply_text, make_patch, merge_patch, merge_text, record_patch,
+    JsonPointerException, Limits, NumberOutOfRange, apply_patch, apply_text, make_patch, merge_patch, merge_text, record_patch,
     resolve_pointer, resolve_text,
 )
 from support import NO_NUMBERS, NOT_WHOLE, PAST_FLOATS, SAYS, nested, on_each_stack
@@ -149,7 +149,7 @@ class Patches(unittest.TestCase):
         except ValueError:
             self.assertToldOfBoth(wide, "NumberOutOfRange", lambda: Document(wide))
             for call in (lambda: apply_patch({}, f'[{{"op":"add","path":"/a","value":{text}}}]'), lambda: JsonPatch.from_string(f'[{{"op":"add","path":"/a","value":{text}}}]')):
-                with self.assertRaises(NumberNotWhole) as caught:
+                with self.assertRaises(NumberOutOfRange) as caught:
                     call()
                 self.assertEqual(caught.exception.kind, "NumberOutOfRange")
         else:

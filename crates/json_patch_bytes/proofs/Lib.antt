@@ -1,4 +1,1 @@
-mod Made
-mod Nested
-mod Differences
 pub mod Mending

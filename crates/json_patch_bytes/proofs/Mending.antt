@@ -1,5 +1,5 @@
 -- A text that is mended from its front.
-use Rattle.std.proofs.Common.{◌≡◌, ◌≤◌, ◌+◌, ◌-◌, ℕ, zero, suc, List, [], ◌∷◌, ◌++◌, take, drop, get_or, length, inl, inr, arith, refl, sym, subst}
+use Rattle.std.proofs.Common.{◌≡◌, ◌≤◌, ◌+◌, ◌-◌, ℕ, zero, suc, List, [], ◌∷◌, ◌++◌, take, drop, get_or, length, inr, arith, refl, sym, subst}
 use Rattle.std.proofs.Math.Seq.{take-add}
 use native.Mathlib.Numerals.{unary_clauses}
 use Rattle.json_patch_bytes.specs.declared.kinds.TheConstants.{UNPAIRED_SURROGATE}
@@ -43,4 +43,4 @@ mended_on text new n (room, slash, u, spelled) front =
 
 -- what is told where the text is JSON once it is mended
 pub of_mended : (text mended : List ℕ) → IsMended text mended → IsSaying mended → IsNoJsonKind text UNPAIRED_SURROGATE
-of_mended text mended is says = inr (inl (refl, (mended, is, says)))
+of_mended text mended is says = inr (refl, (mended, is, says))

@@ -1,8 +1,6 @@
 pub mod Kinds
-pub mod Nesting
 pub mod Surrogates
 pub mod Bounds
 pub mod Texts
 pub mod Reasons
 pub mod Failures
-pub mod Differences

@@ -1,10 +1,10 @@
 -- Why bytes aren't read as JSON: an unpaired surrogate, which the grammar takes, such as \ud800, but which stands for no
--- character (RFC 8259, sections 7 and 8.2), or a number past a float's range.
+-- character (RFC 8259, sections 7 and 8.2).
 use Rattle.std.specs.Prelude.{◌≡◌, ◌≤◌, ◌<◌, ◌+◌, ◌⊎◌, ℕ, List, [], ◌∷◌, Some, IsUtf8, get_or, length}
 use Rattle.json.specs.Json.{Json}
 use Rattle.json.specs.Text.{code_unit}
 use Rattle.json_lexemes.specs.Spelled.{Says}
-use Rattle.json_patch_bytes.specs.declared.kinds.TheConstants.{NOT_JSON, NUMBER_OUT_OF_RANGE, UNPAIRED_SURROGATE}
+use Rattle.json_patch_bytes.specs.declared.kinds.TheConstants.{NOT_JSON, UNPAIRED_SURROGATE}
 
 -- these are the four digits of a surrogate
 abbrev pub SpellSurrogate : ℕ → ℕ → ℕ → ℕ → Type 0
@@ -25,9 +25,9 @@ IsSaying text = IsUtf8 text × ((j : Json) × Says text j)
 abbrev pub HasUnpaired : List ℕ → Type 0
 HasUnpaired text = (mended : List ℕ) × IsMended text mended × IsSaying mended
 
--- what is told of bytes that aren't read: they are JSON all the same, or surrogates keep them from it, or else they are none
+-- what is told of bytes that aren't read: surrogates keep them from being JSON, or else they are none
 abbrev pub IsNoJsonKind : List ℕ → ℕ → Type 0
-IsNoJsonKind text kind = (kind ≡ NOT_JSON) ⊎ (((kind ≡ UNPAIRED_SURROGATE) × HasUnpaired text) ⊎ ((kind ≡ NUMBER_OUT_OF_RANGE) × IsSaying text))
+IsNoJsonKind text kind = (kind ≡ NOT_JSON) ⊎ ((kind ≡ UNPAIRED_SURROGATE) × HasUnpaired text)
 
 -- for private clauses: at this place of the text an escape of a surrogate stands
 abbrev pub StandsSurrogate : List ℕ → ℕ → Type 0

@@ -1,7 +1,6 @@
 //! Why a call makes no text, in the numbers that C is told.
 
 ghost use Rattle.std.specs.Prelude.{◌≡◌};
-ghost use Rattle.json_patch_bytes.specs.Failures.{of_run};
 ghost use Rattle.json_patch_bytes.specs.Kinds.{limit_kind, reading_kind, refusal_kind};
 ghost use Rattle.json_patch_bytes.specs.declared.failure.Failure.TheVariants.{Memory};
 
@@ -11,9 +10,7 @@ use crate::kinds::{
     NOT_AN_OBJECT, OP_NOT_TEXT, PATH_NOT_TEXT, TEST_FAILED, TOO_DEEP, TOO_MUCH, UNKNOWN_OP,
     VALUE_NOT_WHOLE,
 };
-use json_patch::{
-    LimitError, LimitFault, LimitKind, PatchError, PatchErrorKind, PatchFault, ReadKind,
-};
+use json_patch::{LimitError, LimitKind, PatchError, PatchErrorKind, ReadKind};
 use std::alloc::{AllocError, AllocFailed};
 
 /// Why a call makes no text.
@@ -29,18 +26,6 @@ pub enum Failure {
     Over(LimitError),
     /// No memory was found.
     Memory,
-}
-
-impl From<LimitFault> for Failure {
-    ghost from_gives = { λ fault failure. failure ≡ of_run fault };
-
-    fn from(fault: LimitFault) -> Failure {
-        match fault {
-            LimitFault::Over(error) => Failure::Over(error),
-            LimitFault::Patch(PatchFault::Refused(error)) => Failure::Refused(error),
-            LimitFault::Patch(PatchFault::Memory(_)) => Failure::Memory,
-        }
-    }
 }
 
 impl From<AllocError> for Failure {

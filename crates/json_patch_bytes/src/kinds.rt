@@ -2,8 +2,6 @@
 
 /// A text is no UTF-8, or no JSON.
 pub const NOT_JSON: u8 = 1;
-/// A number in it is no 64-bit integer.
-pub const NOT_WHOLE: u8 = 2;
 /// Another value stands where a `test` looks.
 pub const TEST_FAILED: u8 = 3;
 /// `from` leads nowhere.
@@ -18,8 +16,6 @@ pub const TOO_DEEP: u8 = 7;
 pub const TOO_MUCH: u8 = 8;
 /// A text would be JSON, but for a surrogate that has no other half.
 pub const UNPAIRED_SURROGATE: u8 = 9;
-/// A text is JSON, and a number in it is past a float's range.
-pub const NUMBER_OUT_OF_RANGE: u8 = 10;
 /// A patch is no array.
 pub const NOT_A_LIST: u8 = 11;
 /// An operation is no object.

@@ -3,22 +3,19 @@
 ghost use Rattle.std.specs.Prelude.{IfOk, IsTrue};
 ghost use Rattle.json_patch_bytes.specs.Surrogates.{IsNoJsonKind, IsSaying};
 
-use crate::kinds::{NOT_JSON, NUMBER_OUT_OF_RANGE, UNPAIRED_SURROGATE};
+use crate::kinds::{NOT_JSON, UNPAIRED_SURROGATE};
 use crate::surrogates::mended;
 use json_text::{CheckedText, TextFault};
 use simdutf8::compat::from_utf8;
 use std::alloc::{AllocError, Global};
 
-/// The kind of what is wrong with bytes that aren't read, though they nest no deeper than they may:
-/// `NUMBER_OUT_OF_RANGE` where they are JSON all the same, `UNPAIRED_SURROGATE` where they would be with `\ufffd`
-/// in the place of the surrogates that have no other half, and else `NOT_JSON`.
+/// The kind of what is wrong with bytes that are no JSON, though they nest no deeper than they may:
+/// `UNPAIRED_SURROGATE` where they would be JSON with `\ufffd` in the place of the surrogates that have no other
+/// half, and else `NOT_JSON`.
 #[tactic(auto, using(crate::proofs::Mending::of_mended))]
 pub fn kind_of_no_json(alloc: Global, bytes: &[u8]) -> Result<u8, AllocError>
     ensures { IfOk result (λ kind. IsNoJsonKind bytes.now kind) }
 {
-    if is_json(alloc, bytes)? {
-        return Ok(NUMBER_OUT_OF_RANGE);
-    }
     let mended = mended(alloc, bytes)?;
     if is_json(alloc, mended.as_slice())? {
         return Ok(UNPAIRED_SURROGATE);

@@ -1,13 +1,10 @@
 -- What a call writes, and what it tells beside its status.
 use Rattle.std.specs.Prelude.{◌≡◌, ◌≢◌, ◌≤◌, ◌<◌, ◌⊎◌, ◌↔◌, ℕ, List, Result, IsErr, length, take, drop}
-use Rattle.serde_json.specs.Data.{Data}
-use Rattle.serde_json.specs.Written.{compact_text}
 use Rattle.jsonptr.specs.Text.{text_of}
 use Rattle.json_patch.specs.PatchError.{PatchError}
 use Rattle.json_patch.specs.LimitError.{LimitError}
 use Rattle.json_patch_bytes.specs.Kinds.{limit_kind, refusal_kind}
 use Rattle.json_patch_bytes.specs.Reasons.{Reasons}
-use Rattle.json_patch_bytes.specs.Texts.{IsShallowText}
 use Rattle.json_patch.specs.Limits.{Limits}
 use Rattle.json_patch_c.specs.declared.given.WrongSize.{WrongSize}
 use Rattle.json_patch_c.specs.declared.report.Report.{Report}
@@ -32,15 +29,6 @@ TellsBoth size inverse report = (report.size ≡ size) × (report.operation ≡ 
 -- the number and the kind of the refusal are told, and its path stands at the start of what was there, if there is room
 abbrev pub TellsRefusal : PatchError → List ℕ → List ℕ → Report → Type 0
 TellsRefusal e old new report = Tells (length (text_of e.path)) e.operation (refusal_kind e.kind) report × IsPutIfRoom (text_of e.path) old new
-
--- what a call says of the text that it makes, of a document for which P holds and that has at most so many levels
-pub record IsWritten (levels : ℕ) (P : Data → Type 0) (status : ℕ) (old new : List ℕ) (report : Report) : Type 0 where
-  -- OK: the text stands at the start, and says that document: so it can be handed in again
-  pub made : status ≡ OK → (e : Data) × P e × IsPut (compact_text e) old new × Tells (length (compact_text e)) 0 0 report
-      × IsShallowText levels (compact_text e) e
-  -- NO_ROOM: there is less room than the text takes
-  pub no_room : status ≡ NO_ROOM → (e : Data) × P e × (length old < length (compact_text e)) × Tells (length (compact_text e)) 0 0 report
-  pub untouched : status ≡ NO_ROOM → new ≡ old
 
 -- what a call says of a text that it makes, for which P holds
 pub record IsTextWritten (P : List ℕ → Type 0) (status : ℕ) (old new : List ℕ) (report : Report) : Type 0 where

@@ -1,28 +1,24 @@
-//! The calls for C on a document that is kept.
+//! The calls for C on a document that is kept, as its text.
 
-ghost use Rattle.std.specs.Prelude.{◌≡◌, ◌≢◌, ◌≤◌, ◌↔◌, ◌⊎◌, [], IfOk, IfSome, List, None, Some};
-ghost use Rattle.serde_json.specs.Data.{Data};
-ghost use Rattle.serde_json.specs.View.{view};
-ghost use Rattle.json_patch.specs.Limits.{Limits};
-ghost use Rattle.json_patch.specs.Operation.{Operation, operations_of};
-ghost use Rattle.json_patch.specs.PatchValue.{written_patch};
-ghost use Rattle.json_patch.specs.Run.{IsAccepted};
-ghost use Rattle.json_patch_bytes.specs.Differences.{LeadsToText};
-ghost use Rattle.json_patch_bytes.specs.Reasons.{of_open};
-ghost use Rattle.json_patch_bytes.specs.Texts.{IsNoPointer, IsShallowText};
+ghost use Rattle.std.specs.Prelude.{◌≡◌, ◌≢◌, ◌≤◌, ◌↔◌, ◌⊎◌, [], IfOk, IfSome, IsSomeAnd, None, Some, option_map};
+ghost use Rattle.json_kept_text.specs.Kept.{State, opened};
+ghost use Rattle.json_patch_bytes.specs.Texts.{IsNoPointer};
 ghost use Rattle.json_patch_c.specs.Limits.{limits_of};
-ghost use Rattle.json_patch_c.specs.Reasons.{of_diff_to, of_memory, of_update, of_update_merged, of_update_recorded};
-ghost use Rattle.json_patch_c.specs.Reports.{IsBadLimits, IsTold, IsWritten, Tells};
-ghost use Rattle.json_patch_c.specs.States.{document_in, limits_in, undo_in};
-ghost use Rattle.json_patch_c.specs.declared.status.TheConstants.{BAD_LIMITS, CLOSED, NOTHING, NO_MEMORY, NO_POINTER, OK, OVER, REFUSED};
-ghost use Rattle.json_patch_c.specs.Updates.{LeadsNowhere, MergesTo, RecordsTo, StandsAtText, UpdatesTo};
+ghost use Rattle.json_patch_c.specs.Reasons.{of_memory};
+ghost use Rattle.json_patch_c.specs.Reports.{IsBadLimits, IsTextWritten, IsTold, Tells};
+ghost use Rattle.json_patch_c.specs.States.{kept_in, limits_in};
+ghost use Rattle.json_patch_c.specs.Updates.{IsWayBack};
+ghost use Rattle.json_patch_c.specs.declared.status.TheConstants.{BAD_LIMITS, CLOSED, NOTHING, NO_MEMORY, NO_POINTER, NO_ROOM, OK, OVER, REFUSED};
+ghost use Rattle.json_patch_text_bytes.specs.Reasons.{of_kept, of_merge, of_patch, of_record, of_text, of_two};
+ghost use Rattle.json_patch_text_bytes.specs.Texts.{IsDifference, IsJsonText, IsMergedInto, IsNothingAt, IsPatched, IsRecordedIn, IsValueAt};
 
 use crate::document::Document;
 use crate::given::GivenLimits;
 use crate::kept::Kept;
-use crate::kept::calls::Lookup;
-use crate::report::{Report, answer, refuse, tell};
+use crate::report::{Report, answer, refuse, tell, write};
 use crate::status::{BAD_LIMITS, CLOSED, NO_MEMORY, NO_POINTER, NOTHING, OK};
+use json_patch_text_bytes::kept;
+use json_patch_text_bytes::lookup::LookupFault;
 use std::alloc::Global;
 
 /// Opens the document of a text, and closes the one that was open. The limits hold of each change of the
@@ -36,10 +32,9 @@ pub extern "C" fn json_patch_open(
     limits: GivenLimits,
     report: &mut Report,
 ) -> u8
-    ensures opened { IfOk (limits_of limits.given) (λ l. result ≡ OK → (d : Data) × IsShallowText l.depth text.now d
-        × (document_in document.new.held ≡ Some d) × (limits_in document.new.held ≡ Some l)
-        × (undo_in document.new.held ≡ Some []) × Tells 0 0 0 report.new) }
-    ensures told { IfOk (limits_of limits.given) (λ l. IsTold (of_open l text.now) result [] [] report.new) }
+    ensures opened { IfOk (limits_of limits.given) (λ l. result ≡ OK
+        → (kept_in document.new.held ≡ Some (opened l text.now)) × IsJsonText l.depth text.now × Tells 0 0 0 report.new) }
+    ensures told { IfOk (limits_of limits.given) (λ l. IsTold (of_text l.depth text.now) result [] [] report.new) }
     ensures bad_limits { IsBadLimits (limits_of limits.given) result [] [] report.new }
     ensures status { (result ≤ NO_MEMORY) ⊎ ((result ≡ OVER) ⊎ (result ≡ BAD_LIMITS)) }
     ensures unchanged { result ≢ OK → document.new.held ≡ document.old.held }
@@ -47,8 +42,8 @@ pub extern "C" fn json_patch_open(
     let Ok(limits) = limits.limits() else {
         return tell(BAD_LIMITS, 0, 0, report);
     };
-    match Kept::open(alloc, text, limits) {
-        Ok(kept) => match Box::new(alloc, kept) {
+    match kept::opened(alloc, text, limits) {
+        Ok(text) => match Box::new(alloc, Kept { text }) {
             Ok(kept) => {
                 document.take(alloc);
                 document.put(kept);
@@ -70,25 +65,22 @@ pub extern "C" fn json_patch_update(
     out: &mut [u8],
     report: &mut Report,
 ) -> u8
-    ensures changed { result ≡ OK → (l : Limits) × (d e : Data) × (limits_in document.old.held ≡ Some l)
-        × (document_in document.old.held ≡ Some d) × UpdatesTo l d patch.now e
-        × (document_in document.new.held ≡ Some e) × (undo_in document.new.held ≡ Some [])
+    ensures changed { result ≡ OK → (k e : State) × (kept_in document.old.held ≡ Some k)
+        × (kept_in document.new.held ≡ Some e) × IsPatched k.limits k.text patch.now e.text × (e.last ≡ None)
         × Tells 0 0 0 report.new }
-    ensures told { IfSome document.old.held (λ k. IsTold (of_update k.limits (view k.document) patch.now)
-        result out.old out.new report.new) }
+    ensures told { IfSome (kept_in document.old.held) (λ k.
+        IsTold (of_kept (of_patch k.limits k.text patch.now)) result out.old out.new report.new) }
     ensures closed { (result ≡ CLOSED) ↔ (document.old.held ≡ None) }
     ensures closed_told { result ≡ CLOSED → Tells 0 0 0 report.new × (out.new ≡ out.old) }
     ensures status { (result ≤ NO_MEMORY) ⊎ ((result ≡ CLOSED) ⊎ (result ≡ OVER)) }
     ensures limits { limits_in document.new.held ≡ limits_in document.old.held }
-    ensures unchanged { result ≢ OK
-        → document_in document.new.held ≡ document_in document.old.held }
-    ensures undo_unchanged { result ≢ OK → undo_in document.new.held ≡ undo_in document.old.held }
+    ensures unchanged { result ≢ OK → kept_in document.new.held ≡ kept_in document.old.held }
     ensures out_unchanged { result ≢ REFUSED → out.new ≡ out.old }
 {
     let Some(mut kept) = document.take(alloc) else {
         return tell(CLOSED, 0, 0, report);
     };
-    let made = kept.update(alloc, patch);
+    let made = kept::patched(alloc, &mut kept.text, patch);
     document.put(kept);
     match made {
         Ok(()) => tell(OK, 0, 0, report),
@@ -96,7 +88,7 @@ pub extern "C" fn json_patch_update(
     }
 }
 
-/// The same, and keeps the patch that leads back.
+/// The same, and the change can be taken back.
 #[tactic(auto, using(crate::proofs::Answered::told_failure))]
 #[unsafe(no_mangle)]
 pub extern "C" fn json_patch_update_recorded(
@@ -106,25 +98,22 @@ pub extern "C" fn json_patch_update_recorded(
     out: &mut [u8],
     report: &mut Report,
 ) -> u8
-    ensures changed { result ≡ OK → (l : Limits) × (d e : Data) × (undo : List Operation)
-        × (limits_in document.old.held ≡ Some l) × (document_in document.old.held ≡ Some d)
-        × RecordsTo l d patch.now e undo × (document_in document.new.held ≡ Some e)
-        × (undo_in document.new.held ≡ Some undo) × Tells 0 0 0 report.new }
-    ensures told { IfSome document.old.held (λ k. IsTold (of_update_recorded k.limits (view k.document) patch.now)
-        result out.old out.new report.new) }
+    ensures changed { result ≡ OK → (k e : State) × (kept_in document.old.held ≡ Some k)
+        × (kept_in document.new.held ≡ Some e) × IsRecordedIn k patch.now e
+        × Tells 0 0 0 report.new }
+    ensures told { IfSome (kept_in document.old.held) (λ k.
+        IsTold (of_kept (of_record k.limits k.text patch.now)) result out.old out.new report.new) }
     ensures closed { (result ≡ CLOSED) ↔ (document.old.held ≡ None) }
     ensures closed_told { result ≡ CLOSED → Tells 0 0 0 report.new × (out.new ≡ out.old) }
     ensures status { (result ≤ NO_MEMORY) ⊎ ((result ≡ CLOSED) ⊎ (result ≡ OVER)) }
     ensures limits { limits_in document.new.held ≡ limits_in document.old.held }
-    ensures unchanged { result ≢ OK
-        → document_in document.new.held ≡ document_in document.old.held }
-    ensures undo_unchanged { result ≢ OK → undo_in document.new.held ≡ undo_in document.old.held }
+    ensures unchanged { result ≢ OK → kept_in document.new.held ≡ kept_in document.old.held }
     ensures out_unchanged { result ≢ REFUSED → out.new ≡ out.old }
 {
     let Some(mut kept) = document.take(alloc) else {
         return tell(CLOSED, 0, 0, report);
     };
-    let made = kept.record(alloc, patch);
+    let made = kept::recorded(alloc, &mut kept.text, patch);
     document.put(kept);
     match made {
         Ok(()) => tell(OK, 0, 0, report),
@@ -141,24 +130,21 @@ pub extern "C" fn json_patch_update_merged(
     patch: &[u8],
     report: &mut Report,
 ) -> u8
-    ensures changed { result ≡ OK → (l : Limits) × (d e : Data) × (limits_in document.old.held ≡ Some l)
-        × (document_in document.old.held ≡ Some d) × MergesTo l.depth d patch.now e
-        × (document_in document.new.held ≡ Some e) × (undo_in document.new.held ≡ Some [])
+    ensures changed { result ≡ OK → (k e : State) × (kept_in document.old.held ≡ Some k)
+        × (kept_in document.new.held ≡ Some e) × IsMergedInto k.limits k.text patch.now e.text × (e.last ≡ None)
         × Tells 0 0 0 report.new }
-    ensures told { IfSome document.old.held
-        (λ k. IsTold (of_update_merged k.limits patch.now) result [] [] report.new) }
+    ensures told { IfSome (kept_in document.old.held) (λ k.
+        IsTold (of_kept (of_merge k.limits k.text patch.now)) result [] [] report.new) }
     ensures closed { (result ≡ CLOSED) ↔ (document.old.held ≡ None) }
     ensures closed_told { result ≡ CLOSED → Tells 0 0 0 report.new }
     ensures status { (result ≤ NO_MEMORY) ⊎ ((result ≡ CLOSED) ⊎ (result ≡ OVER)) }
     ensures limits { limits_in document.new.held ≡ limits_in document.old.held }
-    ensures unchanged { result ≢ OK
-        → document_in document.new.held ≡ document_in document.old.held }
-    ensures undo_unchanged { result ≢ OK → undo_in document.new.held ≡ undo_in document.old.held }
+    ensures unchanged { result ≢ OK → kept_in document.new.held ≡ kept_in document.old.held }
 {
     let Some(mut kept) = document.take(alloc) else {
         return tell(CLOSED, 0, 0, report);
     };
-    let made = kept.merge(alloc, patch);
+    let made = kept::merged(alloc, &mut kept.text, patch);
     document.put(kept);
     match made {
         Ok(()) => tell(OK, 0, 0, report),
@@ -166,38 +152,30 @@ pub extern "C" fn json_patch_update_merged(
     }
 }
 
-/// Takes back the last change in place, if it was recorded: once.
+/// Takes back the last change, if that was recorded, byte for byte: once. It takes no memory.
 #[unsafe(no_mangle)]
 pub extern "C" fn json_patch_undo(alloc: Global, document: &mut Document, report: &mut Report) -> u8
-    // It is used up. What an update recorded leads to the document before it.
-    ensures undone { result ≡ OK → (d e : Data) × (undo : List Operation)
-        × (document_in document.old.held ≡ Some d) × (undo_in document.old.held ≡ Some undo)
-        × IsAccepted d undo e × (document_in document.new.held ≡ Some e)
-        × (undo_in document.new.held ≡ Some []) }
-    // NOTHING: nothing that does something was recorded.
+    ensures undone { result ≡ OK → (k e : State) × (kept_in document.old.held ≡ Some k)
+        × (kept_in document.new.held ≡ Some e) × (option_map (λ c. c.before) k.last ≡ Some e.text)
+        × (e.last ≡ None) }
     ensures closed { (result ≡ CLOSED) ↔ (document.old.held ≡ None) }
-    ensures nothing { (result ≡ NOTHING) ↔ (undo_in document.old.held ≡ Some []) }
+    // NOTHING: nothing was recorded, or it is taken back.
+    ensures nothing { (result ≡ NOTHING) ↔ IsSomeAnd (kept_in document.old.held) (λ k. k.last ≡ None) }
     ensures report { Tells 0 0 0 report.new }
-    ensures status { (result ≡ OK) ⊎ ((result ≡ NO_MEMORY) ⊎ ((result ≡ CLOSED) ⊎ (result ≡ NOTHING))) }
+    ensures status { (result ≡ OK) ⊎ ((result ≡ CLOSED) ⊎ (result ≡ NOTHING)) }
     ensures limits { limits_in document.new.held ≡ limits_in document.old.held }
-    ensures unchanged { result ≢ OK
-        → document_in document.new.held ≡ document_in document.old.held }
-    ensures undo_unchanged { result ≢ OK → undo_in document.new.held ≡ undo_in document.old.held }
+    ensures unchanged { result ≢ OK → kept_in document.new.held ≡ kept_in document.old.held }
 {
     let Some(mut kept) = document.take(alloc) else {
         return tell(CLOSED, 0, 0, report);
     };
-    let made = kept.undo(alloc);
+    let undone = kept.text.undo();
     document.put(kept);
-    match made {
-        Ok(true) => tell(OK, 0, 0, report),
-        Ok(false) => tell(NOTHING, 0, 0, report),
-        Err(_) => tell(NO_MEMORY, 0, 0, report),
-    }
+    tell(if undone { OK } else { NOTHING }, 0, 0, report)
 }
 
 /// Writes the text of the document.
-#[tactic(auto, using(crate::proofs::Answered::written, crate::proofs::Answered::told))]
+#[tactic(auto, using(crate::proofs::Answered::text_written, crate::proofs::Answered::told))]
 #[unsafe(no_mangle)]
 pub extern "C" fn json_patch_text(
     alloc: Global,
@@ -205,9 +183,10 @@ pub extern "C" fn json_patch_text(
     out: &mut [u8],
     report: &mut Report,
 ) -> u8
-    ensures written { IfSome document.old.held
-        (λ k. IsWritten k.limits.depth (λ e. e ≡ view k.document) result out.old out.new report.new) }
-    ensures told { IfSome document.old.held (λ _. IsTold of_memory result out.old out.new report.new) }
+    ensures written { IfSome (kept_in document.old.held)
+        (λ k. IsTextWritten (λ s. s ≡ k.text) result out.old out.new report.new) }
+    ensures told { IfSome (kept_in document.old.held)
+        (λ _. IsTold of_memory result out.old out.new report.new) }
     ensures closed { (result ≡ CLOSED) ↔ (document.old.held ≡ None) }
     ensures closed_told { result ≡ CLOSED → Tells 0 0 0 report.new × (out.new ≡ out.old) }
     ensures status { (result ≤ CLOSED) ⊎ (result ≡ OVER) }
@@ -223,7 +202,7 @@ pub extern "C" fn json_patch_text(
 
 /// Writes the text of the patch that takes back the last change, if that was recorded, and else
 /// that of no operations.
-#[tactic(auto, using(crate::proofs::Answered::written, crate::proofs::Answered::told))]
+#[tactic(auto, using(crate::proofs::Answered::text_written, crate::proofs::Answered::told))]
 #[unsafe(no_mangle)]
 pub extern "C" fn json_patch_inverse(
     alloc: Global,
@@ -231,9 +210,10 @@ pub extern "C" fn json_patch_inverse(
     out: &mut [u8],
     report: &mut Report,
 ) -> u8
-    ensures written { IfSome document.old.held
-        (λ k. IsWritten 126 (λ e. e ≡ written_patch (operations_of k.inverse)) result out.old out.new report.new) }
-    ensures told { IfSome document.old.held (λ _. IsTold of_memory result out.old out.new report.new) }
+    ensures written { IfSome (kept_in document.old.held)
+        (λ k. IsTextWritten (IsWayBack k) result out.old out.new report.new) }
+    ensures told { IfSome (kept_in document.old.held)
+        (λ _. IsTold of_memory result out.old out.new report.new) }
     ensures closed { (result ≡ CLOSED) ↔ (document.old.held ≡ None) }
     ensures closed_told { result ≡ CLOSED → Tells 0 0 0 report.new × (out.new ≡ out.old) }
     ensures status { (result ≤ CLOSED) ⊎ (result ≡ OVER) }
@@ -242,13 +222,13 @@ pub extern "C" fn json_patch_inverse(
     let Some(kept) = document.take(alloc) else {
         return tell(CLOSED, 0, 0, report);
     };
-    let made = kept.inverse_text(alloc);
+    let made = kept.inverse(alloc);
     document.put(kept);
     answer(made, out, report)
 }
 
-/// Writes the patch that leads from the document to that of a text, and leaves the document.
-#[tactic(auto, using(crate::proofs::Answered::written, crate::proofs::Answered::told))]
+/// Writes the patch that leads from the document to what a text says, and leaves the document.
+#[tactic(auto, using(crate::proofs::Answered::text_written, crate::proofs::Answered::told))]
 #[unsafe(no_mangle)]
 pub extern "C" fn json_patch_diff_to(
     alloc: Global,
@@ -257,10 +237,10 @@ pub extern "C" fn json_patch_diff_to(
     out: &mut [u8],
     report: &mut Report,
 ) -> u8
-    ensures written { IfSome document.old.held (λ k. IsWritten 126
-        (LeadsToText k.limits.depth (view k.document) text.now) result out.old out.new report.new) }
-    ensures told { IfSome document.old.held
-        (λ k. IsTold (of_diff_to k.limits text.now) result out.old out.new report.new) }
+    ensures written { IfSome (kept_in document.old.held)
+        (λ k. IsTextWritten (IsDifference k.limits k.text text.now) result out.old out.new report.new) }
+    ensures told { IfSome (kept_in document.old.held)
+        (λ k. IsTold (of_kept (of_two k.limits.depth k.text text.now)) result out.old out.new report.new) }
     ensures closed { (result ≡ CLOSED) ↔ (document.old.held ≡ None) }
     ensures closed_told { result ≡ CLOSED → Tells 0 0 0 report.new × (out.new ≡ out.old) }
     ensures status { (result ≤ CLOSED) ⊎ (result ≡ OVER) }
@@ -269,13 +249,13 @@ pub extern "C" fn json_patch_diff_to(
     let Some(kept) = document.take(alloc) else {
         return tell(CLOSED, 0, 0, report);
     };
-    let made = kept.diff_to(alloc, text);
+    let made = kept::differing(alloc, &kept.text, text);
     document.put(kept);
     answer(made, out, report)
 }
 
-/// Writes the text of what stands where a pointer leads (RFC 6901).
-#[tactic(auto, using(crate::proofs::Answered::written, crate::proofs::Answered::told))]
+/// Writes the text of the value where a pointer leads (RFC 6901), as it stands in the document's text.
+#[tactic(auto, using(crate::proofs::Answered::text_put, crate::proofs::Answered::told_failure, crate::proofs::Answered::told_apart))]
 #[unsafe(no_mangle)]
 pub extern "C" fn json_patch_value_at(
     alloc: Global,
@@ -284,27 +264,28 @@ pub extern "C" fn json_patch_value_at(
     out: &mut [u8],
     report: &mut Report,
 ) -> u8
-    ensures written { IfSome document.old.held (λ k. IsWritten k.limits.depth
-        (StandsAtText (view k.document) pointer.now) result out.old out.new report.new) }
-    ensures told { IfSome document.old.held (λ _. IsTold of_memory result out.old out.new report.new) }
+    ensures written { IfSome (kept_in document.old.held) (λ k.
+        IsTextWritten (IsValueAt k.limits.depth k.text pointer.now) result out.old out.new report.new) }
+    ensures told { IfSome (kept_in document.old.held)
+        (λ _. IsTold of_memory result out.old out.new report.new) }
     ensures closed { (result ≡ CLOSED) ↔ (document.old.held ≡ None) }
     ensures closed_told { result ≡ CLOSED → Tells 0 0 0 report.new × (out.new ≡ out.old) }
     ensures no_pointer { result ≡ NO_POINTER → IsNoPointer pointer.now × Tells 0 0 0 report.new }
-    ensures nothing { result ≡ NOTHING → IfSome document.old.held
-        (λ k. LeadsNowhere (view k.document) pointer.now) × Tells 0 0 0 report.new }
+    ensures nothing { result ≡ NOTHING → IfSome (kept_in document.old.held)
+        (λ k. IsNothingAt k.limits.depth k.text pointer.now) × Tells 0 0 0 report.new }
     ensures status { (result ≤ NOTHING) ⊎ (result ≡ OVER) }
     ensures document { document.new.held ≡ document.old.held }
 {
     let Some(kept) = document.take(alloc) else {
         return tell(CLOSED, 0, 0, report);
     };
-    let found = kept.text_at(alloc, pointer);
+    let found = kept::value_at(alloc, &kept.text, pointer);
     document.put(kept);
     match found {
-        Lookup::Found(text) => answer(Ok(text), out, report),
-        Lookup::Memory => tell(NO_MEMORY, 0, 0, report),
-        Lookup::NoPointer => tell(NO_POINTER, 0, 0, report),
-        Lookup::Nothing => tell(NOTHING, 0, 0, report),
+        Ok(text) => write(text.as_bytes(), out, report),
+        Err(LookupFault::Document(failure)) => refuse(&failure, out, report),
+        Err(LookupFault::NoPointer) => tell(NO_POINTER, 0, 0, report),
+        Err(LookupFault::Nothing) => tell(NOTHING, 0, 0, report),
     }
 }
 

@@ -1,26 +1,39 @@
 //! What stands behind a document's handle.
 
-ghost use Rattle.std.specs.Prelude.{◌≤◌};
-ghost use Rattle.serde_json.specs.View.{view};
-ghost use Rattle.json_patch.specs.Document.{IsDocument};
-ghost use Rattle.json_patch.specs.Operation.{operations_of};
-ghost use Rattle.json_patch.specs.Propositions.{IsDocument-prop};
-ghost use Rattle.json_patch_c.specs.Undo.{IsShallow, IsShallow-prop, IsUndo, IsUndo-prop};
+ghost use Rattle.std.specs.Prelude.{◌≡◌, ◌≤◌, IfErr, IfOk, IfSome, string_bytes};
+ghost use Rattle.json_patch_bytes.specs.Failures.{IsFailure};
+ghost use Rattle.json_patch_c.specs.Reasons.{of_memory};
+ghost use Rattle.json_patch_c.specs.Updates.{IsWayBack};
 
-pub(crate) mod calls;
+use json_kept_text::KeptText;
+use json_patch_bytes::failure::Failure;
+use std::alloc::Global;
 
-use json_patch::{Limits, Patch};
-use serde_json::Value;
-
-/// A document whose numbers are 64-bit integers, within limits, and the patch that takes back its
-/// last change, if that was recorded: else that of no operations.
+/// A text that is kept, within limits that let its inverse be read.
 #[derive(Drop)]
 pub struct Kept {
-    document: Value,
-    inverse: Patch,
-    limits: Limits,
-    ghost whole: { IsDocument (view document) } by { IsDocument-prop (view document) },
-    ghost shallow: { IsShallow limits.depth (view document) } by { IsShallow-prop limits.depth (view document) },
-    ghost undoable: { IsUndo limits.depth (view document) (operations_of inverse) } by { IsUndo-prop limits.depth (view document) (operations_of inverse) },
-    ghost bounded: { limits.depth ≤ 124 },
+    pub(crate) text: KeptText,
+    ghost bounded: { text.limits.depth ≤ 124 },
+}
+
+impl Kept {
+    /// The text.
+    pub(crate) fn text(&self, alloc: Global) -> Result<String, Failure>
+        ensures text { IfOk result (λ s. string_bytes s ≡ self.now.text.text) }
+        ensures failure { IfErr result (IsFailure of_memory) }
+    {
+        Ok(self.text.to_text(alloc)?)
+    }
+
+    /// The text of the patch that takes back the last change, if that was recorded, and else that of no
+    /// operations.
+    pub(crate) fn inverse(&self, alloc: Global) -> Result<String, Failure>
+        ensures text { IfOk result (λ s. IsWayBack self.now.text (string_bytes s)) }
+        ensures failure { IfErr result (IsFailure of_memory) }
+    {
+        match self.text.inverse(alloc)? {
+            Some(inverse) => Ok(inverse),
+            None => Ok(String::from_str(alloc, "[]")?),
+        }
+    }
 }

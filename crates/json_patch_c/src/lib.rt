@@ -3,7 +3,7 @@
 //!
 //! `c/json_patch.h` declares these functions, and says what their caller owes. Each but
 //! `json_patch_close` returns a status, and fills a report. What a status says that several calls
-//! return stands once, in `IsWritten`, `IsTextWritten` and `IsTold`.
+//! return stands once, in `IsTextWritten`, `IsBothWritten` and `IsTold`.
 #![tactic(auto)]
 
 mod document;

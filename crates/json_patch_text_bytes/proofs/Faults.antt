@@ -38,8 +38,7 @@ use Rattle.json_patch_text_bytes.specs.Texts.{IsDifference, IsJsonText, IsMerged
 pub other_kind : (levels : ℕ) (text : List ℕ) (kind : ℕ) → IsNoJsonText levels text NOT_JSON → IsNoJsonKind text kind → IsNoJsonText levels text kind
 other_kind levels text kind (inl (is, utf8, deep)) told = absurd (omega (arith, is))
 other_kind levels text kind (inr (one, none)) (inl is) = inr (inl is, none)
-other_kind levels text kind (inr (one, none)) (inr (inl unpaired)) = inr (inr unpaired, none)
-other_kind levels text kind (inr (one, none)) (inr (inr (is, said))) = absurd ((none said.0).1 said.1.0 said.1.1)
+other_kind levels text kind (inr (one, none)) (inr unpaired) = inr (inr unpaired, none)
 
 -- what is wrong with an operation is no such kind
 late : (why : ReadKind) → NOT_JSON ≡ reading_kind why → ⊥
@@ -58,7 +57,7 @@ late MissingValue is = omega (arith, is)
 late ValueNotWhole is = omega (arith, is)
 
 -- and one that says no patch
-other_patch : (patch : List ℕ) (kind : ℕ) → IsNoTextPatch patch 0 NOT_JSON → IsNoJsonKind patch kind → IsNoTextPatch patch 0 kind
+pub other_patch : (patch : List ℕ) (kind : ℕ) → IsNoTextPatch patch 0 NOT_JSON → IsNoJsonKind patch kind → IsNoTextPatch patch 0 kind
 other_patch patch kind (inl (first, none)) told = inl (first, other_kind 127 patch kind none told)
 other_patch patch kind (inr (k, why, utf8, says, at, is)) told = absurd (late why is)
 
@@ -75,7 +74,7 @@ module _ (R : Reasons) where
   own_in levels document failure.Memory own why = tt
 
   -- a failure that is named anew
-  named_in : (second : List ℕ) (failure told : Failure) → ((kind : ℕ) → IsNoJsonKind second kind → R.no_patch 0 NOT_JSON → R.no_patch 0 kind)
+  pub named_in : (second : List ℕ) (failure told : Failure) → ((kind : ℕ) → IsNoJsonKind second kind → R.no_patch 0 NOT_JSON → R.no_patch 0 kind)
       → IsNamed second failure told → IsFailure R failure → IsFailure R told
   named_in second failure told name (inl same) why = subst (IsFailure R) (sym same) why
   named_in second failure told name (inr (inl memory)) why = subst (IsFailure R) (sym memory) tt

@@ -96,3 +96,9 @@ abbrev pub IsLookupFault : ℕ → List ℕ → List ℕ → LookupFault → Typ
 IsLookupFault levels document pointer (lookup.Document f) = IsFailure (of_text levels document) f
 IsLookupFault levels document pointer lookup.NoPointer = IsNoPointer pointer
 IsLookupFault levels document pointer lookup.Nothing = IsNothingAt levels document pointer
+
+-- in a text that is kept
+abbrev pub IsKeptLookupFault : ℕ → List ℕ → List ℕ → LookupFault → Type 0
+IsKeptLookupFault levels text pointer (lookup.Document f) = f ≡ Memory
+IsKeptLookupFault levels text pointer lookup.NoPointer = IsNoPointer pointer
+IsKeptLookupFault levels text pointer lookup.Nothing = IsNothingAt levels text pointer

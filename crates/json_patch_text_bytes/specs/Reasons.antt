@@ -52,3 +52,7 @@ of_merge l document patch = record {
   refused = λ e. ⊥;
   over = IsMergedOver l document patch;
 }
+
+-- of a text that is kept, which is known to be JSON
+abbrev pub of_kept : Reasons → Reasons
+of_kept R = record R { no_document = λ kind. ⊥ }

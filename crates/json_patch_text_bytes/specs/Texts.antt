@@ -1,9 +1,10 @@
 -- What bytes say as a JSON text, whatever its numbers, and what a call makes of it.
-use Rattle.std.specs.Prelude.{◌≡◌, ◌≤◌, ◌<◌, ◌⊎◌, ◌↔◌, [], ℕ, List, Option, None, IsUtf8, length, unwrap_or}
+use Rattle.std.specs.Prelude.{◌≡◌, ◌≤◌, ◌<◌, ◌⊎◌, ◌↔◌, [], ℕ, List, Option, None, Some, IsUtf8, length, unwrap_or}
 use Rattle.json.specs.Json.{Json}
 use Rattle.jsonptr.specs.Text.{Pointer}
 use Rattle.json_lexemes.specs.Skipped.{nesting}
 use Rattle.json_text.specs.Pointed.{IsWrittenAt, tree_at}
+use Rattle.json_kept_text.specs.Kept.{Change, State}
 use Rattle.json_lexemes.specs.Spelled.{Says}
 use Rattle.json_diff_text.specs.Differences.{IsFewBetween, IsPlainPatch, SaySame}
 use Rattle.json_merge_text.specs.Merged.{IsMergeOver, IsMergedAlready, IsMergedText, SaysMerged, most_bytes}
@@ -66,6 +67,10 @@ pub record IsRecorded (l : Limits) (document patch new undo : List ℕ) : Type 0
   -- so both can be handed in again, the second as a patch
   pub again : IsJsonText l.depth new
   pub readable : IsTextPatch undo
+
+-- the text that is kept is patched and recorded so
+abbrev pub IsRecordedIn : State → List ℕ → State → Type 0
+IsRecordedIn k patch e = (c : Change) × (e.last ≡ Some c) × (c.before ≡ k.text) × IsRecorded k.limits k.text patch e.text c.inverse
 
 -- the patch is refused on the document's text, the operations before are made within the limits, and e is which and why
 abbrev pub IsRefusedIn : Limits → List ℕ → List ℕ → PatchError → Type 0

@@ -23,7 +23,7 @@ use simdutf8::compat::from_utf8;
 use std::alloc::Global;
 
 /// What is told of a merge that would leave too long a text.
-const TOO_LONG: LimitError = LimitError {
+pub(crate) const TOO_LONG: LimitError = LimitError {
     operation: 0,
     kind: LimitKind::TooMuch,
 };

@@ -5,10 +5,12 @@
 //! Bytes that are no UTF-8 are no JSON. Numbers may be any that JSON has.
 //!
 //! - [`calls`]: what is made of the bytes
+//! - [`kept`]: what is made of a text that is kept
 //! - [`lookup`]: why a pointer leads to no value's text
 #![tactic(auto)]
 
 pub mod calls;
 mod failures;
+pub mod kept;
 pub mod lookup;
 mod texts;

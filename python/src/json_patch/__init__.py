@@ -39,12 +39,16 @@ A JSON text, such as a file's, is patched with every other byte kept:
 >>> apply_text('{ "price": 1.50, "rows": [1, 2] }', [{"op": "remove", "path": "/rows/0"}])
 '{ "price": 1.50, "rows": [2] }'
 
-A large document that is changed again and again is kept by the library:
+A document that is changed again and again is kept by the library, as its text, and takes back the last
+change that was recorded:
 
->>> with Document({"rows": [1, 2]}) as document:
-...     document.apply([{"op": "replace", "path": "/rows/0", "value": 3}])
+>>> with Document.from_string('{ "rows": [1.50, 2] }') as document:
+...     inverse = document.record([{"op": "replace", "path": "/rows/0", "value": 3}])
 ...     document.get("/rows")
+...     document.undo()
+...     document.to_string()
 [3, 2]
+'{ "rows": [1.50, 2] }'
 
 A stranger's patch can't nest a document without end, nor copy it, or what its inverse holds: every call
 keeps to Limits, those of `limits` or Limits(). OverLimit tells which operation is over, and nothing is changed:
@@ -57,8 +61,7 @@ operation 7 at path '/-' is over the limits: it leaves too much
 
 A document is what json.dumps writes of an object, and what comes back is what json.loads reads: new lists and
 dicts, the members in their order, a key 1 as "1". `dumps` and `loads` name other functions, as for Decimals. Numbers
-may be any that these write and read; nan and infinity are no JSON. Those of a Document are integers of 64
-bits: it refuses 1.5, 1.0 and 2**64 by NumberNotWhole, and its members are in byte order of their names.
+may be any that these write and read; nan and infinity are no JSON.
 
 What is no UTF-8 or no JSON (RFC 8259) is refused with the `kind` NotJson, and what holds an unpaired
 surrogate, which stands for no character, with UnpairedSurrogate. A text in UTF-16, or with a byte order mark, is
@@ -79,7 +82,7 @@ from .errors import (
     JsonPointerException,
     NoMergePatch,
     NothingToUndo,
-    NumberNotWhole,
+    NumberOutOfRange,
     OverLimit,
     TooDeep,
 )
@@ -101,7 +104,7 @@ __all__ = [
     "Limits",
     "NoMergePatch",
     "NothingToUndo",
-    "NumberNotWhole",
+    "NumberOutOfRange",
     "OverLimit",
     "TooDeep",
     "__version__",

@@ -8,8 +8,7 @@ from ._library import (
     kind_text,
 )
 from .errors import (
-    KINDS, NOT_A_LIST, JsonPatchException, JsonPointerException, NoMergePatch, NumberNotWhole, OverLimit, TooDeep, _LeadsNowhere,
-    _TestsNothing,
+    KINDS, NOT_A_LIST, JsonPatchException, JsonPointerException, NoMergePatch, OverLimit, TooDeep, _LeadsNowhere, _TestsNothing,
 )
 from .limits import Limits
 
@@ -26,7 +25,7 @@ def of_text(told: str, kind: int) -> Exception:
     """The exception where a text is no patch, or is told of as another, for this kind."""
     name, error = KINDS[kind]
     if told != "patch":
-        error = next((named for named in (NumberNotWhole, TooDeep) if issubclass(error, named)), JsonPatchException)
+        error = TooDeep if issubclass(error, TooDeep) else JsonPatchException
     return error(f"{told} {kind_text(kind)}", kind=name)
 
 

@@ -32,10 +32,9 @@ class Report(ctypes.Structure):
 
 
 class Handle(ctypes.Structure):
-    """Where the library keeps a document, and whether its last change was recorded."""
+    """Where the library keeps a document."""
 
     _fields_ = [("at", ctypes.c_void_p)]
-    is_recorded = False
 
 
 class Bounds(ctypes.Structure):

@@ -3,7 +3,7 @@ from __future__ import annotations
 
 from ._calls import of_text
 from ._depth import is_deep
-from .errors import NOT_JSON, OUT_OF_RANGE, TOO_DEEP
+from .errors import NOT_JSON, TOO_DEEP, NumberOutOfRange, _InvalidNumber
 from .pointer import JsonPointer
 
 TYPE_CHECKING = False
@@ -44,7 +44,15 @@ def _text(value: object, told: str, default: Callable[[Any], object] = pointer_p
     try:
         return json.dumps(value, separators=(",", ":"), allow_nan=False, default=default).encode()
     except ValueError as error:
-        raise of_text(told, NOT_JSON if str(error).startswith("Out of range float") else OUT_OF_RANGE) from error
+        if str(error).startswith("Out of range float"):
+            raise of_text(told, NOT_JSON) from error
+        raise _out_of_range(told) from error
+
+
+def _out_of_range(told: str) -> NumberOutOfRange:
+    """Of a number that Python doesn't write or read: for the library it may be any."""
+    error = _InvalidNumber if told == "patch" else NumberOutOfRange
+    return error(f"{told} holds a number that is out of range", kind="NumberOutOfRange")
 
 
 def document_text(document: object, dumps: Optional[Dumps] = None) -> bytes:
@@ -98,7 +106,7 @@ def value_of(text: bytes, loads: Optional[Loads] = None, told: str = "result") -
     try:
         return json.loads(text)
     except ValueError as error:
-        raise of_text(told, OUT_OF_RANGE) from error
+        raise _out_of_range(told) from error
 
 
 def exact(value: Any) -> Any:

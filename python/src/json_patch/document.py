@@ -34,20 +34,20 @@ _HERE = _Here()
 
 
 class Document:
-    """A document that the library keeps, so that a change takes the time that it wants, and not
-    that of reading and writing the whole. It is a context manager, and closed at its end. It stays
-    on the thread that made it: on another each call raises RuntimeError, and the memory of one that
-    goes there without being closed isn't given back.
+    """A document that the library keeps as its text: every byte that no change touches stays. It is a
+    context manager, and closed at its end. It stays on the thread that made it: on another each call raises
+    RuntimeError, and the memory of one that goes there without being closed isn't given back.
 
-    >>> with Document({"a": 1, "b": [2]}) as document:
+    >>> with Document.from_string('{ "b": [2], "a": 1.50 }') as document:
     ...     inverse = document.record([{"op": "move", "from": "/b/0", "path": "/a"}])
     ...     print(document, inverse)
+    ...     document.undo()
     ...     document.merge({"b": None})
-    ...     document.get()
-    {"a":2,"b":[]} [{"op": "replace", "path": "/a", "value": 1}, {"op": "add", "path": "/b/0", "value": 2}]
-    {'a': 2}
+    ...     print(document)
+    { "b": [], "a": 2 } [{"op": "replace", "path": "/a", "value": 1.5}, {"op": "add", "path": "/b/0", "value": 2}]
+    { "a": 1.50 }
 
-    The limits hold of the document and of every change of it, the copies of each patch by themselves.
+    The limits hold of the document and of every change of it, as of the calls on texts.
     """
 
     def __init__(self, document: Any, *, limits: Limits = DEFAULT) -> None:
@@ -74,7 +74,6 @@ class Document:
     def _updated(self, call: Callable[..., int], patch: Patch) -> None:
         text = text_of(operations_of(patch))
         written(lambda *out: call(self._handle, text, len(text), *out), len(text) + 64, text)
-        self._handle.is_recorded = False
 
     def apply(self, patch: Patch) -> None:
         """Changes the document by a list of operations, a JSON text or a JsonPatch, or not at all."""
@@ -84,7 +83,6 @@ class Document:
         """The same, and returns the JsonPatch that leads back. Where that can't be made for want of
         memory, the change is taken back."""
         self._updated(LIBRARY.json_patch_update_recorded, patch)
-        self._handle.is_recorded = True
         try:
             return JsonPatch._of_library(value_of(self._read(LIBRARY.json_patch_inverse)))
         except BaseException:
@@ -92,29 +90,26 @@ class Document:
             raise
 
     def undo(self) -> None:
-        """Takes back the last change, which `record` made, in place: once. NothingToUndo, where the last
-        change wasn't recorded, or has been taken back.
+        """Takes back the last change, which `record` made, to the very text before it: once. It takes no
+        memory. NothingToUndo, where the last change wasn't recorded, or has been taken back.
 
-        >>> with Document([1]) as document:
+        >>> with Document.from_string("[1, 2]") as document:
         ...     inverse = document.record([{"op": "remove", "path": "/0"}])
         ...     document.undo()
-        ...     document.get()
-        [1]
+        ...     document.to_string()
+        '[1, 2]'
         """
         report = Report()
         status = LIBRARY.json_patch_undo(self._handle, report)
-        # what was recorded may have changed nothing, and is taken back
-        if status == NOTHING and not self._handle.is_recorded:
+        if status == NOTHING:
             raise NothingToUndo("there is no recorded change to take back", kind="Nothing")
-        if status not in (OK, NOTHING):
+        if status != OK:
             raise fault(status, report)
-        self._handle.is_recorded = False
 
     def merge(self, patch: Any) -> None:
         """Merges a merge patch, which is any object and no text of one, into the document."""
         text = patch_text(patch)
         succeed(LIBRARY.json_patch_update_merged, self._handle, text, len(text))
-        self._handle.is_recorded = False
 
     def diff(self, other: Any) -> JsonPatch:
         """The JsonPatch that leads from the document to another, which is any object, or a Document. Neither is
@@ -134,7 +129,7 @@ class Document:
         return value_of(found(lambda *out: LIBRARY.json_patch_value_at(self._handle, text, len(text), *out), pointer))
 
     def to_string(self) -> str:
-        """The document as a JSON text."""
+        """The document's text: every byte that no change touched is as it was handed in."""
         return self._read(LIBRARY.json_patch_text).decode()
 
     def _read(self, call: Callable[..., int]) -> bytes:

@@ -41,9 +41,8 @@ class JsonPointerException(_Told):
     """A pointer isn't one, or leads nowhere."""
 
 
-class NumberNotWhole(JsonPatchException, ValueError):
-    """A number of a Document, or of a patch for one, has a fraction or an exponent, is minus zero, or past 64 bits;
-    or one has more digits than Python writes and reads, of which `kind` is NumberOutOfRange."""
+class NumberOutOfRange(JsonPatchException, ValueError):
+    """A number has more digits than Python writes and reads."""
 
 
 class TooDeep(JsonPatchException, ValueError):
@@ -85,7 +84,7 @@ class _InvalidPointer(InvalidJsonPatch, JsonPointerException):
     pass
 
 
-class _InvalidNumber(InvalidJsonPatch, NumberNotWhole):
+class _InvalidNumber(InvalidJsonPatch, NumberOutOfRange):
     pass
 
 
@@ -101,7 +100,6 @@ class _PastTheEnd(JsonPointerException, IndexError):
 # the kinds of json_patch.h, and what is raised for each
 KINDS: Dict[int, Tuple[str, Type[_Told]]] = {
     1: ("NotJson", _NoPatchText),
-    2: ("NotWhole", NumberNotWhole),
     3: ("TestFailed", JsonPatchTestFailed),
     4: ("InvalidFromPointer", _LeadsNowhere),
     5: ("InvalidPointer", _LeadsNowhere),
@@ -109,7 +107,6 @@ KINDS: Dict[int, Tuple[str, Type[_Told]]] = {
     7: ("TooDeep", _PatchTooDeep),
     8: ("TooMuch", OverLimit),
     9: ("UnpairedSurrogate", _NoPatchText),
-    10: ("NumberOutOfRange", _InvalidNumber),
     11: ("NotAList", InvalidJsonPatch),
     12: ("NotAnObject", InvalidJsonPatch),
     13: ("MissingOp", InvalidJsonPatch),
@@ -122,11 +119,10 @@ KINDS: Dict[int, Tuple[str, Type[_Told]]] = {
     20: ("PathNotText", InvalidJsonPatch),
     21: ("BadPath", _InvalidPointer),
     22: ("MissingValue", InvalidJsonPatch),
-    23: ("ValueNotWhole", _InvalidNumber),
 }
 # the kinds of an operation that isn't made
 TEST_FAILED, NO_SOURCE, NOWHERE, INSIDE_ITSELF, TOO_DEEP, TOO_MUCH = range(3, 9)
-# those of a text that Python tells of without the library
-NOT_JSON, OUT_OF_RANGE = 1, 10
+# that of an object whose text would be no JSON, which the library isn't handed
+NOT_JSON = 1
 # up to this kind a patch is at fault as a whole, and after it by one of its operations
 NOT_A_LIST = 11

@@ -12,9 +12,8 @@ class Limits:
     are handed to the library: the document after each operation, a merged one, and an inverse. All copies
     of one patch together copy no more.
 
-    In a Document and in place `bytes` is what the copies of one patch may add. There a value counts one for
-    each value in it, itself included, and one for each byte of a string or a member's name; where the patch is
-    recorded, what it moves counts, too.
+    In place `bytes` is what the copies of one patch may add. There a value counts one for each value in it,
+    itself included, and one for each byte of a string or a member's name.
 
     >>> Limits(depth=10)
     Limits(depth=10, bytes=500000)
