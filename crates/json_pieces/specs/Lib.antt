@@ -9,3 +9,4 @@ pub mod Whole
 pub mod Lengths
 pub mod Exchanges
 pub mod Slots
+pub mod Held
