@@ -10,3 +10,7 @@ pub mod Lifts
 pub mod Walks
 pub mod Calls
 pub mod Looks
+pub mod HeldRows
+pub mod Opened
+pub mod Finer
+pub mod Backs

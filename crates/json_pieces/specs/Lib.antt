@@ -10,3 +10,5 @@ pub mod Lengths
 pub mod Exchanges
 pub mod Slots
 pub mod Held
+pub mod Backs
+pub mod Finer

@@ -15,6 +15,7 @@
 //! ```
 #![tactic(auto)]
 
+mod back;
 mod edit;
 mod index;
 mod means;

@@ -220,13 +220,14 @@ impl Slot {
 }
 
 /// Exchanges the whitespace in the slot for that of the seam.
-fn swap_at<'a>(row: &mut Row<'a>, slot: Slot, seam: &mut Seam<'a>)
+pub(crate) fn swap_at<'a>(row: &mut Row<'a>, slot: Slot, seam: &mut Seam<'a>)
     requires { IsSlotOf slot (length (items_of row.old.seams.all)) }
     ensures swapped { AreSwapped slot seam.old row.old.hollow (items_of row.old.seams.all) seam.new row.new.hollow (items_of row.new.seams.all) }
     ensures named { row.new.named ≡ row.old.named }
     ensures length { row.new.length ≡ row.old.length }
     ensures values { row.new.values ≡ row.old.values }
     ensures room { capacity_of row.new.seams.all ≡ capacity_of row.old.seams.all }
+    ensures len { length (items_of row.new.seams.all) ≡ length (items_of row.old.seams.all) }
 {
     match slot {
         Slot::Hollow => mem::swap(&mut row.hollow, &mut seam.trail),

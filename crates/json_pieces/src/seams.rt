@@ -256,7 +256,8 @@ impl<'a> Seams<'a> {
         requires room { length (items_of self.old.all) < capacity_of self.old.all }
         requires fits { length (items_of self.old.all) + 1 < 2 ^ 64 }
         requires index { Agrees (insert (items_of self.old.all) number seam) index }
-        ensures { items_of self.new.all ≡ insert (items_of self.old.all) number seam.entry }
+        ensures items { items_of self.new.all ≡ insert (items_of self.old.all) number seam.entry }
+        ensures room { capacity_of self.new.all ≡ capacity_of self.old.all }
     {
         self.all.put(number, seam, usize::MAX);
         self.count += 1;
@@ -272,6 +273,19 @@ impl<'a> Seams<'a> {
     {
         let index = mem::replace(&mut self.index, None);
         self.index = index_without(index, name, number);
+        self.count -= 1;
+        self.all.remove(number)
+    }
+
+    /// Takes out the seam of this number, and lets the index go.
+    pub(crate) fn take(&mut self, number: usize) -> Seam<'a>
+        requires { number < length (items_of self.old.all) }
+        ensures value { result ≡ slice_index_or (items_of self.old.all) number result }
+        ensures items { items_of self.new.all ≡ remove (items_of self.old.all) number }
+        ensures len { length (items_of self.new.all) + 1 ≡ length (items_of self.old.all) }
+        ensures room { capacity_of self.new.all ≡ capacity_of self.old.all }
+    {
+        self.index = None;
         self.count -= 1;
         self.all.remove(number)
     }
