@@ -7,7 +7,7 @@ use Rattle.std.proofs.lemmas.Bool.{true≢false}
 use Rattle.std.proofs.lemmas.List.{get_or_default, take_all}
 use Rattle.std.proofs.Math.Seq.{set-append_seam}
 use Rattle.long_vec.specs.Items.{capacity_of, items_of}
-use Rattle.json_pieces.specs.Backs.{Along, AreBack, Below, Frame, IsAloneAgain, IsBack, IsBackAt, IsBackIn, IsBackOut, IsInRow, LeadsBack, row_in, step_of}
+use Rattle.json_pieces.specs.Backs.{Along, AreBack, Below, Frame, IsAloneAgain, IsBack, IsBackAt, IsBackIn, IsBackOut, IsBackValue, LeadsBack, row_in, step_of}
 use Rattle.json_pieces.specs.Exchanges.{with_trail, with_whitespace}
 use Rattle.json_pieces.specs.Held.{Head, Held, head_of, held, held_row, held_text, helds, row_held}
 use Rattle.json_pieces.specs.Slots.{AreSwapped, IsSlotOf}
@@ -45,6 +45,24 @@ swapped_one (Trail n) s t u hollow hollow2 hollow3 olds news news2 k a b =
 swapped_as : (slot : Slot) (s s2 t : Seam) (hollow hollow2 then : Text) (olds olds2 news : List Seam) → s ≡ s2 → hollow ≡ hollow2 → olds ≡ olds2 → AreSwapped slot s hollow olds t then news → AreSwapped slot s2 hollow2 olds2 t then news
 swapped_as slot s s2 t hollow hollow2 then olds olds2 news e f g h =
     subst (λ x. AreSwapped slot x hollow2 olds2 t then news) e (subst (λ x. AreSwapped slot s x olds2 t then news) f (subst (λ x. AreSwapped slot s hollow x t then news) g h))
+
+-- ---- another value
+
+module _ (r : Row) (n : ℕ) (v : Held) (l : ℕ) (p : Held) (b : IsBackValue n v l (row_held r) p) where
+  value_head : head_of r ≡ record { named = b.frame.named; length = b.m; seams_room = b.frame.seams_room; values_room = b.frame.values_room; hollow = b.hollow; seams = b.seams }
+  value_head = heads_same _ _ (map held (items_of r.values)) (b.before ++ (b.x ∷ b.behind)) b.now_is
+
+  value_values : map held (items_of r.values) ≡ b.before ++ (b.x ∷ b.behind)
+  value_values = values_same _ _ (map held (items_of r.values)) (b.before ++ (b.x ∷ b.behind)) b.now_is
+
+  pub value_within : n < length (items_of r.values)
+  value_within = let inside = seam_within b.before b.x b.behind in omega (arith, inside, b.number, ap length value_values, map_count held (items_of r.values))
+
+  pub value_done : (vr : ℕ) (vs : List Node) (w : Node) → vr ≡ capacity_of r.values → vs ≡ slice_set (items_of r.values) n w → held w ≡ v
+      → held_row (record { named = r.named; length = l; seams_room = capacity_of r.seams.all; values_room = vr; hollow = r.hollow; seams = items_of r.seams.all }) (helds (map held vs)) ≡ p
+  value_done vr vs w ev e f =
+      let items : map held vs ≡ b.before ++ (v ∷ b.behind) = ap (map held) e ∙ map_set held (items_of r.values) n w ∙ ap₂ (λ x k. slice_set x k (held w)) value_values b.number ∙ set-append_seam b.before b.x b.behind (held w) ∙ ap (λ y. b.before ++ (y ∷ b.behind)) f in
+      row_same r.named l (capacity_of r.seams.all) vr r.hollow (items_of r.seams.all) (map held vs) b.frame l b.hollow b.seams (b.before ++ (v ∷ b.behind)) (ap (λ g. g.named) value_head) refl (ap (λ g. g.seams_room) value_head) (ev ∙ ap (λ g. g.values_room) value_head) (ap (λ g. g.hollow) value_head) (ap (λ g. g.seams) value_head) items ∙ sym b.then_is
 
 -- ---- a part goes out
 

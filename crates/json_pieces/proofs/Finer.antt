@@ -1,7 +1,7 @@
 -- A log leads back also from where more was opened meanwhile, or room was made.
 use Rattle.std.proofs.Common.{◌≡◌, ℕ, zero, suc, ◌≤◌, List, [], ◌∷◌, ◌++◌, length, refl, sym, ap, ◌∙◌, subst, arith}
 use Rattle.std.specs.List.{insert}
-use Rattle.json_pieces.specs.Backs.{Along, AreBack, Below, Frame, IsAloneAgain, IsBack, IsBackAt, IsBackIn, IsBackOut, LeadsBack, Step, alone, into, out, row_in, step_of, swap}
+use Rattle.json_pieces.specs.Backs.{Along, AreBack, Below, Frame, IsAloneAgain, IsBack, IsBackAt, IsBackIn, IsBackOut, LeadsBack, Step, alone, into, out, row_in, step_of, swap, value}
 use Rattle.json_pieces.specs.Finer.{AreOpenedFrom, IsOpenedFrom}
 use Rattle.json_pieces.specs.Held.{Held, Helds, and_more, held_row, held_text, helds, no_more}
 use Rattle.json_pieces.specs.declared.back.Back.{Back}
@@ -134,6 +134,24 @@ row_finer f g l hollow ss ts us t e n m k h =
 
 pub finer_step : (c : Step) (t p x : Held) → IsBack c t p → IsOpenedFrom t x → (q : Held) × IsBack c x q × IsOpenedFrom p q
 finer_step (swap v) t p x h f = (v, refl, subst (λ y. IsOpenedFrom y v) (sym h) (opened_itself v))
+finer_step (value n v l) t p x b f =
+    let r = finer_row b.frame b.m b.hollow b.seams (b.before ++ (b.x ∷ b.behind)) t x b.now_is f in
+    let a = around b.before b.x b.behind r.values r.finer in (
+      row_in r.frame l b.hollow b.seams (a.front ++ (v ∷ a.back)),
+      record {
+        frame = r.frame;
+        m = b.m;
+        hollow = b.hollow;
+        seams = b.seams;
+        before = a.front;
+        x = a.one;
+        behind = a.back;
+        number = b.number ∙ sym a.count;
+        now_is = r.is ∙ ap (row_in r.frame b.m b.hollow b.seams) a.is;
+        then_is = refl;
+      },
+      row_finer b.frame r.frame l b.hollow b.seams (b.before ++ (v ∷ b.behind)) (a.front ++ (v ∷ a.back)) p b.then_is r.named r.more r.more_values (all_around b.before a.front v v b.behind a.back a.front_finer (opened_itself v) a.back_finer),
+    )
 finer_step (out n slot l) t p x b f =
     let r = finer_row b.frame b.m b.hollow (insert b.seams n b.s) (insert b.values n b.v) t x b.now_is f in
     let q = split_at b.values n b.v r.values b.within_values r.finer in (

@@ -4,7 +4,7 @@ use Rattle.std.specs.List.{insert}
 use Rattle.json_pieces.specs.Held.{Head, Held, held, held_row, helds}
 use Rattle.json_pieces.specs.Slots.{AreSwapped, IsSlotOf}
 use Rattle.json_pieces.specs.declared.back.Back.{Back}
-use Rattle.json_pieces.specs.declared.back.Back.TheVariants.{Swap, Out, In, Alone}
+use Rattle.json_pieces.specs.declared.back.Back.TheVariants.{Swap, Value, Out, In, Alone}
 use Rattle.json_pieces.specs.declared.back.Change.{Change}
 use Rattle.json_pieces.specs.declared.back.Level.{Level}
 use Rattle.json_pieces.specs.declared.row.Slot.{Slot}
@@ -21,6 +21,19 @@ pub record Frame : Type 0 where
 
 abbrev pub row_in : Frame → ℕ → Text → List Seam → List Held → Held
 row_in f n hollow seams values = held_row (record { named = f.named; length = n; seams_room = f.seams_room; values_room = f.values_room; hollow = hollow; seams = seams }) (helds values)
+
+-- the value v comes in the place of that of number n
+pub record IsBackValue (n : ℕ) (v : Held) (l : ℕ) (t p : Held) : Type 0 where
+  pub frame : Frame
+  pub m : ℕ
+  pub hollow : Text
+  pub seams : List Seam
+  pub before : List Held
+  pub x : Held
+  pub behind : List Held
+  pub number : n ≡ length before
+  pub now_is : t ≡ row_in frame m hollow seams (before ++ (x ∷ behind))
+  pub then_is : p ≡ row_in frame l hollow seams (before ++ (v ∷ behind))
 
 -- the part s, v of number n goes out
 pub record IsBackOut (n : ℕ) (slot : Slot) (l : ℕ) (t p : Held) : Type 0 where
@@ -74,18 +87,21 @@ pub record IsAloneAgain (s : Seam) (v : Held) (hollow_then : Text) (l : ℕ) (t 
 -- what a step says: what is held in place of the node
 pub data Step : Type 0 where
   swap : Held → Step
+  value : ℕ → Held → ℕ → Step
   out : ℕ → Slot → ℕ → Step
   into : ℕ → Seam → Held → Slot → ℕ → Step
   alone : Seam → Held → Text → ℕ → Step
 
 abbrev pub step_of : Back → Step
 step_of (Swap v) = swap (held v)
+step_of (Value n v l) = value n (held v) l
 step_of (Out n slot l) = out n slot l
 step_of (In n s v slot l) = into n s (held v) slot l
 step_of (Alone s v hollow l) = alone s (held v) hollow l
 
 abbrev pub IsBack : Step → Held → Held → Type 0
 IsBack (swap v) t p = p ≡ v
+IsBack (value n v l) t p = IsBackValue n v l t p
 IsBack (out n slot l) t p = IsBackOut n slot l t p
 IsBack (into n s v slot l) t p = IsBackIn n s v slot l t p
 IsBack (alone s v hollow l) t p = IsAloneAgain s v hollow l t p
@@ -93,6 +109,7 @@ IsBack (alone s v hollow l) t p = IsAloneAgain s v hollow l t p
 -- it is a step in a row
 abbrev pub IsInRow : Step → Type 0
 IsInRow (swap v) = ⊥
+IsInRow (value n v l) = ⊤
 IsInRow (out n slot l) = ⊤
 IsInRow (into n s v slot l) = ⊤
 IsInRow (alone s v hollow l) = ⊤

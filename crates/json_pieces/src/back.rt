@@ -1,7 +1,7 @@
 //! What takes a change of a value in pieces back, with no memory.
 
 ghost use Rattle.std.specs.Prelude.{◌≡◌, ◌+◌, ◌<◌, ◌^◌, ◌≤◌, [], ℕ, length};
-ghost use Rattle.json_pieces.specs.Backs.{AreBack, IsAloneAgain, IsBack, IsBackAt, IsBackIn, IsBackOut, IsInRow, LeadsBack, step_of};
+ghost use Rattle.json_pieces.specs.Backs.{AreBack, IsAloneAgain, IsBack, IsBackAt, IsBackIn, IsBackOut, IsBackValue, IsInRow, LeadsBack, step_of};
 ghost use Rattle.json_pieces.specs.Held.{Held, held, row_held};
 ghost use Rattle.long_vec.specs.Items.{items_of};
 
@@ -22,6 +22,8 @@ pub(crate) struct Level {
 pub(crate) enum Back<'a> {
     /// This comes in the place of the value.
     Swap(Node<'a>),
+    /// This comes in the place of the value of this number in it.
+    Value(usize, Node<'a>, usize),
     /// The part of this number goes out of it, and its whitespace to the slot.
     Out(usize, Slot, usize),
     /// This part comes into it at this number, with whitespace from the slot.
@@ -35,6 +37,15 @@ pub(crate) enum Back<'a> {
 pub(crate) struct Change<'a> {
     pub place: Vec<Level>,
     pub steps: Vec<Back<'a>>,
+}
+
+/// Puts a value in the place of that of this number.
+fn back_value<'a>(row: &mut Row<'a>, number: usize, value: Node<'a>, length: usize)
+    requires { (p : Held) × IsBackValue number (held value) length (row_held row.old) p }
+    ensures { (p : Held) → IsBackValue number (held value.entry) length (row_held row.old) p → row_held row.new ≡ p }
+{
+    row.values.exchange(number, value);
+    row.length = length;
 }
 
 /// Takes the part of this number out.
@@ -84,13 +95,14 @@ fn back_alone<'a>(
 }
 
 /// Goes a step back in the row.
-fn back_row<'a>(row: &mut Row<'a>, step: Back<'a>)
+pub(crate) fn back_row<'a>(row: &mut Row<'a>, step: Back<'a>)
     requires can { (p : Held) × IsBack (step_of step) (row_held row.old) p }
     requires inner { IsInRow (step_of step) }
     ensures { (p : Held) → IsBack (step_of step.entry) (row_held row.old) p → row_held row.new ≡ p }
 {
     match step {
         Back::Swap(_) => unreachable!(),
+        Back::Value(number, value, length) => back_value(row, number, value, length),
         Back::Out(number, slot, length) => back_out(row, number, slot, length),
         Back::In(number, seam, value, slot, length) => back_in(row, number, (seam, value), slot, length),
         Back::Alone(seam, value, hollow, length) => back_alone(row, (seam, value), hollow, length),

@@ -3,6 +3,10 @@
 ghost use Rattle.std.specs.Prelude.{◌≡◌, IfOk, MatchOption, OnOk, List, length, ℕ};
 ghost use Rattle.json.specs.Json.{Json};
 ghost use Rattle.json_pieces.specs.Nodes.{IsOpened, IsRowOf, IsSound, IsWhole, piece_with, row_view, text_bytes, tree_text, view};
+ghost use Rattle.json_pieces.specs.Finer.{IsOpenedFrom};
+ghost use Rattle.json_pieces.specs.Held.{held, row_held};
+ghost use Rattle.json_pieces.specs.declared.node.Node.TheVariants.{Closed};
+ghost use Rattle.json_pieces.specs.declared.text.Text.{Text};
 ghost use Rattle.json_text.specs.Cuts.{piece_of};
 ghost use Rattle.json_text.specs.Less.{IsLeaf};
 ghost use Rattle.json_text.specs.Listing.{IsTextOf};
@@ -132,10 +136,24 @@ fn row_for<'a>(alloc: Global, node: &Node<'a>) -> Result<Option<Row<'a>>, AllocE
 
 /// Counts a question for a member.
 fn ask(alloc: Global, row: &mut Row<'_>) -> Result<(), AllocError>
-    ensures { row_view row.new ≡ row_view row.old }
+    ensures view { row_view row.new ≡ row_view row.old }
+    ensures held { row_held row.new ≡ row_held row.old }
 {
     if row.named {
         row.seams.ask(alloc)?;
+    }
+    Ok(())
+}
+
+/// Opens a value that is closed, if it is an object or an array.
+fn open_closed(alloc: Global, node: &mut Node<'_>) -> Result<(), AllocError>
+    requires whole { IsWhole (view node.old) }
+    requires closed { (s : Text) × (node.old ≡ Closed s) }
+    ensures opened { OnOk result (IsOpened (view node.new)) }
+    ensures finer { IsOpenedFrom (held node.old) (held node.new) }
+{
+    if let Some(row) = row_for(alloc, node)? {
+        *node = Node::Open(Box::new(alloc, row)?);
     }
     Ok(())
 }
@@ -147,12 +165,10 @@ pub(crate) fn open(alloc: Global, node: &mut Node<'_>) -> Result<(), AllocError>
     ensures whole { IsWhole (view node.new) }
     ensures text { tree_text (view node.new) ≡ tree_text (view node.old) }
     ensures opened { OnOk result (IsOpened (view node.new)) }
+    ensures finer { IsOpenedFrom (held node.old) (held node.new) }
 {
-    if let Node::Open(row) = node {
-        return ask(alloc, row);
+    match node {
+        Node::Open(row) => ask(alloc, row),
+        Node::Closed(_) => open_closed(alloc, node),
     }
-    if let Some(row) = row_for(alloc, node)? {
-        *node = Node::Open(Box::new(alloc, row)?);
-    }
-    Ok(())
 }
