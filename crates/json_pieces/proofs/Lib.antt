@@ -14,3 +14,4 @@ pub mod HeldRows
 pub mod Opened
 pub mod Finer
 pub mod Backs
+pub mod Stepped

@@ -12,3 +12,4 @@ pub mod Slots
 pub mod Held
 pub mod Backs
 pub mod Finer
+pub mod Logged

@@ -3,6 +3,7 @@
 ghost use Rattle.std.specs.Prelude.{◌≡◌, ◌+◌, ◌<◌, ◌^◌, ◌≤◌, [], ℕ, length};
 ghost use Rattle.json_pieces.specs.Backs.{AreBack, IsAloneAgain, IsBack, IsBackAt, IsBackIn, IsBackOut, IsBackValue, IsInRow, LeadsBack, step_of};
 ghost use Rattle.json_pieces.specs.Held.{Held, held, row_held};
+ghost use Rattle.json_pieces.specs.Logged.{AreInRow};
 ghost use Rattle.long_vec.specs.Items.{items_of};
 
 use crate::node::{Node, Row};
@@ -95,7 +96,7 @@ fn back_alone<'a>(
 }
 
 /// Goes a step back in the row.
-pub(crate) fn back_row<'a>(row: &mut Row<'a>, step: Back<'a>)
+fn back_row<'a>(row: &mut Row<'a>, step: Back<'a>)
     requires can { (p : Held) × IsBack (step_of step) (row_held row.old) p }
     requires inner { IsInRow (step_of step) }
     ensures { (p : Held) → IsBack (step_of step.entry) (row_held row.old) p → row_held row.new ≡ p }
@@ -106,6 +107,18 @@ pub(crate) fn back_row<'a>(row: &mut Row<'a>, step: Back<'a>)
         Back::Out(number, slot, length) => back_out(row, number, slot, length),
         Back::In(number, seam, value, slot, length) => back_in(row, number, (seam, value), slot, length),
         Back::Alone(seam, value, hollow, length) => back_alone(row, (seam, value), hollow, length),
+    }
+}
+
+/// Goes back in the row by steps, the last one first.
+pub(crate) fn back_in_row<'a>(row: &mut Row<'a>, steps: &mut Vec<Back<'a>>)
+    requires can { (p : Held) × AreBack steps.old.items (row_held row.old) p }
+    requires inner { AreInRow steps.old.items }
+    ensures back { (p : Held) → AreBack steps.old.items (row_held row.old) p → row_held row.new ≡ p }
+    ensures none { steps.new.items ≡ [] }
+{
+    while let Some(step) = steps.pop() {
+        back_row(row, step);
     }
 }
 

@@ -18,7 +18,6 @@
 mod back;
 mod edit;
 mod index;
-mod means;
 mod node;
 mod opening;
 mod pieces;
@@ -26,5 +25,6 @@ mod row;
 mod seams;
 mod shape;
 mod text;
+mod work;
 
 pub use pieces::Pieces;

@@ -1,10 +1,10 @@
 //! A JSON text in pieces.
 
 use crate::edit::{Edit, edit_at};
-use crate::means::Means;
 use crate::node::{Node, write};
 use crate::shape::shape_at;
 use crate::text::Text;
+use crate::work::Work;
 use json_text::{CheckedText, Shape, split_off_whitespace};
 use jsonptr::{Pointer, Tokens};
 use std::alloc::{AllocError, Global};
@@ -106,7 +106,13 @@ impl<'a> Pieces<'a> {
             → Makes edit.entry (text_of self.old) j (tokens_left path.entry) (text_of self.new) found) }
     {
         let room = usize::MAX - self.len();
-        edit_at(Means { alloc, room }, &mut self.root, path, edit)
+        let mut work = Work {
+            alloc,
+            room,
+            place: Vec::new(alloc),
+            steps: Vec::new(alloc),
+        };
+        edit_at(&mut work, &mut self.root, path, edit)
     }
 
     /// The text of the value where the pointer leads (RFC 6901, section 4), as it is written, in a new

@@ -236,6 +236,7 @@ impl<'a> Seams<'a> {
     ) -> Result<Option<NameIndex>, AllocError>
         requires { number ≤ length (items_of self.old.all) }
         ensures items { items_of self.new.all ≡ items_of self.old.all }
+        ensures capacity { capacity_of self.old.all ≤ capacity_of self.new.all }
         ensures room { OnOk result (length (items_of self.new.all) < capacity_of self.new.all) }
         ensures fits { OnOk result (length (items_of self.new.all) + 1 < 2 ^ 64) }
         ensures index { IfOk result (λ index. Agrees (insert (items_of self.old.all) number seam.now) index) }
@@ -270,6 +271,9 @@ impl<'a> Seams<'a> {
         ensures value { result ≡ slice_index_or (items_of self.old.all) number result }
         ensures items { items_of self.new.all ≡ remove (items_of self.old.all) number }
         ensures len { length (items_of self.new.all) + 1 ≡ length (items_of self.old.all) }
+        ensures capacity { capacity_of self.new.all ≡ capacity_of self.old.all }
+        ensures room { length (items_of self.new.all) < capacity_of self.new.all }
+        ensures fits { length (items_of self.new.all) + 1 < 2 ^ 64 }
     {
         let index = mem::replace(&mut self.index, None);
         self.index = index_without(index, name, number);

@@ -1,18 +1,23 @@
-//! What a call may use.
+//! What a call works with.
 
 ghost use Rattle.std.specs.Prelude.{◌≡◌, ◌+◌, ◌≤◌, IfOk};
 
+use crate::back::{Back, Level};
 use std::alloc::{AllocError, Global};
 
-/// What a call may use.
-#[derive(Clone, Copy)]
-pub(crate) struct Means {
+/// What a call works with: what it may use, and what takes back what it did.
+#[derive(Drop)]
+pub(crate) struct Work<'a> {
     pub alloc: Global,
     /// By so many bytes the text may grow.
     pub room: usize,
+    /// The way to the place that it changes.
+    pub place: Vec<Level>,
+    /// The steps back there, the last one first. Until a change is made there are none.
+    pub steps: Vec<Back<'a>>,
 }
 
-impl Means {
+impl<'a> Work<'a> {
     /// A length with `more` bytes in place of `less` of it, if there is room for them.
     pub(crate) fn resized(
         &self,
