@@ -1,5 +1,6 @@
 #!/usr/bin/env python3
-"""Times the library for C, from C and from Python, beside nlohmann/json and Python's jsonpatch.
+"""Times the library for C, from C and from Python, beside nlohmann/json, Python's jsonpatch, and simdjson where
+libsimdjson-dev is installed.
 
     bench/from_c.py [--rounds N] [--rows WORDS..]
 
@@ -7,7 +8,7 @@ c/build has to have built the library. A call goes from the texts of a document 
 text of the new one, whose other bytes are those of the document's; or it changes a document that is kept, by
 the text of a patch. The other two change theirs in place, which leaves a refused patch part-way, and read,
 patch and write where a call goes from texts to a text. "The bytes copied" is what a call from text to text does
-at least. What is printed is as in bench.py."""
+at least; simdjson only reads the document, or copies it without whitespace. What is printed is as in bench.py."""
 import argparse
 import os
 import subprocess
@@ -48,6 +49,15 @@ def compiled(folder):
     return program
 
 
+def simdjson(folder):
+    """simdjson's timer as two sides, which it has where it compiles."""
+    program = os.path.join(folder, "simdjson")
+    command = ["g++", "-O2", "-std=c++17", "-o", program, os.path.join(HERE, "simdjson.cpp"), "-lsimdjson"]
+    if subprocess.run(command, stderr=subprocess.DEVNULL, check=False).returncode:
+        return []
+    return [bench.Side(f"simdjson, {mode}", [program], {"texts": mode}, None) for mode in ("parse", "minify")]
+
+
 def sides(folder):
     peer = [bench.PYTHON, os.path.join(HERE, "python_peer.py")]
     ours = compiled(folder)
@@ -57,6 +67,7 @@ def sides(folder):
         bench.Side("here from Python", [bench.PYTHON, os.path.join(HERE, "python_c_peer.py")], MODES, None),
         bench.Side("nlohmann/json", [bench.compiled(folder, os.path.join(HERE, "nlohmann.cpp"))], MODES, None),
         bench.Side("jsonpatch (Python)", peer, MODES, None),
+        *simdjson(folder),
     ]
 
 

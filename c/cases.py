@@ -80,10 +80,12 @@ def of_faults(kinds):
 
 
 def of_differences():
-    """Two documents, and the patch that leads from the one to the other."""
-    for (_, first, second), answer in tables.calls("diff"):
-        texts = (it if isinstance(it, str) else tables.compact(it) for it in (first, second))
-        yield ["diff", *texts, OK, 0, 0, answer.split(" leaves ")[0]]
+    """Two documents, and the patch that leads from the one to the other, as it is, with moves and with tests."""
+    for call in ("diff", "moving_diff", "guarded_diff"):
+        for (_, first, second), answer in tables.calls(call):
+            texts = (it if isinstance(it, str) else tables.compact(it) for it in (first, second))
+            # of a text the members of each operation are in byte order, too
+            yield [call, *texts, OK, 0, 0, tables.compact(json.loads(answer.split(" leaves ")[0]))]
 
 
 def of_merge_patches():

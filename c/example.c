@@ -46,7 +46,7 @@ static void on_texts(void) {
     printf("and back: %.*s\n", (int)report.inverse_size, inverse);
     status = json_patch_merge(document, length, merge_patch, strlen(merge_patch), NULL, out, sizeof out, &report);
     print("merge", status, out, &report);
-    status = json_patch_diff(document, length, goal, strlen(goal), NULL, out, sizeof out, &report);
+    status = json_patch_diff(document, length, goal, strlen(goal), NULL, 0, out, sizeof out, &report);
     print("diff", status, out, &report);
     status = json_patch_value(document, length, pointer, strlen(pointer), NULL, out, sizeof out, &report);
     print("value", status, out, &report);

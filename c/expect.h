@@ -4,7 +4,7 @@
 
 enum { GUARD = 8, UNTOUCHED = 0xa5 };
 
-static unsigned long calls, statuses[JSON_PATCH_IMPOSSIBLE + 1];
+static unsigned long calls, statuses[JSON_PATCH_BAD_FLAGS + 1];
 
 /* An output with room for so many bytes, for free. */
 static char *untouched(size_t room) {
@@ -22,13 +22,31 @@ static int holds(const char *output, size_t room, const char *bytes, size_t leng
     return memcmp(output, bytes, length) == 0;
 }
 
+static json_patch_status plain_diff(const char *from, size_t from_length, const char *to, size_t to_length,
+                                    const json_patch_limits *limits, char *out, size_t room,
+                                    json_patch_report *report) {
+    return json_patch_diff(from, from_length, to, to_length, limits, 0, out, room, report);
+}
+
+static json_patch_status moving_diff(const char *from, size_t from_length, const char *to, size_t to_length,
+                                     const json_patch_limits *limits, char *out, size_t room,
+                                     json_patch_report *report) {
+    return json_patch_diff(from, from_length, to, to_length, limits, JSON_PATCH_DIFF_MOVES, out, room, report);
+}
+
+static json_patch_status guarded_diff(const char *from, size_t from_length, const char *to, size_t to_length,
+                                      const json_patch_limits *limits, char *out, size_t room,
+                                      json_patch_report *report) {
+    return json_patch_diff(from, from_length, to, to_length, limits, JSON_PATCH_DIFF_GUARDED, out, room, report);
+}
+
 static json_patch_status made(const row *row, char *out, size_t room, char *inverse, size_t inverse_room,
                               json_patch_report *report) {
     static json_patch_status (*const others[])(const char *, size_t, const char *, size_t,
                                                const json_patch_limits *, char *, size_t,
                                                json_patch_report *) = {
-        [APPLY] = json_patch_apply, [MERGE] = json_patch_merge, [DIFF] = json_patch_diff,
-        [MERGE_DIFF] = json_patch_merge_diff, [MERGE_JOIN] = json_patch_merge_join, [VALUE] = json_patch_value};
+        [APPLY] = json_patch_apply, [MERGE] = json_patch_merge, [DIFF] = plain_diff, [MOVING_DIFF] = moving_diff,
+        [GUARDED_DIFF] = guarded_diff, [MERGE_DIFF] = json_patch_merge_diff, [MERGE_JOIN] = json_patch_merge_join, [VALUE] = json_patch_value};
     const text *document = &row->document, *patch = &row->patch;
     calls++;
     if (row->call == RECORD)

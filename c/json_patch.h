@@ -53,8 +53,9 @@ enum {
     JSON_PATCH_OVER = 9,        /* report->operation is over the limits, for report->kind; in a merge
                                    that is 0 */
     JSON_PATCH_BAD_LIMITS = 10, /* the size of the struct of limits isn't one that is known */
-    JSON_PATCH_IMPOSSIBLE = 11  /* of json_patch_merge_diff and json_patch_merge_join: no merge patch does
+    JSON_PATCH_IMPOSSIBLE = 11, /* of json_patch_merge_diff and json_patch_merge_join: no merge patch does
                                    it, of any form */
+    JSON_PATCH_BAD_FLAGS = 12   /* of json_patch_diff: a bit isn't known, or two don't go together */
 };
 
 /* What is at fault. */
@@ -71,8 +72,9 @@ enum {
                                 nests more than 127 arrays and objects in one another; an operation
                                 would put a value deeper than the limit */
     /* of JSON_PATCH_OVER */
-    JSON_PATCH_TOO_MUCH = 8, /* an operation or a merge would leave too many bytes, or the patch would copy too
-                                much, with what it copied before */
+    JSON_PATCH_TOO_MUCH = 8, /* an operation or a merge would leave too many bytes, or the patch would copy or
+                                test too much, with what it did before */
+    JSON_PATCH_TOO_MANY = 10, /* the patch has more operations than the limit: this is the first too many */
     /* of JSON_PATCH_REFUSED */
     JSON_PATCH_TEST_FAILED = 3,
     JSON_PATCH_INVALID_FROM_POINTER = 4,
@@ -133,19 +135,25 @@ typedef struct {
  * `size` is that of the struct, so that a later version can have more limits: JSON_PATCH_BAD_LIMITS where
  * it isn't known. In each text that a call leaves at most `depth` arrays and objects are open at once; more
  * than JSON_PATCH_MOST_LEVELS counts as that. What a call makes of texts has at most as many bytes as these
- * and `bytes` together: the new text, after each operation and after a merge, and the inverse. Nor do all
- * copies of a patch together copy more, also where what they put in is exchanged or removed again. The first
+ * and `bytes` together: the new text, after each operation and after a merge, and the inverse. Nor do the
+ * operations of a patch together cost more: a copy what it copies, also where that is exchanged or removed
+ * again, and a test what it reads beyond the length of its value: whitespace, or members of one name. The first
  * operation with which this isn't so is over: JSON_PATCH_OVER, and nothing is changed. One that is refused
  * leaves no text, and is not over. A document that is kept counts as the text that it has at the call.
+ *
+ * A patch has at most `operations` operations; SIZE_MAX is no limit, and with another the patch is read twice. With
+ * more it is JSON_PATCH_OVER, for JSON_PATCH_TOO_MANY, before the first is made. JSON_PATCH_NO_DOCUMENT and
+ * JSON_PATCH_NO_PATCH are told before.
  */
 typedef struct {
     size_t size;
     size_t depth;
     size_t bytes;
+    size_t operations;
 } json_patch_limits;
 #define JSON_PATCH_MOST_LEVELS 124
 #define JSON_PATCH_MOST_BYTES 500000
-#define JSON_PATCH_LIMITS {sizeof(json_patch_limits), JSON_PATCH_MOST_LEVELS, JSON_PATCH_MOST_BYTES}
+#define JSON_PATCH_LIMITS {sizeof(json_patch_limits), JSON_PATCH_MOST_LEVELS, JSON_PATCH_MOST_BYTES, SIZE_MAX}
 
 /* Writes the document's text with the patch applied: every byte is kept that no operation changes. What
    goes with a new member or element, whitespace, a comma and a colon, is as beside its neighbours. Of
@@ -171,22 +179,32 @@ json_patch_status json_patch_merge(const char *document, size_t document_length,
                                    size_t patch_length, const json_patch_limits *limits, char *out,
                                    size_t out_length, json_patch_report *report);
 
+/* The flags of json_patch_diff, of which one goes alone. */
+enum {
+    JSON_PATCH_DIFF_MOVES = 1, /* it may move: a member that got another name or stands in another object, an
+                                  element that stands elsewhere, each written as in `from` */
+    JSON_PATCH_DIFF_GUARDED = 2 /* directly before each operation that removes or replaces stands a test of what it
+                                   takes, its numbers written as in `from`: a text that has something else there
+                                   is refused, by JSON_PATCH_TEST_FAILED or since nothing stands there. Elsewhere a
+                                   text may differ: what is added isn't tested. */
+};
+
 /* Writes the patch that leads from what the text `from` says to what the text `to` says: the text that
-   json_patch_apply makes of `from`, within the same depth and with enough `bytes`, says the same as `to`. It
-   adds, removes and replaces alone, and is [] exactly where both say the same. Its numbers are written as in
-   `to`, and the members of an object that it puts are in byte order of their names. JSON_PATCH_NO_DOCUMENT,
-   where `from` is no JSON text, and JSON_PATCH_NO_PATCH, where `to` is none. Of the limits `depth` alone
-   counts. Never JSON_PATCH_REFUSED or JSON_PATCH_OVER. */
+   json_patch_apply makes of `from`, within the same depth and with enough `bytes`, says the same as `to`. With
+   no flag, 0, it adds, removes and replaces alone. It is [] exactly where both say the same. Numbers that it puts
+   are written as in `to`, and the members of an object that it puts are in byte order of their names.
+   JSON_PATCH_NO_DOCUMENT, where `from` is no JSON text, and JSON_PATCH_NO_PATCH, where `to` is none. Of the
+   limits `depth` alone counts. Never JSON_PATCH_REFUSED or JSON_PATCH_OVER. */
 json_patch_status json_patch_diff(const char *from, size_t from_length, const char *to, size_t to_length,
-                                  const json_patch_limits *limits, char *out, size_t out_length,
-                                  json_patch_report *report);
+                                  const json_patch_limits *limits, unsigned flags, char *out,
+                                  size_t out_length, json_patch_report *report);
 
 /* Writes the merge patch that leads from what the text `from` says to what the text `to` says: the text that
    json_patch_merge makes of `from`, within the same depth and with enough `bytes`, says the same as `to`. It has
    no more levels than `to`, and is {} where both say one object. Its numbers are written as in `to`, and members
    are in byte order of their names. JSON_PATCH_IMPOSSIBLE where no merge patch leads there: `to` has a null, in
    objects alone, such as {"a": {"b": null}}, and `from` has none there. The other statuses are those of
-   json_patch_diff. */
+   json_patch_diff without flags. */
 json_patch_status json_patch_merge_diff(const char *from, size_t from_length, const char *to, size_t to_length,
                                         const json_patch_limits *limits, char *out, size_t out_length,
                                         json_patch_report *report);
@@ -270,9 +288,9 @@ json_patch_status json_patch_undo(json_patch_document *document, json_patch_repo
 json_patch_status json_patch_inverse(json_patch_document *document, char *out, size_t out_length,
                                      json_patch_report *report);
 
-/* Writes the patch that leads from the document to what the text says, as json_patch_diff does, and leaves the
-   document. JSON_PATCH_OK, JSON_PATCH_NO_PATCH, where the text is no JSON text, JSON_PATCH_NO_MEMORY or
-   JSON_PATCH_NO_ROOM. */
+/* Writes the patch that leads from the document to what the text says, as json_patch_diff does with no flag,
+   and leaves the document. JSON_PATCH_OK, JSON_PATCH_NO_PATCH, where the text is no JSON text,
+   JSON_PATCH_NO_MEMORY or JSON_PATCH_NO_ROOM. */
 json_patch_status json_patch_diff_to(json_patch_document *document, const char *text, size_t length,
                                      char *out, size_t out_length, json_patch_report *report);
 

@@ -4,13 +4,13 @@
  *
  *     one_call CALL DOCUMENT TEXT
  *
- * CALL is apply, record, merge, diff, merge_diff, merge_join, check or value, or of a document that is kept open,
- * update, update_recorded, update_merged, undo, text, value_at, diff_to or inverse. It prints what the call answers
- * with ample memory: the status and the report, what was written, the inverse behind it, and then the text of the
- * document that is kept; and, in a last line, how many requests there were. Whether a request was refused is told
+ * CALL is apply, record, merge, diff, moving_diff, guarded_diff, merge_diff, merge_join, check or value, or of a
+ * document that is kept open, update, update_recorded, update_merged, undo, text, value_at, diff_to or inverse.
+ * It prints what the call answers with ample memory: the status and the report, what was written, the inverse
+ * behind it, and then the text of the document that is kept; and, in a last line, how many requests there were. Whether a request was refused is told
  * by the functions below that stand in for malloc and realloc: so it is linked with
  * -Wl,--wrap=malloc,--wrap=realloc,--wrap=free. Where all requests after one are refused, too, the limits are
- * handed in that the call otherwise has by itself.
+ * handed in that the call otherwise has by itself, but that the operations of a patch are counted.
  *
  * It ends with status 1 and says why where a run breaks the rule: a request was refused exactly where
  * the call answers JSON_PATCH_NO_MEMORY, which writes nothing and leaves the kept document as it was;
@@ -92,7 +92,11 @@ static json_patch_status called(const input *it, json_patch_document *kept, cons
     if (strcmp(name, "merge") == 0)
         return json_patch_merge(document, size, text, length, limits, out, ROOM, report);
     if (strcmp(name, "diff") == 0)
-        return json_patch_diff(document, size, text, length, limits, out, ROOM, report);
+        return json_patch_diff(document, size, text, length, limits, 0, out, ROOM, report);
+    if (strcmp(name, "moving_diff") == 0)
+        return json_patch_diff(document, size, text, length, limits, JSON_PATCH_DIFF_MOVES, out, ROOM, report);
+    if (strcmp(name, "guarded_diff") == 0)
+        return json_patch_diff(document, size, text, length, limits, JSON_PATCH_DIFF_GUARDED, out, ROOM, report);
     if (strcmp(name, "merge_diff") == 0)
         return json_patch_merge_diff(document, size, text, length, limits, out, ROOM, report);
     if (strcmp(name, "merge_join") == 0)
@@ -132,19 +136,20 @@ static json_patch_status kept_text(json_patch_document *kept, char *text) {
 }
 
 /* Opens the document, and keeps an inverse for the calls inverse and undo: of the text, a patch. */
-static void prepare(const input *it, json_patch_document *kept, char *out) {
+static void prepare(const input *it, json_patch_document *kept, const json_patch_limits *limits, char *out) {
     json_patch_report told;
     int is_recorded = strcmp(it->name, "inverse") == 0 || strcmp(it->name, "undo") == 0;
-    if (json_patch_open(kept, it->document, strlen(it->document), NULL, &told) == JSON_PATCH_OK && is_recorded)
+    if (json_patch_open(kept, it->document, strlen(it->document), limits, &told) == JSON_PATCH_OK && is_recorded)
         json_patch_update_recorded(kept, it->text, strlen(it->text), out, ROOM, &told);
 }
 
 /* Makes the call with that request refused. */
 static void make(const input *it, unsigned long number, int rest, outcome *came) {
-    static const json_patch_limits usual = JSON_PATCH_LIMITS;
+    static const json_patch_limits usual = {sizeof usual, JSON_PATCH_MOST_LEVELS, JSON_PATCH_MOST_BYTES, SIZE_MAX - 1};
+    const json_patch_limits *limits = rest ? &usual : NULL;
     json_patch_document kept = JSON_PATCH_DOCUMENT;
     long had = blocks;
-    prepare(it, &kept, came->out);
+    prepare(it, &kept, limits, came->out);
     came->was_open = kept_text(&kept, came->before);
     came->report = (json_patch_report){77, 77, 77, 77};
     memset(came->out, UNTOUCHED, ROOM);
@@ -153,7 +158,7 @@ static void make(const input *it, unsigned long number, int rest, outcome *came)
     refuses_rest = rest;
     requests = refused = 0;
     is_within = 1;
-    came->status = called(it, &kept, rest ? &usual : NULL, came);
+    came->status = called(it, &kept, limits, came);
     is_within = 0;
     came->is_open = kept_text(&kept, came->after);
     json_patch_close(&kept);
@@ -217,11 +222,14 @@ int main(int count, char **words) {
            told->kind, (int)written, ample.out, (int)back, ample.inverse, ample.after, most);
     if (!is_untouched(ample.out, written) || !is_untouched(ample.inverse, back))
         return puts("spoilt") < 0 ? 64 : 1;
-    for (unsigned long number = 1; number <= most; number++)
-        for (int rest = 0; rest <= 1; rest++)
+    for (int rest = 0; rest <= 1; rest++) {
+        make(&it, 0, rest, &again);
+        most = requests;
+        for (unsigned long number = 1; number <= most; number++)
             refuse(&it, number, rest, &ample);
-    make(&it, most + 1, 1, &again);
-    if (refused || !is_same(&again, &ample))
-        return puts("another answer, with ample memory again") < 0 ? 64 : 1;
+        make(&it, most + 1, rest, &again);
+        if (refused || !is_same(&again, &ample))
+            return puts("another answer, with ample memory again") < 0 ? 64 : 1;
+    }
     return 0;
 }

@@ -1,7 +1,7 @@
 /* The rows of cases.json, as the tests read them. */
 #include "fail.h"
 
-typedef enum { APPLY, RECORD, MERGE, DIFF, MERGE_DIFF, MERGE_JOIN, VALUE } call;
+typedef enum { APPLY, RECORD, MERGE, DIFF, MOVING_DIFF, GUARDED_DIFF, MERGE_DIFF, MERGE_JOIN, VALUE } call;
 
 typedef struct {
     char *bytes;
@@ -76,7 +76,8 @@ static size_t read_number(void) {
 }
 
 static call named(const char *name) {
-    static const char *const names[] = {"apply", "record", "merge", "diff", "merge_diff", "merge_join"};
+    static const char *const names[] = {"apply",       "record",       "merge",      "diff",
+                                        "moving_diff", "guarded_diff", "merge_diff", "merge_join"};
     for (size_t i = 0; i < sizeof names / sizeof *names; i++)
         if (strcmp(name, names[i]) == 0)
             return (call)i;

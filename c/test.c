@@ -96,6 +96,26 @@ static const row rows[] = {
     MAKES(DIFF, "{\"text\":\"some longer text\",\"b\":1e9,\"a/b\":1.50}", "{\"text\":\"some longer text\",\"b\":1e9}",
           "[{\"op\":\"remove\",\"path\":\"/a~1b\"}]"),
     MAKES(DIFF, "1.51", "1.50", "[{\"op\":\"replace\",\"path\":\"\",\"value\":1.50}]"),
+    /* what is moved has equal numbers, and stays as it is written */
+    MAKES(MOVING_DIFF, LAYOUT, "{\"b\":[],\"a\":10e399}", "[]"),
+    MAKES(MOVING_DIFF, "{\"draft\" : [1.50, 1e400]}", "{\"title\":[1.5,10e399]}",
+          "[{\"from\":\"/draft\",\"op\":\"move\",\"path\":\"/title\"}]"),
+    MAKES(MOVING_DIFF, "{\"a\":{\"n\":1.5},\"b\":1e9,\"text\":\"some longer text, so that the whole is not replaced\"}",
+          "{\"b\":1e9,\"c\":{\"n\":1.50},\"d\":-0.0,\"text\":\"some longer text, so that the whole is not replaced\"}",
+          "[{\"from\":\"/a\",\"op\":\"move\",\"path\":\"/c\"},{\"op\":\"add\",\"path\":\"/d\",\"value\":-0.0}]"),
+    /* with a member that another hides, the text would nest deeper than both: it isn't moved */
+    MAKES(MOVING_DIFF, "{\"a\":{\"x\":[[[]]],\"x\":1},\"b\":{\"text\":\"some longer text that stays\"}}",
+          "{\"b\":{\"c\":{\"x\":1},\"text\":\"some longer text that stays\"}}",
+          "[{\"op\":\"remove\",\"path\":\"/a\"},{\"op\":\"add\",\"path\":\"/b/c\",\"value\":{\"x\":1}}]"),
+    /* what is removed or replaced is tested, written as it stands there */
+    MAKES(GUARDED_DIFF, LAYOUT, "{\"b\":[],\"a\":10e399}", "[]"),
+    MAKES(GUARDED_DIFF, "{\"a\":1.50,\"b\":1}", "{\"a\":2e1,\"b\":1}",
+          "[{\"op\":\"test\",\"path\":\"/a\",\"value\":1.50},{\"op\":\"replace\",\"path\":\"/a\",\"value\":2e1}]"),
+    MAKES(GUARDED_DIFF, "{\"a\":[1.0],\"b\":1.00,\"c\":1e0,\"text\":\"some longer text, so that the whole is not replaced\"}",
+          "{\"b\":1,\"c\":2,\"d\":[1],\"text\":\"some longer text, so that the whole is not replaced\"}",
+          "[{\"op\":\"test\",\"path\":\"/a\",\"value\":[1.0]},{\"op\":\"remove\",\"path\":\"/a\"},"
+          "{\"op\":\"test\",\"path\":\"/c\",\"value\":1e0},{\"op\":\"replace\",\"path\":\"/c\",\"value\":2},"
+          "{\"op\":\"add\",\"path\":\"/d\",\"value\":[1]}]"),
     /* so is the merge patch between two texts; names are in byte order, and escaped where they have to be */
     MAKES(MERGE_DIFF, LAYOUT, "{\"b\":[],\"a\":10e399}", "{}"),
     MAKES(MERGE_DIFF, LAYOUT, "{\"c\":{\"d\" : 1.50},\"b\":[ -0.0 ]}", "{\"a\":null,\"b\":[-0.0],\"c\":{\"d\":1.50}}"),
@@ -167,6 +187,10 @@ static const row rows[] = {
     NOT(DIFF, NO_PATCH, NOT_JSON, "1.5", "[1.5,]"),
     NOT(DIFF, NO_PATCH, UNPAIRED_SURROGATE, "1.5", "\"\\ud800\""),
     NOT(DIFF, NO_PATCH, TOO_DEEP, "1.5", DEPTH_126),
+    NOT(MOVING_DIFF, NO_DOCUMENT, TOO_DEEP, DEPTH_126, "1"),
+    NOT(MOVING_DIFF, NO_PATCH, NOT_JSON, "1.5", "[1.5,]"),
+    NOT(GUARDED_DIFF, NO_DOCUMENT, TOO_DEEP, DEPTH_126, "1"),
+    NOT(GUARDED_DIFF, NO_PATCH, NOT_JSON, "1.5", "[1.5,]"),
     NOT(MERGE_DIFF, NO_DOCUMENT, NOT_JSON, "{", "{\"a\":null}"),
     NOT(MERGE_DIFF, NO_DOCUMENT, TOO_DEEP, DEPTH_126, "1"),
     NOT(MERGE_DIFF, NO_PATCH, NOT_JSON, "1.5", "[1.5,]"),
@@ -230,7 +254,7 @@ static void expect_same(text first, text second) {
 
 /* The text that a merge leaves, in this room. */
 static text merged(text document, text patch, char *out) {
-    const json_patch_limits enough = {sizeof enough, JSON_PATCH_MOST_LEVELS, SIZE_MAX};
+    const json_patch_limits enough = {sizeof enough, JSON_PATCH_MOST_LEVELS, SIZE_MAX, SIZE_MAX};
     const row merge = {MERGE, document, patch, 0, 0, 0, {NULL, 0}, &enough};
     json_patch_report report;
     if (made(&merge, out, ROOM, NULL, 0, &report))
@@ -260,18 +284,19 @@ static void expect_merged(const row *it) {
    same. */
 static void expect_led(const row *it) {
     static char out[ROOM], inverse[ROOM], led[ROOM];
-    const json_patch_limits enough = {sizeof enough, JSON_PATCH_MOST_LEVELS, SIZE_MAX};
+    const json_patch_limits enough = {sizeof enough, JSON_PATCH_MOST_LEVELS, SIZE_MAX, SIZE_MAX};
     json_patch_report report;
-    if ((it->call != DIFF && it->call != RECORD) || it->status != JSON_PATCH_OK)
+    int is_difference = it->call == DIFF || it->call == MOVING_DIFF || it->call == GUARDED_DIFF;
+    if ((!is_difference && it->call != RECORD) || it->status != JSON_PATCH_OK)
         return;
     made(it, out, ROOM, inverse, ROOM, &report);
     const text none = {NULL, 0}, first = {out, report.size}, second = {inverse, report.inverse_size};
     row applied = {APPLY, first, second, 0, 0, 0, none, &enough};
-    if (it->call == DIFF)
+    if (is_difference)
         applied.document = it->document, applied.patch = first;
     if (made(&applied, led, ROOM, NULL, 0, &report))
         fail("%.*s is refused", (int)applied.patch.length, applied.patch.bytes);
-    expect_same((text){led, report.size}, it->call == DIFF ? it->patch : it->document);
+    expect_same((text){led, report.size}, is_difference ? it->patch : it->document);
 }
 
 /* A row of cases.json. */
@@ -322,7 +347,9 @@ static void expect_values(void) {
 
 /* ---- limits */
 
-#define WITHIN(depth, bytes) (&(const json_patch_limits){sizeof(json_patch_limits), depth, bytes})
+#define WITHIN(depth, bytes) (&(const json_patch_limits){sizeof(json_patch_limits), depth, bytes, SIZE_MAX})
+#define OPERATIONS(count) \
+    (&(const json_patch_limits){sizeof(json_patch_limits), JSON_PATCH_MOST_LEVELS, JSON_PATCH_MOST_BYTES, count})
 
 /* The call within limits, which comes to that; and how many bytes it makes. */
 static size_t expect_within(call call, const char *document, const char *patch, const json_patch_limits *limits,
@@ -377,7 +404,8 @@ static void expect_levels(void) {
 static void expect_most(void) {
     char document[2 * (JSON_PATCH_MOST_LEVELS + 1) + 1] = {0};
     static const char *const others[] = {[APPLY] = "[]", [RECORD] = "[]", [MERGE] = "{}", [DIFF] = "1",
-                                         [MERGE_DIFF] = "1", [MERGE_JOIN] = "1", [VALUE] = ""};
+                                         [MOVING_DIFF] = "1", [GUARDED_DIFF] = "1", [MERGE_DIFF] = "1",
+                                         [MERGE_JOIN] = "1", [VALUE] = ""};
     for (size_t levels = JSON_PATCH_MOST_LEVELS; levels <= JSON_PATCH_MOST_LEVELS + 1; levels++) {
         int fits = levels <= JSON_PATCH_MOST_LEVELS;
         memset(document, '[', levels);
@@ -447,10 +475,32 @@ static void expect_merged_bytes(void) {
     expect_merged_within(near, two, 23, 0);
 }
 
+/* The most operations of a patch: with one more none is made, whether or not one of them is refused. */
+static void expect_operations(void) {
+    const char *one = "[{\"op\":\"add\",\"path\":\"/-\",\"value\":1}]";
+    const char *two = "[{\"op\":\"add\",\"path\":\"/-\",\"value\":1},{\"op\":\"remove\",\"path\":\"/0\"}]";
+    const char *refused = "[{\"op\":\"remove\",\"path\":\"/0\"},{\"op\":\"remove\",\"path\":\"/0\"}]";
+    const char *unread = "[{\"op\":\"remove\",\"path\":\"/0\"},{\"op\":\"remove\",\"path\":\"/0\"},{}]";
+    for (call call = APPLY; call <= RECORD; call++) {
+        expect_within(call, "[]", "[]", OPERATIONS(0), JSON_PATCH_OK, 0, 0);
+        expect_within(call, "[]", one, OPERATIONS(0), JSON_PATCH_OVER, 0, JSON_PATCH_TOO_MANY);
+        expect_within(call, "[]", one, OPERATIONS(1), JSON_PATCH_OK, 0, 0);
+        expect_within(call, "[]", two, OPERATIONS(1), JSON_PATCH_OVER, 1, JSON_PATCH_TOO_MANY);
+        expect_within(call, "[]", two, OPERATIONS(2), JSON_PATCH_OK, 0, 0);
+        expect_within(call, "[]", two, OPERATIONS(SIZE_MAX - 1), JSON_PATCH_OK, 0, 0);
+        expect_within(call, "[]", refused, OPERATIONS(1), JSON_PATCH_OVER, 1, JSON_PATCH_TOO_MANY);
+        expect_within(call, "[]", refused, OPERATIONS(2), JSON_PATCH_REFUSED, 0, JSON_PATCH_INVALID_POINTER);
+        expect_within(call, "[]", unread, OPERATIONS(1), JSON_PATCH_NO_PATCH, 2, JSON_PATCH_MISSING_OP);
+        expect_within(call, "[", two, OPERATIONS(1), JSON_PATCH_NO_DOCUMENT, 0, JSON_PATCH_NOT_JSON);
+    }
+    expect_within(MERGE, "{}", "{\"a\":1,\"b\":2}", OPERATIONS(0), JSON_PATCH_OK, 0, 0);
+    expect_within(DIFF, "[]", "[1]", OPERATIONS(0), JSON_PATCH_OK, 0, 0);
+}
+
 /* A struct of limits that says it has so many bytes: it may only be read, and nothing stands behind what is
    read of it. */
 static const json_patch_limits *of_size(size_t size) {
-    const size_t page = (size_t)sysconf(_SC_PAGESIZE), words = size < 8 ? 1 : size < 24 ? (size + 7) / 8 : 3;
+    const size_t page = (size_t)sysconf(_SC_PAGESIZE), words = size < 8 ? 1 : size < 32 ? (size + 7) / 8 : 4;
     static char *pages;
     if (!pages)
         pages = mmap(NULL, 2 * page, PROT_NONE, MAP_PRIVATE | MAP_ANONYMOUS, -1, 0);
@@ -464,14 +514,32 @@ static const json_patch_limits *of_size(size_t size) {
     return (const json_patch_limits *)at;
 }
 
+/* Flags that aren't known or don't go together, where the limits are known. */
+static void expect_flags(void) {
+    static const unsigned flags[] = {3, 4, 1u << 31, (unsigned)-1};
+    for (size_t i = 0; i < sizeof flags / sizeof *flags; i++)
+        for (int is_known = 0; is_known <= 1; is_known++) {
+            char out[2] = {'!', '!'};
+            json_patch_report report = {77, 77, 77, 77};
+            json_patch_status status = json_patch_diff("1", 1, "1", 1, of_size(is_known ? 32 : 8), flags[i], out,
+                                                       sizeof out, &report);
+            if (status != (is_known ? JSON_PATCH_BAD_FLAGS : JSON_PATCH_BAD_LIMITS) || report.size || report.operation ||
+                report.inverse_size || report.kind || out[0] != '!')
+                fail("status %d for the flags %u", status, flags[i]);
+            statuses[status]++;
+            calls++;
+        }
+}
+
 /* A size of the struct that isn't known, in each call that takes one. */
 static void expect_sizes(void) {
-    static const size_t sizes[] = {24, 0, 8, 16, 23, 25, 32, SIZE_MAX};
+    static const size_t sizes[] = {32, 0, 8, 16, 24, 31, 33, 40, SIZE_MAX};
     for (size_t i = 0; i < sizeof sizes / sizeof *sizes; i++) {
         const json_patch_limits *limits = of_size(sizes[i]);
         json_patch_status wanted = i ? JSON_PATCH_BAD_LIMITS : JSON_PATCH_OK;
         const row its[] = {MAKES(APPLY, "1", "[]", "1"), MAKES(RECORD, "1", "[]", "[1,[]]"),
                            MAKES(MERGE, "1", "{}", "{}"), MAKES(DIFF, "1", "1", "[]"), MAKES(VALUE, "1", "", "1"),
+                           MAKES(MOVING_DIFF, "1", "1", "[]"), MAKES(GUARDED_DIFF, "1", "1", "[]"),
                            MAKES(MERGE_DIFF, "1", "1", "1"), MAKES(MERGE_JOIN, "1", "1", "1")};
         for (size_t j = 0; j < sizeof its / sizeof *its; j++) {
             row it = its[j];
@@ -496,7 +564,7 @@ static void expect_sizes(void) {
 /* Each kind has a text of its own, and what is none is wrong. */
 static void expect_kinds(void) {
     for (unsigned kind = 0; kind <= UINT8_MAX; kind++) {
-        int is_known = (kind > 0 && kind <= JSON_PATCH_UNPAIRED_SURROGATE && kind != 2) ||
+        int is_known = (kind > 0 && kind <= JSON_PATCH_TOO_MANY && kind != 2) ||
                        (kind >= JSON_PATCH_NOT_A_LIST && kind <= JSON_PATCH_MISSING_VALUE);
         const char *said = json_patch_kind_text((uint8_t)kind);
         if ((strcmp(said, "is wrong") != 0) != is_known)
@@ -520,9 +588,11 @@ int main(int count, char **words) {
     expect_most();
     expect_bytes();
     expect_merged_bytes();
+    expect_operations();
     expect_sizes();
+    expect_flags();
     expect_kinds();
-    for (int status = 0; status <= JSON_PATCH_IMPOSSIBLE; status++)
+    for (int status = 0; status <= JSON_PATCH_BAD_FLAGS; status++)
         if (statuses[status] == 0 && status != JSON_PATCH_NO_MEMORY && status != JSON_PATCH_CLOSED)
             fail("no call returned status %d", status);
     if (!checks[JSON_PATCH_OK] || !checks[JSON_PATCH_NO_PATCH])

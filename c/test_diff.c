@@ -84,7 +84,7 @@ static void expect_kept(const text *from, const text *to, const text *patch, tex
 
 /* The text is led to the second and, by what is recorded, to one that says the first. */
 static void expect_recorded(const text *from, const text *to, const text *patch, text *out, const char *of) {
-    const json_patch_limits enough = {sizeof enough, JSON_PATCH_MOST_LEVELS, SIZE_MAX};
+    const json_patch_limits enough = {sizeof enough, JSON_PATCH_MOST_LEVELS, SIZE_MAX, SIZE_MAX};
     text inverse = with_room(from->length + patch->length + JSON_PATCH_MOST_BYTES), back = with_room(out->room);
     json_patch_report report;
     expect(json_patch_apply(OF(*from), OF(*patch), NULL, out->bytes, out->room, &report), of);
@@ -93,7 +93,7 @@ static void expect_recorded(const text *from, const text *to, const text *patch,
            of);
     expect_text(to, out->bytes, report.size, of);
     expect(json_patch_apply(OF(*to), inverse.bytes, report.inverse_size, &enough, back.bytes, back.room, &report), of);
-    expect(json_patch_diff(OF(*from), back.bytes, report.size, NULL, out->bytes, out->room, &report), of);
+    expect(json_patch_diff(OF(*from), back.bytes, report.size, NULL, 0, out->bytes, out->room, &report), of);
     expect_text(&(const text){"[]", 2, 2}, out->bytes, report.size, of);
     free(inverse.bytes);
     free(back.bytes);
@@ -107,7 +107,7 @@ static void expect_pair(const text *from, const text *to, const char *of) {
     int is_equal = from->length == to->length && memcmp(from->bytes, OF(*to)) == 0;
     pairs++;
     /* there is room for the replacement of the whole, and so for each patch */
-    expect(json_patch_diff(OF(*from), OF(*to), NULL, patch.bytes, whole, &report), of);
+    expect(json_patch_diff(OF(*from), OF(*to), NULL, 0, patch.bytes, whole, &report), of);
     patch.length = report.size;
     if (is_equal != (patch.length == 2))
         fail("%.*s leads from one to the other: %s", 200, patch.bytes, of);

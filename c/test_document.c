@@ -174,7 +174,7 @@ static void expect_opened(void) {
     EXPECT(json_patch_open(&document, TEXT(" [ ] "), NULL, &r), JSON_PATCH_OK);
     if (strcmp(written(json_patch_text, &document), " [ ] ") != 0)
         fail("the other document isn't open");
-    const json_patch_limits later = {sizeof later + 8, 1, 1};
+    const json_patch_limits later = {sizeof later + 8, 1, 1, 1};
     EXPECT_TOLD(json_patch_open(&document, TEXT("1"), &later, &r), JSON_PATCH_BAD_LIMITS, 0);
     if (strcmp(written(json_patch_text, &document), " [ ] ") != 0)
         fail("limits of another size close the document");

@@ -65,7 +65,7 @@ static void expect_text(const char *wanted, size_t length, const char *found, si
 }
 
 static json_patch_limits limits_of(size_t depth, size_t bytes) {
-    return (json_patch_limits){sizeof(json_patch_limits), depth, bytes};
+    return (json_patch_limits){sizeof(json_patch_limits), depth, bytes, SIZE_MAX};
 }
 
 /* ---- a patch in each call that takes one */
@@ -109,7 +109,7 @@ static void expect_recorded(const text *document, const text *patch, const json_
     expect_text(out, expect_applied(document, patch, limits, JSON_PATCH_OK, 0, 0, of), other, size, of);
     expect(json_patch_apply(other, size, inverse, inverse_size, &enough, out, ROOM, &report), &report, JSON_PATCH_OK, 0,
            0, of);
-    expect(json_patch_diff(OF(*document), out, report.size, limits, other, ROOM, &report), &report, JSON_PATCH_OK, 0, 0,
+    expect(json_patch_diff(OF(*document), out, report.size, limits, 0, other, ROOM, &report), &report, JSON_PATCH_OK, 0, 0,
            of);
     expect_text("[]", 2, other, report.size, of);
 }
@@ -303,7 +303,7 @@ static text expect_led(const char *from, size_t length, const text *to, const js
     expect(json_patch_diff_to(&kept, OF(*to), patch.bytes, ROOM, &report), &report, JSON_PATCH_OK, 0, 0,
            "a deep difference of what is kept");
     patch.length = report.size;
-    expect(json_patch_diff(from, length, OF(*to), limits, out, ROOM, &report), &report, JSON_PATCH_OK, 0, 0,
+    expect(json_patch_diff(from, length, OF(*to), limits, 0, out, ROOM, &report), &report, JSON_PATCH_OK, 0, 0,
            "a deep difference");
     expect_text(OF(patch), out, report.size, "a deep difference");
     expect(json_patch_update(&kept, OF(patch), out, ROOM, &report), &report, JSON_PATCH_OK, 0, 0, "a deep difference");
@@ -337,6 +337,46 @@ static void expect_merge_difference(const text *from, const text *to, size_t lev
     free(null.bytes);
 }
 
+static text named_deep(const char *name, size_t levels) {
+    text made = {NULL, 0, 0};
+    put(&made, "{\"%s\":", name);
+    put_times(&made, nests[0].open, levels - 1);
+    put(&made, "\"%0100d\"", 0);
+    put_times(&made, nests[0].close, levels - 1);
+    put(&made, "}");
+    return made;
+}
+
+/* A member that nests as deep as it may gets another name. */
+static void expect_moved(size_t levels, const json_patch_limits *limits) {
+    static const char moves[] = "[{\"from\":\"/a\",\"op\":\"move\",\"path\":\"/b\"}]";
+    text from = named_deep("a", levels), to = named_deep("b", levels);
+    json_patch_report report;
+    expect(json_patch_diff(OF(from), OF(to), limits, JSON_PATCH_DIFF_MOVES, other, ROOM, &report), &report,
+           JSON_PATCH_OK, 0, 0, "a deep move");
+    expect_text(moves, sizeof moves - 1, other, report.size, "a deep move");
+    expect(json_patch_apply(OF(from), other, report.size, limits, out, ROOM, &report), &report, JSON_PATCH_OK, 0, 0,
+           "a deep move as a patch");
+    expect_text(OF(to), out, report.size, "a deep move as a patch");
+    free(from.bytes);
+    free(to.bytes);
+}
+
+/* So with tests: of what nests as deep, in a patch that leads there. */
+static void expect_guarded(size_t levels, const json_patch_limits *limits) {
+    static const char begins[] = "[{\"op\":\"test\",\"path\":\"\",\"value\":{\"a\":";
+    text from = named_deep("a", levels), to = named_deep("b", levels);
+    json_patch_report report;
+    expect(json_patch_diff(OF(from), OF(to), limits, JSON_PATCH_DIFF_GUARDED, other, ROOM, &report), &report,
+           JSON_PATCH_OK, 0, 0, "a deep test");
+    expect_text(begins, sizeof begins - 1, other, sizeof begins - 1, "a deep test");
+    expect(json_patch_apply(OF(from), other, report.size, limits, out, ROOM, &report), &report, JSON_PATCH_OK, 0, 0,
+           "a deep test in a patch");
+    expect_text(OF(to), out, report.size, "a deep test in a patch");
+    free(from.bytes);
+    free(to.bytes);
+}
+
 static void expect_difference(size_t levels, const json_patch_limits *limits) {
     text from = made_of(levels, 0), to = made_of(levels, 1);
     int fits = levels <= limits->depth && levels <= MOST;
@@ -344,9 +384,9 @@ static void expect_difference(size_t levels, const json_patch_limits *limits) {
     json_patch_status of_goal = fits ? JSON_PATCH_OK : JSON_PATCH_NO_PATCH;
     json_patch_report report;
     json_patch_document kept = JSON_PATCH_DOCUMENT;
-    expect(json_patch_diff(OF(from), OF(to), limits, out, ROOM, &report), &report,
+    expect(json_patch_diff(OF(from), OF(to), limits, 0, out, ROOM, &report), &report,
            fits ? JSON_PATCH_OK : JSON_PATCH_NO_DOCUMENT, 0, kind, "a deep difference");
-    expect(json_patch_diff("7.5", 3, OF(to), limits, out, ROOM, &report), &report, of_goal, 0, kind, "a deep goal");
+    expect(json_patch_diff("7.5", 3, OF(to), limits, 0, out, ROOM, &report), &report, of_goal, 0, kind, "a deep goal");
     json_patch_open(&kept, "{}", 2, limits, &report);
     expect(json_patch_diff_to(&kept, OF(to), out, ROOM, &report), &report, of_goal, 0, kind,
            "a deep goal of what is kept");
@@ -357,10 +397,14 @@ static void expect_difference(size_t levels, const json_patch_limits *limits) {
             fail("%.*s leads on %zu levels", (int)patch.length, patch.bytes, levels);
         /* and the whole, in one operation */
         text whole = expect_led("7", 1, &to, limits);
-        expect(json_patch_diff("7.5", 3, OF(to), limits, out, ROOM, &report), &report, JSON_PATCH_OK, 0, 0,
+        expect(json_patch_diff("7.5", 3, OF(to), limits, 0, out, ROOM, &report), &report, JSON_PATCH_OK, 0, 0,
                "a deep whole");
         expect_text(OF(whole), out, report.size, "a deep whole");
         expect_merge_difference(&from, &to, levels, limits);
+        if (levels) {
+            expect_moved(levels, limits);
+            expect_guarded(levels, limits);
+        }
         free(patch.bytes);
         free(whole.bytes);
     }
@@ -471,18 +515,34 @@ static void expect_copies(size_t bytes, size_t copies, const json_patch_limits *
     free(patch.bytes);
 }
 
-/* Copies over one member of a text, which stays short: what they copy counts together. */
-static void expect_copies_over(size_t bytes, size_t copies, const json_patch_limits *limits) {
-    static const char copy[] = "{\"op\":\"copy\",\"from\":\"/a\",\"path\":\"/b\"}";
-    text document = of_bytes("{\"a\":", bytes, "}"), patch = by_turns(copies, copy, copy);
-    size_t most = (document.length + patch.length + limits->bytes) / (bytes + 2);
-    int fits = copies <= most;
+/* One operation so often, which costs so many bytes each time and leaves a text as short as the document's: what they
+   cost counts together. */
+static void expect_costs(text document, const char *operation, size_t cost, size_t count,
+                         const json_patch_limits *limits) {
+    text patch = by_turns(count, operation, operation);
+    size_t most = (document.length + patch.length + limits->bytes) / cost;
+    int fits = count <= most;
     json_patch_status wanted = fits ? JSON_PATCH_OK : JSON_PATCH_OVER;
     json_patch_kind kind = fits ? JSON_PATCH_KIND_NONE : JSON_PATCH_TOO_MUCH;
-    expect_applied(&document, &patch, limits, wanted, fits ? 0 : most, kind, "copies over a member");
-    expect_kept(&document, &patch, limits, 0, wanted, fits ? 0 : most, kind, "copies over a member");
+    expect_applied(&document, &patch, limits, wanted, fits ? 0 : most, kind, operation);
+    expect_kept(&document, &patch, limits, 0, wanted, fits ? 0 : most, kind, operation);
     free(document.bytes);
     free(patch.bytes);
+}
+
+/* Copies over one member. */
+static void expect_copies_over(size_t bytes, size_t copies, const json_patch_limits *limits) {
+    expect_costs(of_bytes("{\"a\":", bytes, "}"), "{\"op\":\"copy\",\"from\":\"/a\",\"path\":\"/b\"}", bytes + 2,
+                 copies, limits);
+}
+
+/* Tests of an array of so much whitespace, by one of none. */
+static void expect_tests(size_t bytes, size_t tests, const json_patch_limits *limits) {
+    text document = {NULL, 0, 0};
+    put(&document, "{\"a\":[");
+    put_times(&document, " ", bytes);
+    put(&document, "]}");
+    expect_costs(document, "{\"op\":\"test\",\"path\":\"/a\",\"value\":[]}", bytes, tests, limits);
 }
 
 /* Copies of a list into itself, each of which doubles it, with a comma between: too much long before
@@ -518,6 +578,20 @@ static void expect_moves_back(size_t bytes, size_t moves, const json_patch_limit
     expect_kept(&document, &patch, limits, 0, JSON_PATCH_OK, 0, 0, "moves back");
     expect_recorded(&document, &patch, limits, wanted, fits ? 0 : most, kind, "recorded moves back");
     expect_kept(&document, &patch, limits, 1, wanted, fits ? 0 : most, kind, "recorded moves back");
+    free(document.bytes);
+    free(patch.bytes);
+}
+
+/* So many operations, where as many may be, and where one less. */
+static void expect_operations(size_t count) {
+    static const char add[] = "{\"op\":\"add\",\"path\":\"/0\",\"value\":7}", take[] = "{\"op\":\"remove\",\"path\":\"/0\"}";
+    text document = {NULL, 0, 0}, patch = by_turns(count, add, take);
+    json_patch_limits limits = JSON_PATCH_LIMITS;
+    put(&document, " [ 1.50 ] ");
+    limits.operations = count;
+    expect_each(&document, &patch, &limits, JSON_PATCH_OK, 0, 0, "operations");
+    limits.operations = count - 1;
+    expect_each(&document, &patch, &limits, JSON_PATCH_OVER, count - 1, JSON_PATCH_TOO_MANY, "operations");
     free(document.bytes);
     free(patch.bytes);
 }
@@ -589,6 +663,10 @@ static void *made(void *unused) {
     expect_copies_over(245, 6, &small);
     expect_copies_over(246, 6, &small);
     expect_copies_over(50000, 1400, &usual);
+    /* six tests read one byte less than may be read, or four more */
+    expect_tests(246, 6, &small);
+    expect_tests(247, 6, &small);
+    expect_tests(50000, 1400, &usual);
     expect_moves_back(9, 100, &small);
     expect_moves_back(9, 101, &small);
     expect_moves_back(1000, 500, &usual);
@@ -599,6 +677,9 @@ static void *made(void *unused) {
     expect_moves_back(9, 30, &small);
     expect_growth(10, 100, &small);
     expect_growth(1000, 100, &usual);
+    expect_operations(1);
+    expect_operations(2);
+    expect_operations(2000);
     expect_names(0);
     expect_names(MOST - 1);
     expect_brackets();

@@ -75,7 +75,6 @@ json_patch_status json_patch_update(json_patch_document *document, const char *p
 
 UNUSED_TEXTS(json_patch_apply)
 UNUSED_TEXTS(json_patch_merge)
-UNUSED_TEXTS(json_patch_diff)
 UNUSED_TEXTS(json_patch_merge_diff)
 UNUSED_TEXTS(json_patch_merge_join)
 UNUSED_TEXTS(json_patch_value)
@@ -86,6 +85,13 @@ json_patch_status json_patch_record(const char *document, size_t document_length
                                     json_patch_report *report) {
     (void)inverse, (void)inverse_length;
     return json_patch_apply(document, document_length, patch, patch_length, limits, out, out_length, report);
+}
+
+json_patch_status json_patch_diff(const char *from, size_t from_length, const char *to, size_t to_length,
+                                  const json_patch_limits *limits, unsigned flags, char *out,
+                                  size_t out_length, json_patch_report *report) {
+    (void)flags;
+    return json_patch_apply(from, from_length, to, to_length, limits, out, out_length, report);
 }
 
 json_patch_status json_patch_check(const char *patch, size_t patch_length,

@@ -30,7 +30,7 @@ import json_patch  # noqa: E402
 LARGE = 10_000
 # within these the library never is over
 ENOUGH = json_patch.Limits(bytes=2**63)
-SAYS = {"TooDeep": "nests too deep", "TooMuch": "leaves too much"}
+SAYS = {"TooDeep": "nests too deep", "TooMuch": "takes too much"}
 KINDS = ("made", "made in order", "refused", "over TooDeep", "over TooMuch", "deep document", "numbers made", "numbers refused")
 # Those of a line are one number, as json.dumps writes them, and those of two lines aren't: as a double, 2**63 is
 # written as 9223372036854775808.0 isn't.

@@ -8,7 +8,7 @@ TOP = Path(__file__).resolve().parent.parent
 os.environ.setdefault("JSON_PATCH_LIBRARY", str(TOP / "c/out/lib/libjson_patch.so"))
 OK, REFUSED, NO_DOCUMENT, NO_PATCH, NO_MEMORY, NO_ROOM, OVER = 0, 1, 2, 3, 4, 5, 9
 MOST_LEVELS, MOST_BYTES = 124, 500_000
-TOO_DEEP, TOO_MUCH = "nests too deep", "leaves too much"
+TOO_DEEP, TOO_MUCH = "nests too deep", "takes too much"
 
 
 class Report(ctypes.Structure):
@@ -27,9 +27,11 @@ LIBRARY = ctypes.CDLL(os.environ["JSON_PATCH_LIBRARY"])
 LIBRARY.json_patch_kind_text.restype = ctypes.c_char_p
 TEXT = [ctypes.c_char_p, ctypes.c_size_t]
 CALLS = {name: getattr(LIBRARY, f"json_patch_{name}") for name in ("apply", "merge", "diff", "record")}
+# the flags of a difference: none
+FLAGS = {"diff": (0,)}
 for name, call in CALLS.items():
-    outputs = TEXT * (1 + (name == "record"))
-    call.argtypes = [*TEXT, *TEXT, ctypes.POINTER(Limits), *outputs, ctypes.POINTER(Report)]
+    outputs, flags = TEXT * (1 + (name == "record")), [ctypes.c_uint] * (name == "diff")
+    call.argtypes = [*TEXT, *TEXT, ctypes.POINTER(Limits), *flags, *outputs, ctypes.POINTER(Report)]
     call.restype = ctypes.c_uint8
 
 HANDLE = [ctypes.POINTER(Handle)]
@@ -57,7 +59,7 @@ def answer(name, document, patch, depth=MOST_LEVELS, most=MOST_BYTES):
     while True:
         outputs = [ctypes.create_string_buffer(room) for room in rooms]
         given = [part for output, room in zip(outputs, rooms) for part in (output, room)]
-        status = CALLS[name](document, len(document), patch, len(patch), limits, *given, report)
+        status = CALLS[name](document, len(document), patch, len(patch), limits, *FLAGS.get(name, ()), *given, report)
         sizes = [report.size, report.inverse_size][: len(rooms)]
         if status in (OK, REFUSED, NO_ROOM) and any(size > room for size, room in zip(sizes, rooms)):
             rooms = sizes

@@ -5,7 +5,7 @@
 
 c/build has to have built the library, which is called in this process. Texts and patches are those of
 diff/texts.py, with more copies and moves, and the model is that of the bytes (`texts_model`): after each
-operation it counts how deep the new text nests, and how many bytes it has, the inverse, and all that was copied.
+operation it counts how deep the new text nests, how many bytes it has, and the inverse, and what the operations cost.
 The limits of a case lie about where one of its operations would be over, mostly. The answer has to be the model's, byte by byte, or
 name the operation that is refused or over, and why; and an inverse has to lead back to a text that says the same.
 A text that is kept has to come to the same, and what is recorded to be taken back, byte for byte.
@@ -21,7 +21,7 @@ from library import MOST_BYTES, MOST_LEVELS, TOO_DEEP, TOO_MUCH
 from texts import Texts
 from texts_model import Refused, at_tokens, plain, read, recorded, step, stretch, tokens_of
 
-KINDS = ("ok", "refused", f"over: {TOO_DEEP}", f"over: {TOO_MUCH}", "over by copies", "over where recorded", "document", "merge: ok", "merge: over",
+KINDS = ("ok", "refused", f"over: {TOO_DEEP}", f"over: {TOO_MUCH}", "over by cost", "over where recorded", "document", "merge: ok", "merge: over",
          "merge: document", "merge: patch")
 LARGE = 5_000
 
@@ -37,20 +37,26 @@ def size(text):
     return len(text.encode())
 
 
-def copied_by(text, operation):
-    """How many bytes of the text an accepted operation copies."""
-    if operation["op"] != "copy":
-        return 0
-    return size(stretch(text, at_tokens(read(text), tokens_of(operation["from"]))))
+def size_at(text, pointer):
+    return size(stretch(text, at_tokens(read(text), tokens_of(pointer))))
+
+
+def cost_of(text, operation, put):
+    """How many bytes an accepted operation copies, or a test reads of the text beyond those of its value."""
+    if operation["op"] == "copy":
+        return size_at(text, operation["from"])
+    if operation["op"] == "test":
+        return max(0, size_at(text, operation["path"]) - size(put))
+    return 0
 
 
 def states(text, operations):
-    """After each operation, up to the one that is refused: the text, the inverse and how many bytes were copied."""
-    now, copied = text, 0
+    """After each operation, up to the one that is refused: the text, the inverse and what all cost."""
+    now, cost = text, 0
     for number, (operation, put) in enumerate(operations):
         before, now = now, step(now, operation, put)
-        copied += copied_by(before, operation)
-        yield now, recorded(text, operations[: number + 1])[0][1], copied
+        cost += cost_of(before, operation, put)
+        yield now, recorded(text, operations[: number + 1])[0][1], cost
 
 
 class LimitedTexts(Texts):
@@ -75,24 +81,27 @@ class LimitedTexts(Texts):
                     made.pop()
         return made
 
-    def copies(self):
-        """A text with a long member, and operations that copy it, mostly over another."""
-        long = '"' + "x" * self.random.randrange(50, 400) + '"'
+    def costly(self):
+        """A text with a long member, and operations that copy it, mostly over another, or test it by less."""
+        count = self.random.randrange(50, 400)
+        long, short = self.random.choice((('"' + "x" * count + '"', None), ("[" + " " * count + "1]", "[1]"), ("1." + "0" * count, "1"),
+                                          ('{"a":[0],' + '"a":0,' * (count // 6) + '"a":2}', '{ "a":2}')))
         text = self.row("{}", ['"a":' + self.value(2), '"b":' + long])
-        count = self.random.randrange(2, 8)
-        return text, [({"op": "copy", "path": self.random.choice(("/a", "/a", "/c")), "from": "/b"}, None) for _ in range(count)]
+        ways = [({"op": "copy", "path": path, "from": "/b"}, None) for path in ("/a", "/a", "/c")]
+        ways += [({"op": "test", "path": "/b"}, short)] * 3 if short else []
+        return text, [self.random.choice(ways) for _ in range(self.random.randrange(2, 8))]
 
     def next(self):
         if self.random.random() < 0.2:
-            text, operations = self.copies()
+            text, operations = self.costly()
         else:
             text = self.text(4)
             operations = self.operations(text)
         patch = self.written(operations)
         spare, deep = [0], [levels(read(text))]
         try:
-            for now, back, copied in states(text, operations):
-                spare += [max(0, bytes - size(text) - size(patch)) for bytes in (size(now), size(back), copied)]
+            for now, back, cost in states(text, operations):
+                spare += [max(0, bytes - size(text) - size(patch)) for bytes in (size(now), size(back), cost)]
                 deep.append(levels(read(now)))
         except Refused:
             pass
@@ -110,12 +119,12 @@ def expected(came, name, text, operations, patch, depth, spare):
         return ("document", TOO_DEEP)
     most, made, number = size(text) + size(patch) + spare, (text, "[]"), -1
     try:
-        for number, (*made, copied) in enumerate(states(text, operations)):
+        for number, (*made, cost) in enumerate(states(text, operations)):
             if levels(read(made[0])) > depth:
                 return ("over", number, TOO_DEEP)
             largest = max(map(size, made[: 1 + (name == "record")]))
-            if max(largest, copied) > most:
-                came["over by copies"] += largest <= most
+            if max(largest, cost) > most:
+                came["over by cost"] += largest <= most
                 return ("over", number, TOO_MUCH)
     except Refused as refused:
         return ("refused", number + 1, operations[number + 1][0]["path"], str(refused))

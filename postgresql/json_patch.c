@@ -45,6 +45,7 @@ PG_MODULE_MAGIC;
 #define NO_MERGE_PATCH MAKE_SQLSTATE('J', 'P', '0', '1', '3')
 #define TOO_DEEP MAKE_SQLSTATE('J', 'P', '0', '2', '0')
 #define TOO_MUCH MAKE_SQLSTATE('J', 'P', '0', '2', '1')
+#define TOO_MANY MAKE_SQLSTATE('J', 'P', '0', '2', '2')
 
 /* Room beside as much as the texts that are handed in take: mostly that suffices. */
 enum { SPARE_ROOM = 64 };
@@ -52,9 +53,10 @@ enum { SPARE_ROOM = 64 };
 /* The longest text that a value of json holds, with a zero behind it. */
 #define LONGEST_TEXT (MaxAllocSize - VARHDRSZ - 1)
 
-/* The settings of a session. */
+/* The settings of a session: of -1 operations none is too many. */
 static int max_depth = JSON_PATCH_MOST_LEVELS;
 static int max_bytes = JSON_PATCH_MOST_BYTES;
+static int max_operations = -1;
 
 typedef struct {
     const char *bytes;
@@ -113,8 +115,8 @@ static json_patch_status write_difference(const arguments *given, const texts_wr
                                           json_patch_report *report)
 {
     return json_patch_diff(given->first.bytes, given->first.length, given->second.bytes,
-                           given->second.length, &given->limits, bytes_of(&to->text), to->text.size,
-                           report);
+                           given->second.length, &given->limits, 0, bytes_of(&to->text),
+                           to->text.size, report);
 }
 
 static json_patch_status write_merge_difference(const arguments *given, const texts_written *to,
@@ -325,6 +327,8 @@ static int hint_of_text(json_patch_kind kind)
                        JSON_PATCH_MOST_LEVELS);
     case JSON_PATCH_TOO_MUCH:
         return errhint("Limit json_patch.max_bytes is %d bytes.", max_bytes);
+    case JSON_PATCH_TOO_MANY:
+        return errhint("Limit json_patch.max_operations is %d.", max_operations);
     case JSON_PATCH_UNPAIRED_SURROGATE:
         return errhint("Half of a surrogate pair, such as \"\\ud800\", is no character.");
     default:
@@ -341,10 +345,19 @@ static void refuse_patch(const char *path, const json_patch_report *report)
              refusal_hint(report->kind)));
 }
 
+static int size_code(json_patch_kind kind)
+{
+    switch (kind) {
+    case JSON_PATCH_TOO_DEEP: return TOO_DEEP;
+    case JSON_PATCH_TOO_MANY: return TOO_MANY;
+    default: return TOO_MUCH;
+    }
+}
+
 static void refuse_size(const char *which, bool is_merge, const json_patch_report *report)
 {
     ereport(ERROR,
-            (errcode(report->kind == JSON_PATCH_TOO_DEEP ? TOO_DEEP : TOO_MUCH),
+            (errcode(size_code(report->kind)),
              errmsg("%s is over the limits: it %s", which, json_patch_kind_text(report->kind)),
              is_merge ? 0 : errdetail("Operation %zu.", report->operation),
              hint_of_text(report->kind)));
@@ -503,7 +516,8 @@ static text_given taken(FunctionCallInfo fcinfo, int number)
 
 static arguments arguments_of(FunctionCallInfo fcinfo)
 {
-    arguments given = {{"", 0}, {"", 0}, {sizeof(json_patch_limits), max_depth, max_bytes}};
+    const size_t operations = max_operations < 0 ? SIZE_MAX : (size_t)max_operations;
+    arguments given = {{"", 0}, {"", 0}, {sizeof(json_patch_limits), max_depth, max_bytes, operations}};
 
     given.first = taken(fcinfo, 0);
     if (PG_NARGS() > 1)
@@ -647,6 +661,9 @@ void _PG_init(void)
                             "How many bytes a text that a call leaves may have beside those of its texts.",
                             NULL, &max_bytes, JSON_PATCH_MOST_BYTES, 0, INT_MAX, PGC_USERSET,
                             GUC_UNIT_BYTE, NULL, NULL, NULL);
+    DefineCustomIntVariable("json_patch.max_operations",
+                            "How many operations a patch may have; of -1 any number.", NULL,
+                            &max_operations, -1, -1, INT_MAX, PGC_USERSET, 0, NULL, NULL, NULL);
 #if PG_VERSION_NUM >= 150000
     MarkGUCPrefixReserved("json_patch");
 #else

@@ -26,14 +26,16 @@ import jsonpatch
 import psycopg2
 
 TOP = Path(__file__).resolve().parent.parent
-sys.path.append(str(TOP / "diff"))
+sys.path += [str(TOP / "diff"), str(TOP / "hostile")]
 import cases  # noqa: E402
+import worst_cases  # noqa: E402
 from model import copied, same  # noqa: E402
 
 ROOT = None
 CHANGES, PAIRS = 3_000, 3_000
 CLIENTS, EACH, ROWS = 8, 120, 20
 UNTIL_ENDED = 1_000_000
+LONG = 1_000_000
 APPLY, INVERSE, MERGE, DIFF = "json_patch_apply", "json_patch_inverse", "json_patch_merge", "json_patch_diff"
 MERGE_DIFF = "json_patch_merge_diff"
 NAMES = {"apply": APPLY, "record": INVERSE, "merge": MERGE, "diff": DIFF, "merge_diff": MERGE_DIFF}
@@ -284,6 +286,18 @@ class Calls(Sql):
         self.rows("RESET json_patch.max_depth; SET statement_timeout = '20ms'")
         self.assertEqual(self.fails("SELECT count(json_patch_apply(jsonb_build_object('n', n), %s)) FROM generate_series(1, 10000000) n", PATCH_N).pgcode, "57014")
         self.rows("RESET ALL")
+
+    def test_no_call_outlives_a_timeout_by_much(self):
+        """The calls that are known to take longest, on two texts of a megabyte, end by themselves in seconds."""
+        self.rows("SET statement_timeout = '100ms'")
+        for call, name, *texts in worst_cases.cases(LONG):
+            begun = time.monotonic()
+            try:
+                self.rows(f"SELECT {NAMES[call]}(%s::json, %s::json) IS NULL", *texts)
+            except psycopg2.Error as error:
+                self.assertIn(error.pgcode, ("57014", "JP021"), name)
+            self.assertLess(time.monotonic() - begun, 15, f"{call}: {name}")
+        self.rows("RESET statement_timeout")
 
 
 class Encodings(unittest.TestCase):

@@ -9,9 +9,10 @@
  *     json_patch_merge_diff(document, goal)  the merge patch that leads there
  *     json_patch_check(patch)                NULL, or what is wrong with the patch
  *
- * All but the last also take two limits, depth and bytes, as json_patch.h has them. A NULL among the
- * arguments gives NULL. What isn't a text, or says no document or, but for json_patch_check, no patch, a goal
- * to which no merge patch leads, and a patch that is refused or over the limits are errors of the statement.
+ * All but the last also take two limits, depth and bytes, and the first two a third, operations, as
+ * json_patch.h has them. A NULL among the arguments gives NULL. What isn't a text, or says no document or,
+ * but for json_patch_check, no patch, a goal to which no merge patch leads, and a patch that is refused or
+ * over the limits are errors of the statement.
  * json_patch_apply and json_patch_merge keep the text where they don't change it. Numbers may be any. A result depends on the arguments alone, and no
  * call reads or writes anything else; so the functions may stand in indexes, generated columns, CHECKs and
  * triggers.
@@ -53,7 +54,7 @@ typedef json_patch_status writer(const arguments *given, char *out, size_t room,
 
 typedef struct {
     const char *name;
-    int texts; /* how many, before the limits */
+    int texts, limits; /* how many it takes, the limits behind the texts */
     const char *first, *second;
     writer *write;
 } function;
@@ -83,7 +84,7 @@ static json_patch_status write_difference(const arguments *given, char *out, siz
                                           json_patch_report *report)
 {
     return json_patch_diff(given->first.bytes, given->first.length, given->second.bytes,
-                           given->second.length, &given->limits, out, room, report);
+                           given->second.length, &given->limits, 0, out, room, report);
 }
 
 static json_patch_status write_merge_difference(const arguments *given, char *out, size_t room,
@@ -278,6 +279,18 @@ static int takes_limit(sqlite3_context *context, const function *of, const char 
     return 1;
 }
 
+/* Takes the limits behind the texts, if there are some. */
+static int takes_limits(sqlite3_context *context, const function *of, int count,
+                        sqlite3_value **values, json_patch_limits *taken)
+{
+    const char *const names[] = {"depth", "bytes", "operations"};
+    size_t *const to[] = {&taken->depth, &taken->bytes, &taken->operations};
+    for (int i = 0; i < count; i++)
+        if (!takes_limit(context, of, names[i], values[i], to[i]))
+            return 0;
+    return 1;
+}
+
 static int is_any_null(int count, sqlite3_value **values)
 {
     for (int i = 0; i < count; i++)
@@ -296,9 +309,7 @@ static void run(sqlite3_context *context, int count, sqlite3_value **values)
         return;
     if (of->texts == 2 && !takes_text(context, of, of->second, values[1], &given.second))
         return;
-    if (count > of->texts
-        && (!takes_limit(context, of, "depth", values[of->texts], &given.limits.depth)
-            || !takes_limit(context, of, "bytes", values[of->texts + 1], &given.limits.bytes)))
+    if (!takes_limits(context, of, count - of->texts, values + of->texts, &given.limits))
         return;
     if (of->texts == 1)
         give_fault(context, of, &given);
@@ -307,12 +318,12 @@ static void run(sqlite3_context *context, int count, sqlite3_value **values)
 }
 
 static const function FUNCTIONS[] = {
-    {"json_patch_apply", 2, "document", "patch", write_applied},
-    {"json_patch_inverse", 2, "document", "patch", write_inverse},
-    {"json_patch_merge", 2, "document", "merge patch", write_merged},
-    {"json_patch_diff", 2, "document", "goal", write_difference},
-    {"json_patch_merge_diff", 2, "document", "goal", write_merge_difference},
-    {"json_patch_check", 1, "patch", NULL, write_nothing},
+    {"json_patch_apply", 2, 3, "document", "patch", write_applied},
+    {"json_patch_inverse", 2, 3, "document", "patch", write_inverse},
+    {"json_patch_merge", 2, 2, "document", "merge patch", write_merged},
+    {"json_patch_diff", 2, 2, "document", "goal", write_difference},
+    {"json_patch_merge_diff", 2, 2, "document", "goal", write_merge_difference},
+    {"json_patch_check", 1, 0, "patch", NULL, write_nothing},
 };
 
 static int add(sqlite3 *database, const function *of, int count)
@@ -332,8 +343,8 @@ int sqlite3_jsonpatch_init(sqlite3 *database, char **message, const sqlite3_api_
     for (size_t i = 0; i < sizeof FUNCTIONS / sizeof *FUNCTIONS; i++) {
         const function *of = &FUNCTIONS[i];
         int status = add(database, of, of->texts);
-        if (status == SQLITE_OK && of->texts == 2)
-            status = add(database, of, of->texts + 2);
+        for (int limits = 2; status == SQLITE_OK && limits <= of->limits; limits++)
+            status = add(database, of, of->texts + limits);
         if (status != SQLITE_OK)
             return status;
     }

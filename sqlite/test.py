@@ -229,26 +229,38 @@ class Calls(Sql):
         # the text has 104 bytes, the patch 39, and the copy leaves 104 + 103 = 207
         long, twice = json.dumps(["x" * 100]), '[{"op":"copy","from":"/0","path":"/0"}]'
         self.assertEqual(self.of(APPLY, long, twice, 124, 64), '["' + "x" * 100 + '","' + "x" * 100 + '"]')
-        self.assertFails("operation 0 is over the limits: it leaves too much", APPLY, long, twice, 124, 63)
+        self.assertFails("operation 0 is over the limits: it takes too much", APPLY, long, twice, 124, 63)
         self.assertEqual(self.of(INVERSE, long, twice, 124, 64), '[{"op":"remove","path":"/0"}]')
-        self.assertFails("operation 0 is over the limits: it leaves too much", INVERSE, long, twice, 124, 63)
+        self.assertFails("operation 0 is over the limits: it takes too much", INVERSE, long, twice, 124, 63)
         # nor may the inverse be longer, which holds what a move displaces
         moves = json.dumps([{"op": "move", "from": "/0", "path": "/0"}] * 9)
         inverse = self.of(INVERSE, long, moves)
         spare = len(inverse) - len(long) - len(moves)
         self.assertEqual(self.of(INVERSE, long, moves, 124, spare), inverse)
-        self.assertFails("operation 8 is over the limits: it leaves too much", INVERSE, long, moves, 124, spare - 1)
+        self.assertFails("operation 8 is over the limits: it takes too much", INVERSE, long, moves, 124, spare - 1)
         self.assertEqual(self.of(APPLY, long, moves, 124, 0), long)
         self.assertFails("document nests too deep", APPLY, "[[]]", "[]", 1, 1)
         self.assertFails("depth is not a whole number from 0 on", APPLY, "[]", "[]", -1, 1)
         self.assertFails("bytes is not a whole number from 0 on", APPLY, "[]", "[]", 1, "1")
+        self.assertFails("operations is not a whole number from 0 on", APPLY, "[]", "[]", 1, 1, "1")
         self.assertFails("merge patch nests too deep", MERGE, "[]", "[[]]", 1, 1)
         for name in (DIFF, MERGE_DIFF):
             self.assertFails("goal nests too deep", name, "[]", "[[]]", 1, 1)
         self.assertEqual(self.of(MERGE_DIFF, "[]", "[[]]", 2, 0), "[[]]")
         # 9 bytes and 7 are merged to 17
         self.assertEqual(self.of(MERGE, '{ "a": 1}', '{"b":2}', 1, 1), '{ "a": 1, "b": 2}')
-        self.assertFails("merge patch is over the limits: it leaves too much", MERGE, '{ "a": 1}', '{"b":2}', 1, 0)
+        self.assertFails("merge patch is over the limits: it takes too much", MERGE, '{ "a": 1}', '{"b":2}', 1, 0)
+
+    def test_how_many_operations(self):
+        """One more is refused before the first is made, whatever that would come to."""
+        removed = json.dumps([{"op": "remove", "path": "/0"}] * 3)
+        for name in (APPLY, INVERSE):
+            self.assertEqual(self.of(name, "[]", "[]", 1, 0, 0), "[]")
+            self.assertFails("operation 2 is over the limits: it exceeds the number of operations", name, "[]", removed, 1, 0, 2)
+            self.assertFails("operation 0 failed at path '/0': path is invalid", name, "[]", removed, 1, 0, 3)
+            self.assertFails("document is not JSON", name, "[", removed, 1, 0, 2)
+        with self.assertRaisesRegex(sqlite3.OperationalError, "wrong number of arguments"):
+            self.of(MERGE, "[]", "[]", 1, 0, 0)
 
     def test_whitespace_does_not_multiply(self):
         """New members beside one with much whitespace; an undo that would take it over again and again."""
@@ -266,7 +278,7 @@ class Calls(Sql):
         # a text of n bytes comes to 2n + 4, and one more for a comma; before the 16th it has 426,042,
         # with the longer names; twice that is more than 500,000, the 2,570 of the patch and 2
         for name in (APPLY, INVERSE):
-            self.assertFails("operation 16 is over the limits: it leaves too much", name, "{}", double)
+            self.assertFails("operation 16 is over the limits: it takes too much", name, "{}", double)
         self.assertFails("document nests too deep", APPLY, "[" * 1_000_000, "[]")
 
     def test_a_text_larger_than_first_room(self):

@@ -58,6 +58,14 @@ SET json_patch.max_bytes = 143;
 SELECT told($$SELECT json_patch_inverse(('{"a":"' || repeat('x', 100) || '"}')::json, '[{"op":"move","from":"/a","path":"/b"},{"op":"move","from":"/b","path":"/a"}]')$$);
 RESET json_patch.max_bytes;
 SHOW json_patch.max_bytes;
+-- one operation more than there may be: none is made, whatever the first comes to
+SET json_patch.max_operations = 1;
+SELECT told($$SELECT json_patch_apply('[]'::jsonb, '[{"op":"add","path":"/0","value":1}]')$$);
+SELECT told($$SELECT json_patch_inverse('[]'::json, '[{"op":"remove","path":"/0"},{"op":"remove","path":"/0"}]')$$);
+SET json_patch.max_operations = 2;
+SELECT told($$SELECT json_patch_inverse('[]'::json, '[{"op":"remove","path":"/0"},{"op":"remove","path":"/0"}]')$$);
+RESET json_patch.max_operations;
+SHOW json_patch.max_operations;
 SET json_patch.max_depth = 125;
 -- copies into themselves, doubled again and again: the depth is reached at 64, and 2 ^ 7 is more than 124
 SELECT told($$SELECT json_patch_apply('{"a":0}'::jsonb, (SELECT jsonb_agg(jsonb_build_object('op', 'copy', 'from', '', 'path', repeat('/a', (2 ^ n)::int)) ORDER BY n) FROM generate_series(0, 11) n))$$);

@@ -7,14 +7,16 @@ from json_patch import apply_patch, make_patch, merge_patch, record_patch
 
 C = Path(__file__).resolve().parents[2] / "c"
 CALLS = {"apply": apply_patch, "record": record_patch, "merge": merge_patch, "diff": lambda src, dst: make_patch(src, dst).patch}
+CALLS["moving_diff"] = lambda src, dst: make_patch(src, dst, moves=True).patch
+CALLS["guarded_diff"] = lambda src, dst: make_patch(src, dst, guarded=True).patch
 ALL_ROWS = json.loads((C / "cases.json").read_text(encoding="utf-8"))
 # those of merge patches that are made are in test_merge_patches.py
 ROWS = [row for row in ALL_ROWS if row[0] in CALLS]
 OK, REFUSED, IMPOSSIBLE = 0, 1, 11
 # what messages say of these kinds
 SAYS = {
-    "NotJson": "is not JSON", "UnpairedSurrogate": "holds an unpaired surrogate", "TooDeep": "nests too deep", "TooMuch": "leaves too much",
-    "NumberOutOfRange": "holds a number that is out of range",
+    "NotJson": "is not JSON", "UnpairedSurrogate": "holds an unpaired surrogate", "TooDeep": "nests too deep", "TooMuch": "takes too much",
+    "TooMany": "exceeds the number of operations", "NumberOutOfRange": "holds a number that is out of range",
 }
 # what the package asks a thread to have
 SMALL_STACK = 256 * 1024

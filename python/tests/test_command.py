@@ -113,6 +113,22 @@ class Command(unittest.TestCase):
         self.assertDoes("json-patch diff one.json other.json | json-patch apply one.json", '{"price": 2.50, "large": 1e400, "tags": ["new", "red"]}')
         self.assertDoes("json-patch diff --indent 2 one.json other.json | tr -d ' \\n'; echo", made)
 
+    def test_diff_with_moves(self):
+        self.write("one.json", '{"draft": [1.50, 1e400]}')
+        self.write("other.json", '{"title": [1.5, 10e399]}')
+        self.assertDoes("json-patch diff --moves one.json other.json", '[{"from":"/draft","op":"move","path":"/title"}]\n')
+        self.assertDoes("json-patch diff --moves one.json other.json | json-patch apply one.json", '{"title":[1.50, 1e400]}')
+
+    def test_diff_with_tests(self):
+        self.write("one.json", '{"price": 1.50, "large": 1e400}')
+        self.write("other.json", '{"price": 2.50, "large": 10e399}')
+        self.write("third.json", '{"price": 1.5, "tags": []}')
+        made = '[{"op":"test","path":"/price","value":1.50},{"op":"replace","path":"/price","value":2.50}]'
+        self.assertDoes("json-patch diff --guarded one.json other.json", made + "\n")
+        self.assertDoes("json-patch diff --guarded one.json other.json | json-patch apply third.json", '{"price": 2.50, "tags": []}')
+        refused = 'standard input: operation 0: path "/price": TestFailed'
+        self.assertEnds(1, refused, "json-patch diff --guarded one.json other.json | json-patch apply other.json")
+
     def test_diff_refused(self):
         self.write("bad", "[1")
         for told, arguments in (
@@ -122,7 +138,7 @@ class Command(unittest.TestCase):
             ("d.json: TooDeep", "--limit-depth 1 - d.json <<< 1"),
         ):
             self.assertEnds(2, told, f"json-patch diff {arguments}")
-        for arguments in ("", "- -", "-", "d.json --limit-bytes 1", "d.json p.json -i"):
+        for arguments in ("", "- -", "-", "d.json --limit-bytes 1", "d.json p.json -i", "d.json p.json -m --moves", "d.json p.json --moves --guarded"):
             written, _, status = self.run_lines(f"json-patch diff {arguments} < d.json")
             self.assertEqual((written, status), ("", 64), arguments)
 
@@ -210,6 +226,9 @@ class Command(unittest.TestCase):
             self.assertEnds(1, 'p.json: operation 1: path "/b/-": TooDeep', f"json-patch apply {options} --limit-depth 2 d.json p.json")
             self.assertEnds(1, 'p.json: operation 1: path "/b/-": TooDeep', f"json-patch record {options} --limit-depth 2 d.json p.json j")
         self.assertFalse((self.folder / "j").exists())
+        for command in ("apply --limit-operations 1 d.json p.json", "record -i --limit-operations=1 d.json p.json j"):
+            self.assertEnds(1, 'p.json: operation 1: path "/b/-": TooMany', f"json-patch {command}")
+        self.assertDoes("json-patch apply --limit-operations 2 d.json p.json", made)
         # the document has 104 bytes, the patch 39, and the copy leaves 207
         self.write("long.json", json.dumps(["x" * 100]))
         self.write("p.json", '[{"op":"copy","from":"/0","path":"/0"}]')

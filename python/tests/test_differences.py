@@ -5,11 +5,13 @@ import random
 import unittest
 
 from json_patch import (
-    Document, InvalidJsonPatch, JsonPatch, JsonPatchException, JsonPointer, Limits, TooDeep, apply_patch, make_patch,
+    Document, InvalidJsonPatch, JsonPatch, JsonPatchException, JsonPatchTestFailed, JsonPointer, Limits, TooDeep, apply_patch, make_patch,
+    resolve_pointer,
 )
 from support import NO_NUMBERS, NOT_WHOLE, PAST_FLOATS, ROWS, SAYS, holding_itself, nested, on_another_thread, on_each_stack
 
 STAYS = "a text that is long enough to stay"
+KINDS = ({}, {"moves": True}, {"guarded": True})
 
 
 def beside(levels, innermost):
@@ -29,10 +31,12 @@ class Differences(unittest.TestCase):
     def assertLeads(self, src, dst):
         """Each call makes a patch that leads there. What it is made of stays."""
         held = json.dumps([src, dst])
-        patch = make_patch(src, dst)
-        self.assertEqual(JsonPatch.from_diff(src, dst), patch)
-        self.assertEqual(text_of(patch.apply(src)), text_of(dst))
-        self.assertEqual(bool(patch), text_of(src) != text_of(dst))
+        patch, moving, guarded = (make_patch(src, dst, **kind) for kind in KINDS)
+        self.assertEqual([JsonPatch.from_diff(src, dst, **kind) for kind in KINDS], [patch, moving, guarded])
+        for each in (patch, moving, guarded):
+            self.assertEqual((text_of(each.apply(src)), bool(each)), (text_of(dst), text_of(src) != text_of(dst)))
+        self.assertLessEqual(len(moving), len(patch))
+        self.assertGuards(src, patch, guarded)
         with Document(src) as kept, Document(dst) as goal:
             self.assertEqual((kept.diff(dst), kept.diff(goal)), (patch, patch))
             kept.apply(patch)
@@ -40,6 +44,17 @@ class Differences(unittest.TestCase):
             self.assertEqual(list(kept.diff(goal)), [])
         self.assertEqual(json.dumps([src, dst]), held)
         return patch
+
+    def assertGuards(self, src, patch, guarded):
+        """It is the patch, with a test before each operation that takes something, of what that is."""
+        wanted, now = [], json.loads(json.dumps(src))
+        for change in patch:
+            if change["op"] != "add":
+                held = json.dumps(resolve_pointer(now, change["path"]))
+                wanted.append({"op": "test", "path": change["path"], "value": json.loads(held)})
+            wanted.append(change)
+            now = apply_patch(now, [change], in_place=True)
+        self.assertEqual(text_of(list(guarded)), text_of(wanted))
 
     def test_tables(self):
         rows = [(src, dst, patch) for call, src, dst, *_, patch in ROWS if call == "diff"]
@@ -53,6 +68,15 @@ class Differences(unittest.TestCase):
         self.assertEqual(list(self.assertLeads({"a/~": 1, "b": STAYS}, {"a/~": True, "b": STAYS})), [{"op": "replace", "path": "/a~1~0", "value": True}])
         self.assertEqual(list(self.assertLeads({}, {"b": 1, "a": {"c": None}})), [{"op": "replace", "path": "", "value": {"b": 1, "a": {"c": None}}}])
         self.assertEqual(list(self.assertLeads({"é": [0]}, {"é": [0]})), [])
+
+    def test_guarded(self):
+        patch = make_patch({"a": 1, "b": STAYS}, {"a": 2, "b": STAYS}, guarded=True)
+        self.assertEqual(list(patch), [{"op": "test", "path": "/a", "value": 1}, {"op": "replace", "path": "/a", "value": 2}])
+        self.assertEqual(patch.apply({"a": 1.0, "c": 3}), {"a": 2, "c": 3})
+        for other in ({"a": 3, "b": STAYS}, {"a": True, "b": STAYS}):
+            self.assertRaises(JsonPatchTestFailed, patch.apply, other)
+        for call in (make_patch, JsonPatch.from_diff):
+            self.assertRaises(ValueError, call, 1, 2, moves=True, guarded=True)
 
     def test_pairs_of_a_whole_call(self):
         """Of all arrays together 16,777,216 pairs of items are looked at, and then an item stays if it is one
@@ -113,16 +137,24 @@ class Differences(unittest.TestCase):
                 return value(levels)
             if isinstance(old, list):
                 items = [changed(item, levels - 1) for item in old if chance.random() < 0.8]
+                if chance.random() < 0.5:
+                    chance.shuffle(items)
                 return [*items, value(0)] if chance.random() < 0.3 else items
             if isinstance(old, dict):
-                return {name: changed(member, levels - 1) for name, member in old.items() if chance.random() < 0.8}
+                return {renamed(name): changed(member, levels - 1) for name, member in old.items() if chance.random() < 0.8}
             return old
 
-        several = 0
+        def renamed(name):
+            return name if chance.random() < 0.6 else f"{name}/2"
+
+        several = moving = 0
         for _ in range(2_000):
             src = [{"k": value(4), "stays": STAYS * 9}, value(4), STAYS * 9]
-            several += len(self.assertLeads(src, changed(src, 5))) > 1
+            dst = changed(src, 5)
+            several += len(self.assertLeads(src, dst)) > 1
+            moving += any(change["op"] == "move" for change in make_patch(src, dst, moves=True))
         self.assertGreater(several, 100)
+        self.assertGreater(moving, 50)
 
     def test_hostile_pairs(self):
         many = 600

@@ -151,7 +151,7 @@ class Texts(unittest.TestCase):
             merge_text('{ "a": 1}', {"b": 2}, limits=Limits(bytes=0))
         error = caught.exception
         self.assertEqual((error.operation, error.kind, error.path), (None, "TooMuch", None))
-        self.assertEqual(str(error), "the merge is over the limits: it leaves too much")
+        self.assertEqual(str(error), "the merge is over the limits: it takes too much")
 
     def test_differences_of_texts(self):
         """A patch that leads from one document to another is over no limits whose `bytes` are 256 for each operation."""

@@ -88,6 +88,27 @@ class Within(unittest.TestCase):
         self.assertMakes(many, [COPY] * 1000, Limits(), {**many, "b": many["a"]})
         self.assertOver(many, [COPY] * 1001, Limits(), 1000, "TooMuch", in_place)
 
+    def test_operations(self):
+        """One more is over before the first is made, whatever that comes to."""
+        patch = [{"op": "remove", "path": "/0"}, {"op": "add", "path": "/-", "value": 2}]
+        for most in (2, 3, 2**100, None):
+            self.assertMakes([1], patch, Limits(operations=most), [2])
+        self.assertOver([1], patch, Limits(operations=1), 1, "TooMany")
+        self.assertOver([1], patch, Limits(operations=0), 0, "TooMany")
+        self.assertOver([], patch * 100, Limits(operations=199), 199, "TooMany")
+        for call in each_call([], patch, Limits(operations=2)):
+            with self.assertRaises(JsonPatchConflict):
+                call()
+        self.assertMakes([1], [], Limits(operations=0), [1])
+        document = [1]
+        for given in (patch, json.dumps(patch)):
+            with self.assertRaises(OverLimit) as caught:
+                apply_patch(document, given, in_place=True, limits=Limits(operations=1))
+            self.assertEqual((caught.exception.operation, caught.exception.path, document), (1, "/-", [1]))
+        with self.assertRaises(json_patch.InvalidJsonPatch):
+            apply_patch([1], [*patch, {}], limits=Limits(operations=0))
+        self.assertEqual(merge_patch({}, {"a": 1, "b": 2}, limits=Limits(operations=0)), {"a": 1, "b": 2})
+
     def test_bytes(self):
         """The document has 108 bytes, the patch 39 and 40 for each that follows, and what a copy leaves 215."""
         document = {"a": "x" * 100}
@@ -156,12 +177,13 @@ class Within(unittest.TestCase):
             kept.apply('[{"op":"copy","from":"","path":"/0"}]')
 
     def test_limits_as_values(self):
-        self.assertEqual(len({Limits(), Limits(MOST_LEVELS), pickle.loads(pickle.dumps(Limits())), Limits(9), Limits(bytes=9)}), 3)
+        self.assertEqual(len({Limits(), Limits(MOST_LEVELS), pickle.loads(pickle.dumps(Limits())), Limits(9), Limits(bytes=9), Limits(operations=9)}), 4)
 
     def test_what_are_no_limits(self):
         for name, value, error in (
             ("depth", -1, ValueError), ("bytes", -1, ValueError), ("depth", 125, ValueError), ("depth", 2**70, ValueError),
             ("depth", 1.0, TypeError), ("bytes", "9", TypeError), ("bytes", None, TypeError), ("depth", True, TypeError),
+            ("operations", -1, ValueError), ("operations", 1.0, TypeError),
         ):
             with self.assertRaises(error) as caught:
                 Limits(**{name: value})

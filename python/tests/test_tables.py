@@ -67,7 +67,7 @@ class Header(unittest.TestCase):
 
     def test_statuses(self):
         found = self.numbers("What came of a call", "What is at fault")
-        self.assertEqual(len(found), 12)
+        self.assertEqual(len(found), 13)
         self.assertEqual(found, {name: getattr(_library, name) for name in found})
 
     def test_structs(self):

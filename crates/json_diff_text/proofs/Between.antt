@@ -1,5 +1,5 @@
 -- The patch between two trees, and its text.
-use Rattle.std.proofs.Common.{◌≡◌, ◌<◌, ◌≤◌, ◌+◌, ℕ, zero, suc, List, [], ◌∷◌, length, ◌↔◌, ◌⊎◌, inl, inr, Some, None, Ordering, Less, Equal, Greater, Bool, false, max, map, refl, sym, ap, ◌∙◌, subst, arith}
+use Rattle.std.proofs.Common.{◌≡◌, ◌<◌, ◌≤◌, ◌+◌, ℕ, zero, suc, List, [], ◌∷◌, length, ◌↔◌, ◌⊎◌, inl, inr, Some, None, Ordering, Less, Equal, Greater, Bool, false, true, Result, Ok, Err, IfOk, max, map, refl, sym, ap, ◌∙◌, subst, arith}
 use Rattle.std.specs.Bool.{Decides}
 use Rattle.std.specs.Prelude.{codes, IsSome}
 use Rattle.std.specs.Ordering.{nat_cmp, match_ordering}
@@ -22,6 +22,8 @@ use Rattle.json_patch_document.proofs.SameDocuments.{AreSame-document}
 use Rattle.json_patch_laws.specs.Inverse.{ArePlain}
 use Rattle.json_patch_laws.specs.Run.{Accepts, IsAccepted}
 use Rattle.json_patch_limits.specs.declared.limits.Limits.{Limits}
+use Rattle.json_patch_moves.specs.Moving.{AreMoving, IsMoving}
+use Rattle.json_patch_moves.proofs.Serving.{plain_moving}
 use Rattle.json_patch_operation.specs.Operation.{Operation, add, remove, replace, move, copy, test, AreWhole}
 use Rattle.json_patch_operation.specs.PatchValue.{written_value, written_patch}
 use Rattle.json_reading.specs.Reading.{Reading}
@@ -31,18 +33,21 @@ use Rattle.json_reading.proofs.Told.{some_reading}
 use Rattle.json_reading.proofs.Documents.{IsDocument-data_of}
 use Rattle.json_reading.proofs.Trees.{one_document, same_exactly}
 use Rattle.json_patch_text.specs.Patched.{AcceptsPatch}
-use Rattle.json_diff_text.specs.Differences.{IsFewBetween, IsPlainPatch, IsTextOf, IsTreePatch, SaySame}
-use Rattle.json_diff_text.specs.Numerals.{numeral, numeral_at, tree_of, tree_items, tree_members, tree_op, tree_ops, read_as, StandsFor, AreNumbers}
+use Rattle.json_diff_text.specs.Differences.{AreTreeEdits, IsBetween, IsFewBetween, IsMovingPatch, IsPlainPatch, IsTextOf, IsTextPatch, IsTreePatch, SaySame, most_levels}
+use Rattle.json_diff_text.specs.Edits.{AreEdits}
+use Rattle.json_diff_text.specs.Numerals.{numeral, numeral_at, tree_of, tree_items, tree_members, tree_op, tree_ops, read_as, StandsFor, Grows, AreNumbers}
 use Rattle.json_patch_text.specs.Operations.{TreeOperation, all_under, tree_fields, HasFields, ReadsTrees, ReadsTreePatch, SaysOperations}
 use Rattle.json_diff_text.specs.Renumbered.{renumbered, renumbered_op}
 use Rattle.json_patch_diff.specs.Size.{values}
 use Rattle.json_patch_limits.specs.OverLimits.{AreShallow, NeverOver}
 use Rattle.json_patch_text.specs.Run.{AcceptsTree}
-use Rattle.json_patch_text.specs.Shallow.{IsNeverTooDeep}
+use Rattle.json_patch_text.specs.Shallow.{AllPutWithin, IsNeverTooDeep}
+use Rattle.json_patch_text.specs.Within.{IsPatchedWithin}
 use Rattle.json_patch_text.proofs.Shallow.{never_too_deep, puts_within_more}
-use Rattle.json_diff_text.proofs.Levels.{all_fit_there, depth_is, depth_same, patch_fits, values_are}
-use Rattle.json_diff_text.specs.Spellings.{AreSpellings}
+use Rattle.json_diff_text.proofs.Levels.{AllFitHere, all_fit_there, depth_is, depth_same, fit_more, patch_fits, values_are}
+use Rattle.json_diff_text.proofs.Coded.{stands_grown}
 use Rattle.json_diff_text.proofs.Spelled.{as_many, fit_alike, shallow_alike}
+use Rattle.json_patch_text.proofs.Tried.{never_tried}
 use Rattle.json_diff_text.proofs.Standing.{leads, plain_there, read_ops, stands_now}
 
 -- ---- a document with its numerals can be written
@@ -158,24 +163,51 @@ says_none : Says (codes "[]") (json.array json.no_items)
 unfolding json_on_literals
 says_none = refl
 
-none_nests : (text : List ℕ) → text ≡ codes "[]" → nesting text ≤ max_depth
+pub none_nests : (text : List ℕ) → text ≡ codes "[]" → nesting text ≤ max_depth
 none_nests text e = let n = nests (codes "[]") (json.array json.no_items) says_none in let m = ap nesting e in omega (arith, n, m)
 
-pub nothing_between : (i j : Json) (text : List ℕ) → text ≡ codes "[]" → SameTree i j → IsTreePatch i j text
-nothing_between i j text e same = record {
-  ops = [];
-  says = (json.array json.no_items, subst (λ t. Says t (json.array json.no_items)) (sym e) says_none, tt);
+pub nothing_edits : (moves : Bool) (i j : Json) → SameTree i j → AreTreeEdits moves i j []
+nothing_edits moves i j same = record {
   leads = λ r. one_document r i j same;
-  plain = λ r. tt;
+  moving = λ r. tt;
+  plain = λ off. λ r. tt;
   nothing = ((λ n. same), (λ s. refl));
   few = λ r. omega arith;
-  shallow = tt;
-  readable = none_nests text e;
+  shallow = λ off. tt;
 }
 
--- what `diff` promises of the operations between the two documents
-abbrev pub IsBetween : Data → Data → List Operation → Type 0
-IsBetween d e ops = AreWhole ops × ArePlain d ops × IsAccepted d ops e × (length ops ≤ values d + values e) × ((recorded : Bool) (l : Limits) → depth e ≤ l.depth → NeverOver recorded l d ops)
+pub nothing_said : (text : List ℕ) → text ≡ codes "[]" → SaysOperations text []
+nothing_said text e = (json.array json.no_items, subst (λ t. Says t (json.array json.no_items)) (sym e) says_none, tt)
+
+pub nothing_between : (moves : Bool) (i j : Json) (text : List ℕ) → text ≡ codes "[]" → SameTree i j → IsTreePatch moves i j text
+nothing_between moves i j text e same = record { ops = []; edits = nothing_edits moves i j same; says = nothing_said text e; readable = none_nests text e }
+
+-- `diff` gives such operations without moves
+pub plain_between : {X E : Type 0} (r : Result X E) (ops : X → List Operation) (moves : Bool) (d e : Data) → IfOk r (λ p. IsAccepted d (ops p) e) → IfOk r (λ p. AreWhole (ops p)) → IfOk r (λ p. ArePlain d (ops p)) → IfOk r (λ p. length (ops p) ≤ values d + values e)
+    → IfOk r (λ p. AreShallow (depth e) (ops p)) → IfOk r (λ p. (recorded : Bool) (l : Limits) → depth e ≤ l.depth → NeverOver recorded l d (ops p)) → IfOk r (λ p. IsBetween moves d e (ops p))
+plain_between (Ok p) ops moves d e leads whole plain few shallow never = record {
+  whole = whole;
+  leads = leads;
+  moving = plain_moving d (ops p) plain;
+  few = few;
+  shallow = shallow;
+  plain = λ off. plain;
+  never = λ off. never;
+}
+plain_between (Err f) ops moves d e leads whole plain few shallow never = tt
+
+-- operations that move are moving with other numbers, too
+moving_op : (f : Num → Num) (op : Operation) → IsMoving op → IsMoving (renumbered_op f op)
+moving_op f (add P v) h = tt
+moving_op f (remove P) h = tt
+moving_op f (replace P v) h = tt
+moving_op f (move F P) h = tt
+moving_op f (copy F P) h = absurd h
+moving_op f (test P v) h = absurd h
+
+moving_there : (f : Num → Num) (ops : List Operation) → AreMoving ops → AreMoving (map (renumbered_op f) ops)
+moving_there f [] h = tt
+moving_there f (op ∷ ops) h = (moving_op f op h.0, moving_there f ops h.1)
 
 op_count : (ts : List (List ℕ)) (ops : List Operation) → length (tree_ops ts ops) ≡ length ops
 op_count ts [] = refl
@@ -184,38 +216,52 @@ op_count ts (op ∷ ops) = ap suc (op_count ts ops)
 values_there : (ts : List (List ℕ)) (d : Data) (j : Json) (r : Reading) → StandsFor ts d j → values (data_of r j) ≡ values d
 values_there ts d j r h = ap values (sym (stands_now ts d j r h)) ∙ values_are (read_as r ts) d
 
--- the operations are written as os, which say the same wherever the second tree's documents do
-pub record AreWritten (ts : List (List ℕ)) (j : Json) (ops os : List Operation) : Type 0 where
-  pub told : Data
-  pub written : Data
-  pub tells : StandsFor ts told j
-  pub writes : StandsFor ts written j
-  pub alike : AreSpellings told written ops os
+pub edits_grown : (moves : Bool) (ts us : List (List ℕ)) (i j : Json) (os : List Operation) → Grows ts us → AreEdits moves ts i j os → AreEdits moves us i j os
+edits_grown moves ts us i j os g h = record {
+  old = h.old;
+  new = h.new;
+  written = h.written;
+  made = h.made;
+  first = stands_grown ts us h.old i g h.first;
+  second = stands_grown ts us h.new j g h.second;
+  spelled = stands_grown ts us h.written j g h.spelled;
+  document = h.document;
+  between = h.between;
+  alike = h.alike;
+}
 
-same_read : (ts : List (List ℕ)) (j : Json) (ops os : List Operation) (r : Reading) → AreWritten ts j ops os → map (renumbered_op (read_as r ts)) os ≡ map (renumbered_op (read_as r ts)) ops
-same_read ts j ops os r w = w.alike.1 (read_as r ts) (stands_now ts w.told j r w.tells ∙ sym (stands_now ts w.written j r w.writes))
+pub edits_whole : (moves : Bool) (ts : List (List ℕ)) (i j : Json) (os : List Operation) → AreEdits moves ts i j os → AreWhole os
+edits_whole moves ts i j os h = h.alike.0 h.between.whole
 
-same_under : (ts : List (List ℕ)) (j : Json) (ops os : List Operation) (r : Reading) → AreWhole ops → AreWritten ts j ops os → all_under r (tree_ops ts os) ≡ all_under r (tree_ops ts ops)
-same_under ts j ops os r hv w = read_ops r ts os (w.alike.0 hv) ∙ same_read ts j ops os r w ∙ sym (read_ops r ts ops hv)
+pub same_read : (moves : Bool) (ts : List (List ℕ)) (i j : Json) (os : List Operation) (h : AreEdits moves ts i j os) (r : Reading) → map (renumbered_op (read_as r ts)) os ≡ map (renumbered_op (read_as r ts)) h.made
+same_read moves ts i j os h r = h.alike.1 (read_as r ts) (stands_now ts h.new j r h.second ∙ sym (stands_now ts h.written j r h.spelled))
 
-pub written_shallow : (ts : List (List ℕ)) (j : Json) (n : ℕ) (ops os : List Operation) → AreWritten ts j ops os → AreShallow n ops → AreShallow n os
-written_shallow ts j n ops os w h = shallow_alike (read_as some_reading ts) n ops os (same_read ts j ops os some_reading w) h
+same_under : (moves : Bool) (ts : List (List ℕ)) (i j : Json) (os : List Operation) (h : AreEdits moves ts i j os) (r : Reading) → all_under r (tree_ops ts os) ≡ all_under r (tree_ops ts h.made)
+same_under moves ts i j os h r = read_ops r ts os (h.alike.0 h.between.whole) ∙ same_read moves ts i j os h r ∙ sym (read_ops r ts h.made h.between.whole)
 
-pub edits_between : (ts : List (List ℕ)) (i j : Json) (d e : Data) (ops os : List Operation) (text : List ℕ) → (SameTree i j → ⊥) → StandsFor ts d i → StandsFor ts e j → IsDocument d → IsBetween d e ops → AreWritten ts j ops os
-    → IsTextOf text (tree_ops ts os) → IsTreePatch i j text
-edits_between ts i j d e ops os text apart at_i at_j hd (hv, plain, accepted, few, never) w (says, low) =
-    let leads_there : AcceptsTree i (tree_ops ts os) j = λ r. subst (λ x. Accepts (data_of r i) x (data_of r j)) (sym (same_under ts j ops os r hv w)) (leads ts i j d e ops at_i at_j hd hv accepted.accepts r) in
+pub edits_shallow : (moves : Bool) (ts : List (List ℕ)) (i j : Json) (b : ℕ) (os : List Operation) → tree.depth j ≤ b → AreEdits moves ts i j os → AreShallow b os
+edits_shallow moves ts i j b os low h =
+    shallow_alike (read_as some_reading ts) b h.made os (same_read moves ts i j os h some_reading) (patch_shallow ts h.new j b h.made h.second low h.between.shallow)
+
+-- without moves what they put reaches no deeper than the second tree
+pub edits_fit : (ts : List (List ℕ)) (i j : Json) (os : List Operation) → AreEdits false ts i j os → AllFitHere (tree.depth j) os
+edits_fit ts i j os h =
+    fit_more (depth h.new) (tree.depth j) os (stands_depth ts h.new j h.second)
+    (fit_alike (read_as some_reading ts) (depth h.new) h.made os (same_read false ts i j os h some_reading) (patch_fits h.old h.new h.made (h.between.plain refl) (h.between.never refl)))
+
+pub tree_edits : (moves : Bool) (ts : List (List ℕ)) (i j : Json) (os : List Operation) → (SameTree i j → ⊥) → AreEdits moves ts i j os → AreTreeEdits moves i j (tree_ops ts os)
+tree_edits moves ts i j os apart h =
+    let hv : AreWhole h.made = h.between.whole in
+    let leads_there : AcceptsTree i (tree_ops ts os) j = λ r. subst (λ x. Accepts (data_of r i) x (data_of r j)) (sym (same_under moves ts i j os h r)) (leads ts i j h.old h.new h.made h.first h.second h.document hv h.between.leads.accepts r) in
     record {
-      ops = tree_ops ts os;
-      says = says;
       leads = leads_there;
-      plain = λ r. subst (ArePlain (data_of r i)) (sym (same_under ts j ops os r hv w)) (plain_there ts i d ops at_i hd hv plain r);
+      moving = λ r. subst AreMoving (sym (read_ops r ts os (h.alike.0 hv) ∙ same_read moves ts i j os h r)) (moving_there (read_as r ts) h.made h.between.moving);
+      plain = λ off. λ r. subst (ArePlain (data_of r i)) (sym (same_under moves ts i j os h r)) (plain_there ts i h.old h.made h.first h.document hv (h.between.plain off) r);
       nothing = (same_of i j (tree_ops ts os) leads_there, (λ s. absurd (apart s)));
       few = λ r.
-          let m = as_many (read_as r ts) ops os (same_read ts j ops os r w) in
-          let n = op_count ts os in let a = values_there ts d i r at_i in let b = values_there ts e j r at_j in omega (arith, m, n, a, b, few);
-      shallow = all_fit_there ts (depth e) (tree.depth j) os (stands_depth ts e j at_j) (fit_alike (read_as some_reading ts) (depth e) ops os (same_read ts j ops os some_reading w) (patch_fits d e ops plain never));
-      readable = low;
+          let m = as_many (read_as r ts) h.made os (same_read moves ts i j os h r) in
+          let n = op_count ts os in let a = values_there ts h.old i r h.first in let c = values_there ts h.new j r h.second in let few = h.between.few in omega (arith, m, n, a, c, few);
+      shallow = λ off. let low : tree.depth j ≤ tree.depth j = omega arith in all_fit_there ts (tree.depth j) (tree.depth j) os low (edits_fit ts i j os (subst (λ x. AreEdits x ts i j os) off h));
     }
 
 -- ---- of two texts
@@ -226,33 +272,89 @@ none_read (json.array json.no_items) (op ∷ ops) a b = absurd b
 none_read (json.array (json.item v js)) ops a b = absurd a
 none_read p ops a b = absurd a
 
-pub accepts_patch : (from to text : List ℕ) (i j : Json) → Says from i → Says to j → IsTreePatch i j text → AcceptsPatch from text to
-accepts_patch from to text i j a b h = (h.ops, h.says, (i, j, a, b, h.leads))
+pub accepts_patch : (moves : Bool) (from to text : List ℕ) → IsTextPatch moves from to text → AcceptsPatch from text to
+accepts_patch moves from to text h = (h.patch.ops, h.patch.says, (h.i, h.j, h.first, h.second, h.patch.edits.leads))
 
-pub plain_patch : (from text : List ℕ) (i j : Json) → Says from i → IsTreePatch i j text → IsPlainPatch from text
-plain_patch from text i j a h = (i, h.ops, a, h.says, h.plain)
+pub moving_patch : (moves : Bool) (from to text : List ℕ) → IsTextPatch moves from to text → IsMovingPatch text
+moving_patch moves from to text h = (h.patch.ops, h.patch.says, h.patch.edits.moving)
 
-pub few_between : (from to text : List ℕ) (i j : Json) → Says from i → Says to j → IsTreePatch i j text → IsFewBetween from to text
-few_between from to text i j a b h = (i, j, h.ops, a, b, h.says, h.few)
+pub plain_patch : (from to text : List ℕ) → IsTextPatch false from to text → IsPlainPatch from text
+plain_patch from to text h = (h.i, h.patch.ops, h.first, h.patch.says, h.patch.edits.plain refl)
 
-pub nothing_exactly : (from to text : List ℕ) (i j : Json) → Says from i → Says to j → IsTreePatch i j text → SaysOperations text [] ↔ SaySame from to
-nothing_exactly from to text i j a b h = (none h.says, some h.says)
+pub few_between : (moves : Bool) (from to text : List ℕ) → IsTextPatch moves from to text → IsFewBetween from to text
+few_between moves from to text h = (h.i, h.j, h.patch.ops, h.first, h.second, h.patch.says, h.patch.edits.few)
+
+-- it says none exactly where both texts say the same
+pub says_nothing : (from to text : List ℕ) (i j : Json) (ops : List TreeOperation) → Says from i → Says to j → SaysOperations text ops → (ops ≡ []) ↔ SameTree i j → SaysOperations text [] ↔ SaySame from to
+says_nothing from to text i j ops a b said nothing = (none said, some said)
   where
-    none : SaysOperations text h.ops → SaysOperations text [] → SaySame from to
-    none (p, says, reads) (q, also, empty) = (i, j, a, b, h.nothing.0 (none_read p h.ops (subst (λ x. ReadsTreePatch x []) (one_tree text q p also says) empty) reads))
+    none : SaysOperations text ops → SaysOperations text [] → SaySame from to
+    none (p, says, reads) (q, also, empty) = (i, j, a, b, nothing.0 (none_read p ops (subst (λ x. ReadsTreePatch x []) (one_tree text q p also says) empty) reads))
 
-    some : SaysOperations text h.ops → SaySame from to → SaysOperations text []
+    some : SaysOperations text ops → SaySame from to → SaysOperations text []
     some (p, says, reads) (k, l, c, d, same) =
-        (p, says, subst (ReadsTreePatch p) (h.nothing.1 (subst (λ x. SameTree x j) (one_tree from k i c a) (subst (λ x. SameTree k x) (one_tree to l j d b) same))) reads)
+        (p, says, subst (ReadsTreePatch p) (nothing.1 (subst (λ x. SameTree x j) (one_tree from k i c a) (subst (λ x. SameTree k x) (one_tree to l j d b) same))) reads)
 
-pub patch_never : (from to text : List ℕ) (i j : Json) → Says from i → Says to j → tree.depth i ≤ max_depth → tree.depth j ≤ max_depth → IsTreePatch i j text → IsNeverTooDeep (max (nesting from) (nesting to)) from text
-patch_never from to text i j a b low_i low_j h =
-    let m = nests from i a in
+pub nothing_exactly : (moves : Bool) (from to text : List ℕ) → IsTextPatch moves from to text → SaysOperations text [] ↔ SaySame from to
+nothing_exactly moves from to text h = says_nothing from to text h.i h.j h.patch.ops h.first h.second h.patch.says h.patch.edits.nothing
+
+pub patch_readable : (moves : Bool) (from to text : List ℕ) → IsTextPatch moves from to text → nesting text ≤ max_depth
+patch_readable moves from to text h = h.patch.readable
+
+pub never_deep : (moves : Bool) (from to text : List ℕ) → IsTextPatch moves from to text → IsNeverTooDeep (max (nesting from) (nesting to)) from text
+never_deep moves from to text h = h.never
+
+-- ---- how deep
+
+most_nested : (from to : List ℕ) (i j : Json) → Says from i → Says to j → tree.depth i ≤ max_depth → tree.depth j ≤ max_depth → max (nesting from) (nesting to) ≤ max_depth
+most_nested from to i j a b low_i low_j = let m = nests from i a in let n = nests to j b in omega (arith, m, n, low_i, low_j)
+
+-- nothing is put deeper than the second text nests
+pub patch_never : (from to text : List ℕ) (i j : Json) (ops : List TreeOperation) → Says from i → Says to j → tree.depth i ≤ max_depth → tree.depth j ≤ max_depth → SaysOperations text ops → AllPutWithin (tree.depth j) ops
+    → IsNeverTooDeep (max (nesting from) (nesting to)) from text
+patch_never from to text i j ops a b low_i low_j says shallow =
     let n = nests to j b in
     let under : tree.depth j ≤ max (nesting from) (nesting to) = omega (arith, n) in
     let first : nesting from ≤ max (nesting from) (nesting to) = omega arith in
-    let le : max (nesting from) (nesting to) ≤ max_depth = omega (arith, m, n, low_i, low_j) in
-    never_too_deep (max (nesting from) (nesting to)) from text h.ops h.says (puts_within_more (tree.depth j) (max (nesting from) (nesting to)) h.ops under h.shallow) first le
+    never_too_deep (max (nesting from) (nesting to)) from text ops says (puts_within_more (tree.depth j) (max (nesting from) (nesting to)) ops under shallow) first (most_nested from to i j a b low_i low_j)
+
+pub without_moves : (moves : Bool) (from to text : List ℕ) (i j : Json) → Says from i → Says to j → tree.depth i ≤ max_depth → tree.depth j ≤ most_levels → IsTreePatch false i j text → IsTextPatch moves from to text
+without_moves moves from to text i j a b low_i low_j h = record {
+  i = i;
+  j = j;
+  first = a;
+  second = b;
+  patch = record {
+    ops = h.ops;
+    edits = record {
+      leads = h.edits.leads;
+      moving = h.edits.moving;
+      plain = λ off. h.edits.plain refl;
+      nothing = h.edits.nothing;
+      few = h.edits.few;
+      shallow = λ off. h.edits.shallow refl;
+    };
+    says = h.says;
+    readable = h.readable;
+  };
+  never = patch_never from to text i j h.ops a b low_i (omega (arith, low_j)) h.says (h.edits.shallow refl);
+}
+
+-- with moves it was tried within so many levels, no more than the trees have
+pub with_moves : (moves : Bool) (from to text s : List ℕ) (i j : Json) (a b most : ℕ) → moves ≡ true → s ≡ text → most ≤ max a b → Says from i → Says to j → tree.depth i ≤ max_depth → tree.depth j ≤ most_levels → a ≤ tree.depth i → b ≤ tree.depth j → IsTreePatch true i j text
+    → (l : Limits) × (new : List ℕ) × (l.depth ≤ most) × IsPatchedWithin l from s new → IsTextPatch moves from to text
+with_moves moves from to text s i j a b most on same most_low said also low_i low_j a_low b_low h (l, new, le, tried) =
+    let m = nests from i said in
+    let n = nests to j also in
+    let low : l.depth ≤ max (nesting from) (nesting to) = omega (arith, m, n, le, most_low, a_low, b_low) in
+    subst (λ x. IsTextPatch x from to text) (sym on) record {
+      i = i;
+      j = j;
+      first = said;
+      second = also;
+      patch = h;
+      never = subst (IsNeverTooDeep (max (nesting from) (nesting to)) from) same (never_tried l (max (nesting from) (nesting to)) from s new i said tried low (most_nested from to i j said also low_i (omega (arith, low_j))));
+    }
 
 -- ---- its faults
 
@@ -272,11 +374,7 @@ told_shallow text levels b d off deep = false≢true (sym off ∙ d.1 deep)
 pub apart_of : (b : Bool) (P : Type 0) → Decides b P → b ≡ false → P → ⊥
 apart_of b P d off h = false≢true (sym off ∙ d.1 h)
 
-pub edits_written : (us ts : List (List ℕ)) (i j : Json) (d e : Data) (ops os : List Operation) (text : List ℕ) → us ≡ ts → (SameTree i j → ⊥) → StandsFor ts d i → StandsFor ts e j → IsDocument d → IsBetween d e ops → AreWritten ts j ops os → IsTextOf text (tree_ops us os) → IsTreePatch i j text
-edits_written us ts i j d e ops os text is apart at_i at_j hd between w says = edits_between ts i j d e ops os text apart at_i at_j hd between w (subst (λ x. IsTextOf text (tree_ops x os)) is says)
-
-pub are_written : (ts : List (List ℕ)) (j : Json) (told written : Data) (ops os : List Operation) → StandsFor ts told j → StandsFor ts written j → AreSpellings told written ops os → AreWritten ts j ops os
-are_written ts j told written ops os tells writes alike = record { told = told; written = written; tells = tells; writes = writes; alike = alike }
-
-pub patch_readable : (text : List ℕ) (i j : Json) → IsTreePatch i j text → nesting text ≤ max_depth
-patch_readable text i j h = h.readable
+pub edits_between : (moves : Bool) (us ts : List (List ℕ)) (i j : Json) (os : List Operation) (text : List ℕ) → us ≡ ts → (SameTree i j → ⊥) → AreEdits moves ts i j os → IsTextOf text (tree_ops us os) → IsTreePatch moves i j text
+edits_between moves us ts i j os text is apart h said =
+    let (says, low) = subst (λ x. IsTextOf text (tree_ops x os)) is said in
+    record { ops = tree_ops ts os; edits = tree_edits moves ts i j os apart h; says = says; readable = low }

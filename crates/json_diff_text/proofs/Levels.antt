@@ -66,14 +66,14 @@ copies_none l d (document.move F P) plain = absurd plain
 copies_none l d (document.copy F P) plain = absurd plain
 copies_none l d (document.test P v) plain = absurd plain
 
--- what an operation of a document puts reaches so many levels at the most
+-- what an operation of a document puts reaches so many levels at the most, and it moves and copies nothing
 abbrev pub FitsHere : ℕ → Operation → Type 0
 FitsHere n (document.add P v) = length P + depth v ≤ n
 FitsHere n (document.remove P) = ⊤
 FitsHere n (document.replace P v) = length P + depth v ≤ n
 FitsHere n (document.move F P) = ⊥
 FitsHere n (document.copy F P) = ⊥
-FitsHere n (document.test P v) = ⊥
+FitsHere n (document.test P v) = ⊤
 
 abbrev pub AllFitHere : ℕ → List Operation → Type 0
 AllFitHere n [] = ⊤
@@ -101,6 +101,18 @@ patch_fits d e ops plain never =
     let low : depth e ≤ depth e = omega arith in
     all_fit l d ops plain (never false l low)
 
+fits_more : (n m : ℕ) (op : Operation) → n ≤ m → FitsHere n op → FitsHere m op
+fits_more n m (document.add P v) le low = let h : length P + depth v ≤ n = low in omega (arith, le, h)
+fits_more n m (document.remove P) le low = tt
+fits_more n m (document.replace P v) le low = let h : length P + depth v ≤ n = low in omega (arith, le, h)
+fits_more n m (document.move F P) le low = absurd low
+fits_more n m (document.copy F P) le low = absurd low
+fits_more n m (document.test P v) le low = tt
+
+pub fit_more : (n m : ℕ) (ops : List Operation) → n ≤ m → AllFitHere n ops → AllFitHere m ops
+fit_more n m [] le h = tt
+fit_more n m (op ∷ ops) le h = (fits_more n m op le h.0, fit_more n m ops le h.1)
+
 -- as trees
 fits_there : (ts : List (List ℕ)) (n m : ℕ) (op : Operation) → n ≤ m → FitsHere n op → PutsWithin m (tree_op ts op)
 fits_there ts n m (document.add P v) le low = let e = depth_is ts v in let h : length P + depth v ≤ n = low in omega (arith, le, e, h)
@@ -108,7 +120,7 @@ fits_there ts n m (document.remove P) le low = tt
 fits_there ts n m (document.replace P v) le low = let e = depth_is ts v in let h : length P + depth v ≤ n = low in omega (arith, le, e, h)
 fits_there ts n m (document.move F P) le low = absurd low
 fits_there ts n m (document.copy F P) le low = absurd low
-fits_there ts n m (document.test P v) le low = absurd low
+fits_there ts n m (document.test P v) le low = tt
 
 pub all_fit_there : (ts : List (List ℕ)) (n m : ℕ) (ops : List Operation) → n ≤ m → AllFitHere n ops → AllPutWithin m (tree_ops ts ops)
 all_fit_there ts n m [] le h = tt

@@ -1,5 +1,6 @@
 pub mod Between
 pub mod Coded
+pub mod Guarded
 pub mod Levels
 pub mod Merged
 pub mod Merges

@@ -1,5 +1,5 @@
 -- What operations leave of a document with other numbers is what they leave, with other numbers: none but a `test` compares any.
-use Rattle.std.proofs.Common.{◌≡◌, ℕ, zero, suc, List, [], ◌∷◌, Bool, true, false, Option, Some, None, option_map, option_and_then, Result, Ok, Err, Ordering, Less, Equal, Greater, if◌then◌else◌, map, refl, sym, ap, ap₂, ◌∙◌}
+use Rattle.std.proofs.Common.{◌≡◌, ℕ, zero, suc, List, [], ◌∷◌, Bool, true, false, Option, Some, None, option_map, option_and_then, Result, Ok, Err, Ordering, Less, Equal, Greater, if◌then◌else◌, map, refl, sym, ap, ap₂, ◌∙◌, subst}
 use Rattle.std.specs.Ordering.{nat_cmp, match_ordering}
 use Rattle.std.specs.Cmp.Lexicographic.{slice_cmp}
 use Rattle.serde_json.specs.Data.{Num, Data, null, boolean, number, string, array, object, Items, no_items, item, Members, no_members, member, put}
@@ -9,10 +9,12 @@ use Rattle.jsonptr.specs.Text.{Pointer}
 use Rattle.json_patch_document.specs.ChangeComputed.{insert_item, remove_item, set_item, without, segment_of, set_child, drop_child, slot_in, slot_of, put_in, take_from, pointee, after_change, front_of, last_of, after_add, after_remove, after_replace}
 use Rattle.json_patch_document.specs.Document.{IsDocument, AreDocuments, AreMembers, IsBelowMembers, IsWhole, Segment, key, place, child}
 use Rattle.json_patch_edit.specs.RunComputed.{begins, or_refused, after_move, after_copy, after_test, after_step}
+use Rattle.json_patch_document.specs.Resolve.{StandsAt}
 use Rattle.json_patch_document.specs.SameComputed.{same}
 use Rattle.json_patch_document.proofs.SameDocuments.{same-refl, same-is}
 use Rattle.json_patch_edit.proofs.StepOutcomes.{leaves_stepped, stepped_leaves, leaves_document, stands_found}
 use Rattle.json_patch_edit.proofs.Locations.{found_resolves}
+use Rattle.json_patch_edit.specs.Step.{Leaves}
 use Rattle.json_patch_laws.specs.Inverse.{ArePlain, IsPlain, NamesNoNext}
 use Rattle.json_patch_laws.specs.Run.{Accepts}
 use Rattle.json_patch_operation.specs.Operation.{Operation, add, remove, replace, move, copy, test, IsWholeOp, AreWhole}
@@ -282,11 +284,15 @@ step_accepted f d (replace P v) m h e = step_is f d (replace P v) (λ Q w g. cc)
 step_accepted f d (move F P) m h e = step_is f d (move F P) (λ Q w g. cc) ∙ ap (renumbered_end f) e
 step_accepted f d (copy F P) m h e = step_is f d (copy F P) (λ Q w g. cc) ∙ ap (renumbered_end f) e
 
+pub leaves_there : (f : Num → Num) → GivesWhole f → (d : Data) (op : Operation) (m : Data) → IsDocument d → IsWholeOp op → Leaves d op m → Leaves (renumbered f d) (renumbered_op f op) (renumbered f m)
+leaves_there f w d op m hd hv l =
+    stepped_leaves (renumbered f d) (renumbered_op f op) (renumbered f m) (document_is f w d hd) (whole_is f w op hv) (step_accepted f d op m hv (leaves_stepped d op m hd hv l))
+
 pub accepts_renumbered : (f : Num → Num) → GivesWhole f → (d e : Data) (ops : List Operation) → IsDocument d → AreWhole ops → Accepts d ops e → Accepts (renumbered f d) (map (renumbered_op f) ops) (renumbered f e)
 accepts_renumbered f w d e [] hd hv h = ap (renumbered f) h
 accepts_renumbered f w d e (op ∷ ops) hd hv (m, l, rest) = (
   renumbered f m,
-  stepped_leaves (renumbered f d) (renumbered_op f op) (renumbered f m) (document_is f w d hd) (whole_is f w op hv.0) (step_accepted f d op m hv.0 (leaves_stepped d op m hd hv.0 l)),
+  leaves_there f w d op m hd hv.0 l,
   accepts_renumbered f w m e ops (leaves_document d op m hd hv.0 l) hv.1 rest,
 )
 
@@ -316,10 +322,45 @@ plain_op f d (test P v) h = absurd h
 
 pub plain_renumbered : (f : Num → Num) → GivesWhole f → (d : Data) (ops : List Operation) → IsDocument d → AreWhole ops → ArePlain d ops → ArePlain (renumbered f d) (map (renumbered_op f) ops)
 plain_renumbered f w d [] hd hv h = tt
-plain_renumbered f w d (op ∷ ops) hd hv (m, plain, l, rest) =
-    let stepped : after_step (renumbered f d) (renumbered_op f op) ≡ Ok (renumbered f m) = step_accepted f d op m hv.0 (leaves_stepped d op m hd hv.0 l) in (
-      renumbered f m,
-      plain_op f d op plain,
-      stepped_leaves (renumbered f d) (renumbered_op f op) (renumbered f m) (document_is f w d hd) (whole_is f w op hv.0) stepped,
-      plain_renumbered f w m ops (leaves_document d op m hd hv.0 l) hv.1 rest,
-    )
+plain_renumbered f w d (op ∷ ops) hd hv (m, plain, l, rest) = (
+  renumbered f m,
+  plain_op f d op plain,
+  leaves_there f w d op m hd hv.0 l,
+  plain_renumbered f w m ops (leaves_document d op m hd hv.0 l) hv.1 rest,
+)
+
+-- ---- and back, where none compares
+
+end_back : (f : Num → Num) (o : Result Data PatchErrorKind) (n : Data) → renumbered_end f o ≡ Ok n → (m : Data) × (o ≡ Ok m) × (renumbered f m ≡ n)
+end_back f (Ok m) n e = let same : renumbered f m ≡ n = cc in (m, refl, same)
+end_back f (Err kind) n e = cc
+
+pub stands_there : (f : Num → Num) (d : Data) (P : Pointer) (v : Data) → StandsAt d P v → StandsAt (renumbered f d) P (renumbered f v)
+stands_there f d P v h = found_resolves (renumbered f d) P (renumbered f v) (pointee_is f d P ∙ ap (option_map (renumbered f)) (stands_found d P v h))
+
+names_back : (f : Num → Num) (d : Data) (P : Pointer) → NamesNoNext (renumbered f d) P → NamesNoNext d P
+names_back f d P n front rest ds split stands = n front rest (renumbered_items f ds) split (stands_there f d front (array ds) stands)
+
+op_back : (f : Num → Num) (d : Data) (op : Operation) → IsPlain (renumbered f d) (renumbered_op f op) → IsPlain d op
+op_back f d (add P v) h = names_back f d P h
+op_back f d (remove P) h = names_back f d P h
+op_back f d (replace P v) h = names_back f d P h
+op_back f d (move F P) h = absurd h
+op_back f d (copy F P) h = absurd h
+op_back f d (test P v) h = absurd h
+
+no_test : (f : Num → Num) (d : Data) (op : Operation) → IsPlain (renumbered f d) (renumbered_op f op) → (P : Pointer) (v : Data) → op ≡ test P v → ⊥
+no_test f d (add Q w) h P v e = cc
+no_test f d (remove Q) h P v e = cc
+no_test f d (replace Q w) h P v e = cc
+no_test f d (move F Q) h P v e = absurd h
+no_test f d (copy F Q) h P v e = absurd h
+no_test f d (test Q w) h P v e = absurd h
+
+pub plain_back : (f : Num → Num) → GivesWhole f → (d : Data) (ops : List Operation) → IsDocument d → AreWhole ops → ArePlain (renumbered f d) (map (renumbered_op f) ops) → ArePlain d ops
+plain_back f w d [] hd hv h = tt
+plain_back f w d (op ∷ ops) hd hv (n, plain, l, rest) =
+    let there = leaves_stepped (renumbered f d) (renumbered_op f op) n (document_is f w d hd) (whole_is f w op hv.0) l in
+    let (m, stepped, same) = end_back f (after_step d op) n (sym (step_is f d op (no_test f d op plain)) ∙ there) in
+    let left = stepped_leaves d op m hd hv.0 stepped in
+    (m, op_back f d op plain, left, plain_back f w m ops (leaves_document d op m hd hv.0 left) hv.1 (subst (λ x. ArePlain x (map (renumbered_op f) ops)) (sym same) rest))

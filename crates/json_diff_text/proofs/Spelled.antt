@@ -75,7 +75,7 @@ fits_renumbered f n (document.remove P) low = tt
 fits_renumbered f n (document.replace P v) low = let e = depth_same f v in let h : length P + depth v ≤ n = low in omega (arith, e, h)
 fits_renumbered f n (document.move F P) low = absurd low
 fits_renumbered f n (document.copy F P) low = absurd low
-fits_renumbered f n (document.test P v) low = absurd low
+fits_renumbered f n (document.test P v) low = tt
 
 fits_back : (f : Num → Num) (n : ℕ) (op : Operation) → FitsHere n (renumbered_op f op) → FitsHere n op
 fits_back f n (document.add P v) low = let e = depth_same f v in let h : length P + depth (renumbered f v) ≤ n = low in omega (arith, e, h)
@@ -83,7 +83,7 @@ fits_back f n (document.remove P) low = tt
 fits_back f n (document.replace P v) low = let e = depth_same f v in let h : length P + depth (renumbered f v) ≤ n = low in omega (arith, e, h)
 fits_back f n (document.move F P) low = absurd low
 fits_back f n (document.copy F P) low = absurd low
-fits_back f n (document.test P v) low = absurd low
+fits_back f n (document.test P v) low = tt
 
 all_renumbered : (f : Num → Num) (n : ℕ) (ops : List Operation) → AllFitHere n ops → AllFitHere n (map (renumbered_op f) ops)
 all_renumbered f n [] h = tt

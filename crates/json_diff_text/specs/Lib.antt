@@ -1,4 +1,5 @@
 pub mod Differences
+pub mod Edits
 pub mod Faults
 pub mod Merges
 pub mod Numerals

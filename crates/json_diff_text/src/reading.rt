@@ -1,4 +1,4 @@
-//! What a text says.
+//! What a text says, and how deep it nests.
 
 ghost use Rattle.std.specs.Prelude.{◌≤◌, IfErr, IfOk};
 ghost use Rattle.json.specs.Json.{max_depth};
@@ -31,5 +31,29 @@ pub(crate) fn read<'a>(
         Ok(value) => Ok(value),
         Err(Error::Invalid) => Err(TextFault::NotJson),
         Err(_) => Err(TextFault::Memory(AllocError)),
+    }
+}
+
+/// How many levels the value has: one for each array or object around its innermost value.
+#[cycle(levels)]
+pub(crate) fn levels(value: &Value) -> usize
+    ensures { result ≤ depth (value_view value.now) }
+{
+    match value {
+        Value::Array(items) => {
+            let mut most = 0;
+            for item in items {
+                most = levels(item).max(most);
+            }
+            most.saturating_add(1)
+        }
+        Value::Object(members) => {
+            let mut most = 0;
+            for (_name, member) in members {
+                most = levels(member).max(most);
+            }
+            most.saturating_add(1)
+        }
+        _ => 0,
     }
 }

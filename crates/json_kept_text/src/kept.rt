@@ -1,6 +1,6 @@
 //! A text that is kept.
 
-ghost use Rattle.std.specs.Prelude.{◌≡◌, ◌≤◌, ◌↔◌, [], IfErr, IfOk, IfSome, IsFalse, IsSomeAnd, IsTrue, IsUtf8, MatchOption, None, OnErr, OnOk, Some, length, max, option_map};
+ghost use Rattle.std.specs.Prelude.{◌≡◌, ◌≤◌, ◌↔◌, [], IfErr, IfOk, IfSome, IsFalse, IsSomeAnd, IsTrue, IsUtf8, IfNone, MatchOption, None, OnErr, OnOk, Some, length, max, option_map};
 ghost use Rattle.std.specs.String.{string_bytes};
 ghost use Rattle.json.specs.Json.{Json, max_depth};
 ghost use Rattle.json_diff_text.specs.Differences.{IsFewBetween, IsPlainPatch, SaySame, most_levels};
@@ -8,31 +8,34 @@ ghost use Rattle.json_kept_text.specs.Faults.{IsMergeLimitFault, IsNoWayTo, IsUn
 ghost use Rattle.json_kept_text.specs.Kept.{IsReadable, opened};
 ghost use Rattle.json_lexemes.specs.Skipped.{nesting};
 ghost use Rattle.json_lexemes.specs.Spelled.{Says};
-ghost use Rattle.json_merge_text.specs.Merged.{IsMergedAlready, IsMergedText, SaysMerged};
+ghost use Rattle.json_merge_text.specs.Merged.{IsMergeOver, IsMergeTextFault, IsMergedAlready, IsMergedText, SaysMerged};
 ghost use Rattle.json_merge_text.specs.Merged.{most_bytes as merged_bytes};
 ghost use Rattle.json_patch_text.specs.Operations.{SaysOperations};
 ghost use Rattle.json_patch_text.specs.Patched.{AcceptsPatch, IsPatchedText};
 ghost use Rattle.json_patch_text.specs.Shallow.{IsNeverTooDeep};
 ghost use Rattle.json_patch_text.specs.WayBack.{IsRecordLimitFault, IsRecorded, IsRecordedWithin, IsUndoWithin};
 ghost use Rattle.json_patch_text.specs.Within.{IsPatchedWithin, IsTextLimitFault, IsTextWithin, most_bytes};
+ghost use Rattle.json_pieces.specs.Whole.{ArePieces, text_of};
 ghost use Rattle.json_text.specs.Checked.{text_in};
 ghost use Rattle.json_text.specs.Pointed.{IsWrittenAt, tree_at};
 ghost use Rattle.jsonptr.specs.Pointers.{tokens_of};
 
+use crate::before::Before;
 use crate::fault::MergeLimitFault;
 use json_diff_text::{DiffTextFault, diff_text};
-use json_merge_text::{MergeTextFault, merge_text_within};
+use json_merge_text::{MergeTextFault, merge_checked_within};
 use json_patch_limits::limits::Limits;
-use json_patch_text::{Recorded, TextLimitFault, patch_text_within, record_text_within};
+use json_patch_text::{TextLimitFault, patch_pieces, record_pieces};
+use json_pieces::Pieces;
 use json_text::{CheckedText, TextFault, is_deeper};
 use jsonptr::Pointer;
 use std::alloc::{AllocError, Global};
 use std::marker::Model;
 
-/// The text before the last change, and the text of the patch that leads back there.
+/// What takes back the last change, beside the pieces: the text of the patch that leads back.
 #[derive(Drop)]
 struct Past {
-    before: String,
+    before: Before,
     inverse: String,
 }
 
@@ -58,7 +61,7 @@ struct Past {
 /// ```
 #[derive(Drop)]
 pub struct KeptText {
-    text: String,
+    pieces: Pieces<'static>,
     limits: Limits,
     last: Option<Past>,
 }
@@ -118,9 +121,9 @@ impl KeptText {
         ensures readable { OnOk result (IsReadable limits text.now) }
         ensures fault { IfErr result (IsUnkept limits text.now) }
     {
-        checked(alloc, text, limits)?;
+        let text = checked(alloc, text, limits)?;
         Ok(KeptText {
-            text: String::from_str(alloc, text)?,
+            pieces: Pieces::owned(alloc, text)?,
             limits,
             last: None,
         })
@@ -152,8 +155,8 @@ impl KeptText {
         ensures fault { IfErr result (IsTextLimitFault self.old.limits self.old.text patch.now) }
         ensures unchanged { OnErr result (self.new ≡ self.old) }
     {
-        let new = patch_text_within(alloc, self.text.as_str(), patch, self.limits)?;
-        self.text = new;
+        patch_pieces(alloc, &mut self.pieces, patch, self.limits)?;
+        self.pieces.forget();
         self.last = None;
         Ok(())
     }
@@ -183,14 +186,37 @@ impl KeptText {
         ensures fault { IfErr result (IsRecordLimitFault self.old.limits self.old.text patch.now) }
         ensures unchanged { OnErr result (self.new ≡ self.old) }
     {
-        let made = record_text_within(alloc, self.text.as_str(), patch, self.limits)?;
-        let Recorded { text, undo } = made;
-        let before = std::mem::replace(&mut self.text, text);
-        self.last = Some(Past {
-            before,
-            inverse: undo,
-        });
+        let before = Before::of(self);
+        let inverse = record_pieces(alloc, &mut self.pieces, patch, self.limits)?;
+        self.last = Some(Past { before, inverse });
         Ok(())
+    }
+
+    /// The pieces of the text with the merge patch merged in; `None` where that is too long.
+    fn merged(&self, alloc: Global, patch: &str) -> Result<Option<Pieces<'static>>, MergeTextFault>
+        requires { nesting patch.now ≤ self.now.limits.depth }
+        ensures pieces { IfOk result (λ found. IfSome found (λ new. ArePieces new)) }
+        ensures merged { IfOk result (λ found. IfSome found
+            (λ new. SaysMerged self.now.text patch.now (text_of new))) }
+        ensures already { IfOk result (λ found. IfSome found (λ new.
+            IsMergedAlready self.now.text patch.now → text_of new ≡ self.now.text)) }
+        ensures kept { IfOk result (λ found. IfSome found
+            (λ new. IsMergedText self.now.text patch.now (text_of new))) }
+        ensures small { IfOk result (λ found. IfSome found (λ new.
+            length (text_of new) ≤ merged_bytes self.now.limits.copied self.now.text patch.now)) }
+        ensures readable { IfOk result (λ found. IfSome found
+            (λ new. IsReadable self.now.limits (text_of new))) }
+        ensures over { IfOk result (λ found. IfNone found
+            (IsMergeOver self.now.limits.copied self.now.text patch.now)) }
+        ensures fault { IfErr result (IsMergeTextFault self.now.text patch.now) }
+    {
+        let text = self.pieces.to_text(alloc)?;
+        let text = CheckedText::known(text.as_str());
+        let Some(new) = merge_checked_within(alloc, text, patch, self.limits.copied)? else {
+            return Ok(None);
+        };
+        let new = CheckedText::known(new.as_str());
+        Ok(Some(Pieces::owned(alloc, new)?))
     }
 
     /// The text with the merge patch merged in (RFC 7396), as `json_merge_text::merge_text_within` makes it,
@@ -222,10 +248,9 @@ impl KeptText {
         if is_deeper(patch, self.limits.depth) {
             return Err(MergeLimitFault::Merge(MergeTextFault::Patch(TextFault::TooDeep)));
         }
-        let made = merge_text_within(alloc, self.text.as_str(), patch, self.limits.copied)?;
-        match made {
-            Some(new) => {
-                self.text = new;
+        match self.merged(alloc, patch)? {
+            Some(pieces) => {
+                self.pieces = pieces;
                 self.last = None;
                 Ok(())
             }
@@ -243,11 +268,10 @@ impl KeptText {
         ensures readable { IsReadable self.new.limits self.new.text }
         ensures unchanged { IsFalse result → self.new ≡ self.old }
     {
-        let Some(past) = self.last.take() else {
+        if self.last.take().is_none() {
             return false;
-        };
-        let Past { before, inverse: _ } = past;
-        self.text = before;
+        }
+        self.pieces.take_back();
         true
     }
 
@@ -274,37 +298,35 @@ impl KeptText {
     }
 
     /// The text of the value where the pointer leads (RFC 6901), as it is written; `None` where nothing stands
-    /// there. Of several members of one name the last is meant.
+    /// there. Of several members of one name the last is meant. The objects and arrays on the way are opened,
+    /// so that a second look, or a change there, doesn't take the time of their text.
     ///
     /// ```rust
-    /// let kept = KeptText::new(alloc, r#"{"list": [1.50, 2] }"#, limits)?;
+    /// let mut kept = KeptText::new(alloc, r#"{"list": [1.50, 2] }"#, limits)?;
     /// let array = kept.value(alloc, place)?;
     /// // [1.50, 2]
     /// ```
-    pub fn value(&self, alloc: Global, pointer: Pointer) -> Result<Option<String>, AllocError>
-        ensures { IfOk result (λ found. (j : Json) × Says self.now.text j
+    pub fn value(&mut self, alloc: Global, pointer: Pointer) -> Result<Option<String>, AllocError>
+        ensures value { IfOk result (λ found. (j : Json) × Says self.old.text j
             × MatchOption found (tree_at (tokens_of pointer.entry) j ≡ None)
-            (λ s. IsWrittenAt self.now.text j (tokens_of pointer.entry) (string_bytes s))) }
+            (λ s. IsWrittenAt self.old.text j (tokens_of pointer.entry) (string_bytes s))) }
+        ensures unchanged { self.new ≡ self.old }
     {
-        let text = CheckedText::known(self.text.as_str());
-        match text.value(alloc, pointer)? {
-            Some(value) => Ok(Some(String::from_str(alloc, value.as_str())?)),
-            None => Ok(None),
-        }
+        self.pieces.value(alloc, pointer)
     }
 
     /// The text.
     pub fn to_text(&self, alloc: Global) -> Result<String, AllocError>
         ensures text { IfOk result (λ s. string_bytes s ≡ self.now.text) }
     {
-        String::from_str(alloc, self.text.as_str())
+        self.pieces.to_text(alloc)
     }
 
     /// How many bytes the text has.
     pub fn len(&self) -> usize
         ensures { result ≡ length self.now.text }
     {
-        self.text.as_str().len()
+        self.pieces.len()
     }
 
     /// The limits that it was given: the text is JSON within them.
@@ -343,6 +365,7 @@ impl KeptText {
         if is_deeper(to, self.limits.depth) {
             return Err(DiffTextFault::To(TextFault::TooDeep));
         }
-        diff_text(alloc, self.text.as_str(), to)
+        let text = self.pieces.to_text(alloc)?;
+        diff_text(alloc, text.as_str(), to)
     }
 }

@@ -6,6 +6,7 @@
 //! `json_merge_text` and `json_diff_text`.
 #![tactic(auto)]
 
+mod before;
 mod fault;
 mod kept;
 

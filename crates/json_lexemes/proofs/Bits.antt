@@ -79,6 +79,12 @@ test_mod : (k n i : ℕ) → i < k → test (n % 2 ^ k) i ≡ test n i
 unfolding test
 test_mod k n i h = ap (λ m. m == 1) (sym (bit_at_cat_low (n / 2 ^ k) k (n % 2 ^ k) i h) ∙ ap (λ m. bit_at m i) (split n k))
 
+pub test_down : (x k j : ℕ) → test (x / 2 ^ k) j ≡ test x (k + j)
+unfolding test
+test_down x k j =
+    let back : k + j - k ≡ j = omega arith in
+    ap (λ m. m == 1) (sym (ap (bit_at (x / 2 ^ k)) back) ∙ sym (bit_at_cat_high (x / 2 ^ k) k (x % 2 ^ k) (k + j) (mod-lt x (pow_pos k)) (omega arith)) ∙ ap (λ m. bit_at m (k + j)) (split x k))
+
 pub shifted_high : (k j y : ℕ) → k + j < 64 → test (shifted k y) (k + j) ≡ test y j
 unfolding test
 shifted_high k j y h =

@@ -1,14 +1,14 @@
 -- Brackets counted along a block, byte by byte and by masks.
-use Rattle.std.proofs.Common.{◌≡◌, ◌⊎◌, ℕ, zero, suc, ◌+◌, ◌<◌, ◌≤◌, Bool, true, false, cond, ◌==◌, List, ◌∷◌, length, drop, get_or, inl, inr, refl, sym, ap, ◌∙◌, subst, arith, add-zero}
+use Rattle.std.proofs.Common.{◌≡◌, ◌⊎◌, ℕ, zero, suc, ◌+◌, ◌<◌, ◌≤◌, Bool, true, false, cond, ◌==◌, max, List, ◌∷◌, length, drop, get_or, inl, inr, refl, sym, ap, ◌∙◌, subst, arith, add-zero}
 use Rattle.std.proofs.lemmas.Bool.{cases_Bool}
 use Rattle.json.specs.Text.{content, plain}
 use Rattle.json.specs.Word.{is_operator, is_space, word}
 use Rattle.json.specs.Lex.{Lexeme, token, string_token, operator_lexeme, Class, quote, backslash, operator, space, other, class, Mode, between, in_word, in_string, in_escape, lex, lex_byte}
 use Rattle.json_lexemes.specs.Lexing.{next_mode}
-use Rattle.json_lexemes.specs.Skipped.{depth_after, if_open, skip}
+use Rattle.json_lexemes.specs.Skipped.{depth_after, if_open, most_open, skip}
 use Rattle.json_lexemes.specs.Places.{mode_at, depth_by}
 use Rattle.json_lexemes.specs.Blocks.{is_outside, mode_along, open_along}
-use Rattle.json_lexemes.proofs.Steps.{drop_step, mode_step, operator_class, operator_opens, flat_byte, flat_word, string_depth}
+use Rattle.json_lexemes.proofs.Steps.{drop_step, mode_step, most_least, operator_class, operator_opens, flat_byte, flat_word, string_depth}
 use Rattle.json_lexemes.proofs.Runs.{passes_lexeme}
 
 -- ---- one byte
@@ -63,6 +63,33 @@ byte_skips in_string space x xs n h = refl
 byte_skips in_string other x xs n h = refl
 byte_skips in_escape c x xs n h = refl
 
+-- how many brackets are open at the most, behind a byte that isn't a lexeme's first, and behind one that is
+none_more : (n k : ℕ) (ls : List Lexeme) → k ≡ n → most_open n ls ≡ max n (most_open k ls)
+none_more n k ls e = let a = most_least n ls in let b = ap (λ d. most_open d ls) e in omega (arith, a, b)
+
+lexeme_more : (n k : ℕ) (l : Lexeme) (ls : List Lexeme) → depth_after n l ≡ k → most_open n (l ∷ ls) ≡ max n (most_open k ls)
+unfolding most_open
+lexeme_more n k l ls e = ap (λ d. max n (most_open d ls)) e
+
+byte_more : (m : Mode) (c : Class) (x : ℕ) (xs : List ℕ) (n : ℕ) → Counts c x
+    → most_open n (lex_byte m c x xs (λ k. lex k xs)) ≡ max n (most_open (cond (is_outside m) (depth_by n x) n) (lex (next_mode m c) xs))
+byte_more between quote x xs n h = lexeme_more n _ (token (string_token (content plain xs))) (lex in_string xs) (string_depth n (content plain xs) ∙ sym (h n))
+byte_more between backslash x xs n h = lexeme_more n _ _ (lex in_word xs) (sym (h n))
+byte_more between operator x xs n h = lexeme_more n _ (operator_lexeme x) (lex between xs) (h n)
+byte_more between space x xs n h = none_more n _ (lex between xs) (h n)
+byte_more between other x xs n h = lexeme_more n _ (token (word (x ∷ xs))) (lex in_word xs) ((flat_word (x ∷ xs)).stays n ∙ sym (h n))
+byte_more in_word quote x xs n h = none_more n _ (lex in_word xs) (h n)
+byte_more in_word backslash x xs n h = none_more n _ (lex in_word xs) (h n)
+byte_more in_word operator x xs n h = lexeme_more n _ (operator_lexeme x) (lex between xs) (h n)
+byte_more in_word space x xs n h = none_more n _ (lex between xs) (h n)
+byte_more in_word other x xs n h = none_more n _ (lex in_word xs) (h n)
+byte_more in_string quote x xs n h = none_more n n (lex between xs) refl
+byte_more in_string backslash x xs n h = none_more n n (lex in_escape xs) refl
+byte_more in_string operator x xs n h = none_more n n (lex in_string xs) refl
+byte_more in_string space x xs n h = none_more n n (lex in_string xs) refl
+byte_more in_string other x xs n h = none_more n n (lex in_string xs) refl
+byte_more in_escape c x xs n h = none_more n n (lex in_string xs) refl
+
 -- ---- several bytes
 
 positive_skips : (n : ℕ) (ls : List Lexeme) → 0 < n → Skipped n ls ≡ skip n ls
@@ -99,6 +126,27 @@ module _ (t : List ℕ) (at : ℕ) (m : Mode) where
       along_skips n i (omega arith) p
       ∙ one_skips i (open_along t at m n i) h (p i (omega arith))
       ∙ ap (λ d. Skipped d (lex (mode_along t at m (suc i)) (drop (at + suc i) t))) e
+
+  one_more : (i n : ℕ) → at + i < length t
+      → most_open n (lex (mode_along t at m i) (drop (at + i) t))
+      ≡ max n (most_open (cond (is_outside (mode_along t at m i)) (depth_by n (get_or t (at + i) 0)) n) (lex (mode_along t at m (suc i)) (drop (at + suc i) t)))
+  unfolding lex mode_along
+  one_more i n h =
+      let x = get_or t (at + i) 0 in
+      let next : at + i + 1 ≡ at + suc i = omega arith in
+      ap (λ l. most_open n (lex (mode_along t at m i) l)) (drop_step t (at + i) h ∙ ap (λ k. x ∷ drop k t) next)
+      ∙ byte_more (mode_along t at m i) (class x) x (drop (at + suc i) t) n (byte_counts x)
+
+  -- while no more than `most` are open
+  pub along_most : (n most i : ℕ) → at + i ≤ length t → ((j : ℕ) → j ≤ i → open_along t at m n j ≤ most)
+      → max most (most_open n (lex m (drop at t))) ≡ max most (most_open (open_along t at m n i) (lex (mode_along t at m i) (drop (at + i) t)))
+  unfolding mode_along open_along
+  along_most n most zero h p = ap (λ k. max most (most_open n (lex m (drop k t)))) (sym (add-zero at))
+  along_most n most (suc i) h p =
+      let a = along_most n most i (omega arith) (λ j le. p j (omega arith)) in
+      let b = one_more i (open_along t at m n i) (omega arith) in
+      let c = p i (omega arith) in
+      omega (arith, a, b, c)
 
   pub along_mode : (i : ℕ) → at + i ≤ length t → mode_at t at ≡ m → mode_at t (at + i) ≡ mode_along t at m i
   unfolding mode_along

@@ -18,6 +18,10 @@ use Rattle.json_lexemes.proofs.Ended.{here, string_spells}
 pub whole_begins : (t : List ℕ) (n m : ℕ) (os : List Bool) (i k : ℕ) → m ≤ n → Spells t m i k → Completes n os (left_at t k) → Begins n os (left_at t i)
 whole_begins t n m os i k h s c = (s.0, left_at t k, s.1, omega (arith, s.2, h), c)
 
+-- whitespace before it aside
+pub spells_from : (t : List ℕ) (n p i k : ℕ) → left_at t p ≡ left_at t i → Spells t n p k → Spells t n i k
+spells_from t n p i k a s = (s.0, sym a ∙ s.1, s.2)
+
 pub opens_begins : (t : List ℕ) (n : ℕ) (o : Bool) (os : List Bool) (i k : ℕ) → Opens t o i k → Begins n (o ∷ os) (left_at t k) → Begins (suc n) os (left_at t i)
 opens_begins t n true os i k (ls, e, (s, f)) (j, rest, g, d, (after, (ms, h, md), c)) = (
   object (member s j ms),
@@ -63,6 +67,10 @@ pub named_by : (t : List ℕ) (i k : ℕ) (r : Option ℕ) → i < length t → 
 named_by t i k None h q l c a = tt
 named_by t i k (Some m) h q l c a = let s = string_spells t i k h q l c in (s.0, s.1 ∙ ap (λ ls. token (tokens.string s.0) ∷ ls) a)
 
+pub named_from : (t : List ℕ) (from i : ℕ) (r : Option ℕ) → left_at t i ≡ left_at t from → IfSome r (λ m. Named true (left_at t i) (left_at t m)) → IfSome r (λ m. Named true (left_at t from) (left_at t m))
+named_from t from i None e h = tt
+named_from t from i (Some m) e h = (h.0, sym e ∙ h.1)
+
 -- an opening bracket, read with a space past the end
 pub record Bracket (t : List ℕ) (i c : ℕ) : Type 0 where
   pub here : i < length t
@@ -90,8 +98,8 @@ empty_whole t room i k c x r b l e f o =
     subst (λ n. Spells t n i (k + 1)) (sym (ap (λ y. cond y 1 0) r))
     (empty_spells t (c == 123) i (k + 1) (opening_left t i k b.here b.either l ∙ ap₂ (λ y ls. opening y ∷ ls) (sym b.same) closes))
 
-pub opens_by : (t : List ℕ) (i k m c : ℕ) → Bracket t i c → left_at t k ≡ left_at t (i + 1) → Named (c == 123) (left_at t k) (left_at t m) → Opens t (get_or t i 0 == 123) i m
-opens_by t i k m c b l n = (left_at t k, opening_left t i k b.here b.either l, subst (λ y. Named y (left_at t k) (left_at t m)) b.same n)
+pub opens_by : (t : List ℕ) (i p k m c : ℕ) → left_at t p ≡ left_at t i → Bracket t p c → left_at t k ≡ left_at t (p + 1) → Named (c == 123) (left_at t k) (left_at t m) → Opens t (c == 123) i m
+opens_by t i p k m c a b l n = (left_at t k, sym a ∙ opening_left t p k b.here b.either l ∙ ap (λ y. opening y ∷ left_at t k) (sym b.same), n)
 
 -- ---- the brackets that are open
 
@@ -117,14 +125,13 @@ closing_on t os n d m i k h le e c =
     let more : n + (d - (m - 1)) ≡ suc (n + (d - m)) = omega arith in
     subst (λ l. Completes (n + (d - m)) l (left_at t i)) (sym (innermost-last os m h)) (closing_completes t _ _ _ i k e (subst (λ r. Completes r (innermost os (m - 1)) (left_at t k)) more c))
 
-pub opens_on : (t : List ℕ) (os : List Bool) (most d i k : ℕ) → d < most → d < length os → Opens t (get_or t i 0 == 123) i k → Begins (most - (d + 1)) (innermost (set os d (get_or t i 0 == 123)) (d + 1)) (left_at t k)
-    → Begins (most - d) (innermost os d) (left_at t i)
-opens_on t os most d i k h room o b =
+pub opens_on : (t : List ℕ) (os : List Bool) (o : Bool) (most d i k : ℕ) → d < most → d < length os → Opens t o i k → Begins (most - (d + 1)) (innermost (set os d o) (d + 1)) (left_at t k) → Begins (most - d) (innermost os d) (left_at t i)
+opens_on t os o most d i k h room p b =
     let one : d + 1 ≡ suc d = omega arith in
     let more : most - d ≡ suc (most - suc d) = omega arith in
-    let push = ap (innermost (set os d (get_or t i 0 == 123))) one ∙ innermost-push os d (get_or t i 0 == 123) room in
+    let push = ap (innermost (set os d o)) one ∙ innermost-push os d o room in
     subst (λ m. Begins m (innermost os d) (left_at t i)) (sym more)
-    (opens_begins t (most - suc d) (get_or t i 0 == 123) (innermost os d) i k o (subst (λ m. Begins (most - m) ((get_or t i 0 == 123) ∷ innermost os d) (left_at t k)) one (subst (λ l. Begins (most - (d + 1)) l (left_at t k)) push b)))
+    (opens_begins t (most - suc d) o (innermost os d) i k p (subst (λ m. Begins (most - m) (o ∷ innermost os d) (left_at t k)) one (subst (λ l. Begins (most - (d + 1)) l (left_at t k)) push b)))
 
 pub room_for : (d most : ℕ) → cond (nat_lt d most) 1 0 ≤ most - d
 room_for d most = by_order (cases_lt d most)

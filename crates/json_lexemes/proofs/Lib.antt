@@ -23,3 +23,4 @@ pub mod Nests
 pub mod Ended
 pub mod Completed
 pub mod Wide
+mod Seen

@@ -38,7 +38,7 @@ not_behind_next bits others first i h =
 
 -- ---- bytes that no word goes on behind
 
-pub opening_ends : (x : ℕ) → is_opening x ≡ true → is_of_word x ≡ false
+opening_ends : (x : ℕ) → is_opening x ≡ true → is_of_word x ≡ false
 opening_ends x h = by_byte (or_cases (x == 123) (x == 91) h)
   where
     by_byte : ((x == 123) ≡ true) ⊎ ((x == 91) ≡ true) → is_of_word x ≡ false

@@ -1,24 +1,24 @@
 -- A block is passed by its masks as by its bytes.
-use Rattle.std.proofs.Common.{◌≡◌, ◌≢◌, ℕ, zero, suc, ◌+◌, ◌-◌, ◌<◌, ◌≤◌, ◌^◌, Bool, true, false, cond, ◌&&◌, ◌||◌, ◌==◌, ◌⊎◌, inl, inr, List, length, drop, get_or, refl, sym, ap, ap₂, ◌∙◌, subst, arith}
+use Rattle.std.proofs.Common.{◌≡◌, ◌≢◌, ℕ, zero, suc, ◌+◌, ◌-◌, ◌<◌, ◌≤◌, ◌^◌, Bool, true, false, cond, max, ◌&&◌, ◌||◌, ◌==◌, ◌⊎◌, inl, inr, List, length, drop, get_or, refl, sym, ap, ap₂, ◌∙◌, subst, arith}
 use Rattle.std.proofs.lemmas.Bool.{or_parts, true≢false, or_cases, eqb-true, cases_lt, lt-ltb, le-ltb}
 use lib.Count.{ones}
 use Rattle.json.specs.Word.{is_operator}
 use Rattle.json.specs.Lex.{Class, operator, class, Mode, between, in_word, in_string, in_escape, lex}
 use Rattle.json.specs.Scan.{test}
 use Rattle.json_lexemes.specs.Lexing.{next_mode}
-use Rattle.json_lexemes.specs.Skipped.{one_less, skip}
+use Rattle.json_lexemes.specs.Skipped.{one_less, most_open, skip}
 use Rattle.json_lexemes.specs.Places.{mode_at, left_at, depth_by}
 use Rattle.json_lexemes.specs.Runs.{is_of_word, goes_on, mode_of, run_mode}
 use Rattle.json_lexemes.specs.Blocks.{is_string_mark, is_opening, is_closing, is_outside, mode_along, open_along, mode_by, carried, HasBrackets, open_by, StaysOpen}
 use Rattle.json_lexemes.proofs.Bits.{set_below, ones_below, below_within}
-use Rattle.json_lexemes.proofs.Steps.{operator_class, string_passes, string_mode}
-use Rattle.json_lexemes.proofs.Masked.{neither, opening_ends}
+use Rattle.json_lexemes.proofs.Steps.{each_operator, operator_class, string_passes, string_mode}
+use Rattle.json_lexemes.proofs.Masked.{neither}
 use Rattle.json_lexemes.proofs.Wide.{free_along}
 use Rattle.json_lexemes.specs.Grammar.{IsFree}
 use Rattle.std.proofs.lemmas.Simd.{get_or-chunk}
 use lib.Bits.{bit_or}
 use lib.Lanes.{chunk}
-use Rattle.json_lexemes.proofs.Blocks.{along_skips, along_closes}
+use Rattle.json_lexemes.proofs.Blocks.{along_skips, along_closes, along_most}
 
 -- ---- counts
 
@@ -57,6 +57,12 @@ total_step false true zero n a b p h e = let never : ⊥ = omega (arith, p) in a
 total_step false true (suc d) n a b p h e = omega (arith, e)
 total_step false false d n a b p h e = omega (arith, e)
 
+most_step : (o s : Bool) (d n a : ℕ) → d ≤ n + a → cond o (suc d) (cond s (one_less d) d) ≤ n + (a + cond o 1 0)
+most_step true s d n a h = omega (arith, h)
+most_step false true zero n a h = omega (arith, h)
+most_step false true (suc d) n a h = omega (arith, h)
+most_step false false d n a h = omega (arith, h)
+
 module _ (o s n : ℕ) where
   count_least : (i : ℕ) → n ≤ open_by o s n i + set_below s i
   unfolding open_by set_below
@@ -66,6 +72,11 @@ module _ (o s n : ℕ) where
   -- too few close to close the last
   pub few_close : s < 2 ^ 64 → ones s < n → StaysOpen o s n 64
   few_close small few j l = let a = count_least j in let b = below_within s j 64 l in let e = ones_below 64 s small in omega (arith, a, b, e, few)
+
+  count_most : (i : ℕ) → open_by o s n i ≤ n + set_below o i
+  unfolding open_by set_below
+  count_most zero = omega arith
+  count_most (suc i) = most_step (test o i) (test s i) (open_by o s n i) n (set_below o i) (count_most i)
 
   counted : (i : ℕ) → i ≤ 64 → StaysOpen o s n i → ((j : ℕ) → j < 64 → (test o j && test s j) ≡ false) → open_by o s n i + set_below s i ≡ n + set_below o i
   unfolding open_by set_below
@@ -125,6 +136,18 @@ module _ (t : List ℕ) (at : ℕ) (m : Mode) (o s : ℕ) (f : HasBrackets t at 
   passes_block n p =
       along_skips t at m n 64 room (along_open n 64 (omega arith) p) ∙ ap (λ d. skip d (lex (mode_along t at m 64) (drop (at + 64) t))) (sym (same_count n 64 (omega arith)))
 
+  pub most_block : (n most : ℕ) → o < 2 ^ 64 → n + ones o ≤ most
+      → max most (most_open n (lex m (drop at t))) ≡ max most (most_open (open_by o s n 64) (lex (mode_along t at m 64) (drop (at + 64) t)))
+  most_block n most ho h =
+      along_most t at m n most 64 room
+      (λ j le.
+      let a = same_count n j le in
+      let b = count_most o s n j in
+      let c = below_within o j 64 le in
+      let d = ones_below 64 o ho in
+      omega (arith, a, b, c, d, h))
+      ∙ ap (λ k. max most (most_open k (lex (mode_along t at m 64) (drop (at + 64) t)))) (sym (same_count n 64 (omega arith)))
+
   pub total : (n : ℕ) → o < 2 ^ 64 → s < 2 ^ 64 → StaysOpen o s n 64 → open_by o s n 64 + ones s ≡ n + ones o
   total n ho hs p =
       let e = counted o s n 64 (omega arith) p (λ j h. ap₂ (λ a b. a && b) (f.opening j h) (f.closing j h) ∙ never_both _ _ _ (opening_alone (get_or t (at + j) 0))) in
@@ -166,7 +189,10 @@ other_depth x h = ap (λ b. cond b 1 (cond (is_closing x) (one_less 0) 0)) h ∙
     none true = refl
     none false = refl
 
-module _ (t : List ℕ) (from k : ℕ) (le : from ≤ k) (opening : is_opening (get_or t (from - 1) 0) ≡ true) where
+operator_ends : (x : ℕ) → is_operator x ≡ true → is_of_word x ≡ false
+operator_ends = each_operator (λ x. is_of_word x ≡ false) refl refl refl refl refl refl
+
+module _ (t : List ℕ) (from k : ℕ) (le : from ≤ k) (ends : is_operator (get_or t (from - 1) 0) ≡ true) where
   -- the byte before tells whether a word goes on, since none does at the beginning
   word_before : is_of_word (get_or t (k - 1) 0) ≡ goes_on t from k
   word_before = by_place (cases_lt from k)
@@ -175,14 +201,14 @@ module _ (t : List ℕ) (from k : ℕ) (le : from ≤ k) (opening : is_opening (
       by_place (inl l) = ap (λ b. b && is_of_word (get_or t (k - 1) 0)) (sym (lt-ltb from k l))
       by_place (inr m) =
           let same : k ≡ from = omega (arith, le, m) in
-          ap (λ j. is_of_word (get_or t (j - 1) 0)) same ∙ opening_ends (get_or t (from - 1) 0) opening ∙ sym (ap (λ b. b && is_of_word (get_or t (k - 1) 0)) (le-ltb from k m))
+          ap (λ j. is_of_word (get_or t (j - 1) 0)) same ∙ operator_ends (get_or t (from - 1) 0) ends ∙ sym (ap (λ b. b && is_of_word (get_or t (k - 1) 0)) (le-ltb from k m))
 
   pub carried_run : carried t k false false ≡ run_mode t from k
   carried_run = ap mode_of word_before
 
   pub carried_here : mode_at t from ≡ between → (k ≡ from) ⊎ (mode_at t k ≡ run_mode t from k) → mode_at t k ≡ carried t k false false
   carried_here e (inr m) = m ∙ sym carried_run
-  carried_here e (inl same) = ap (mode_at t) same ∙ e ∙ sym (ap (λ j. mode_of (is_of_word (get_or t (j - 1) 0))) same ∙ ap mode_of (opening_ends (get_or t (from - 1) 0) opening))
+  carried_here e (inl same) = ap (mode_at t) same ∙ e ∙ sym (ap (λ j. mode_of (is_of_word (get_or t (j - 1) 0))) same ∙ ap mode_of (operator_ends (get_or t (from - 1) 0) ends))
 
 -- ---- blocks that a string holds
 

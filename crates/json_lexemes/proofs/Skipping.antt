@@ -20,7 +20,7 @@ mutual
   skip-first_elements no_items n ls = refl
   skip-first_elements (item j js) n ls = ap (skip (suc n)) (append_assoc (spelled j) (more_elements js) ls) ∙ skip-spelled j (suc n) (more_elements js ++ ls) ∙ skip-more_elements js n ls
 
-  skip-more_elements : (js : Items) (n : ℕ) (ls : List Lexeme) → skip (suc n) (more_elements js ++ ls) ≡ if_open n ls (skip n ls)
+  pub skip-more_elements : (js : Items) (n : ℕ) (ls : List Lexeme) → skip (suc n) (more_elements js ++ ls) ≡ if_open n ls (skip n ls)
   skip-more_elements no_items n ls = refl
   skip-more_elements (item j js) n ls = ap (skip (suc n)) (append_assoc (spelled j) (more_elements js) ls) ∙ skip-spelled j (suc n) (more_elements js ++ ls) ∙ skip-more_elements js n ls
 

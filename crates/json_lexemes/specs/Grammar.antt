@@ -1,10 +1,11 @@
 -- What a check of a text against the grammar has passed over, and what must follow.
-use Rattle.std.specs.Prelude.{◌≡◌, ◌≤◌, ℕ, zero, suc, Bool, true, false, not, ◌||◌, ◌==◌, nat_lt, ◌<◌, List, [], ◌∷◌, ◌++◌, drop, get_or, Some}
+use Rattle.std.specs.Prelude.{◌≡◌, ◌≢◌, ◌≤◌, ◌+◌, length, ℕ, zero, suc, Bool, true, false, not, ◌||◌, ◌==◌, nat_lt, ◌<◌, List, [], ◌∷◌, ◌++◌, drop, get_or, Some}
 use Rattle.std.specs.Char.{is_ascii_digit}
 use Rattle.json.specs.Json.{Json, Items, Members}
 use Rattle.json.specs.Token as t
 use Rattle.json.specs.Text.{content, plain}
 use Rattle.json.specs.Lex.{Lexeme, token, comma, colon}
+use Rattle.json.specs.Scan.{test}
 use Rattle.json.specs.Tree.{depth, items_depth, members_depth}
 use Rattle.json_lexemes.specs.Places.{left_at}
 use Rattle.json_lexemes.specs.Spelled.{spelled, more_elements, more_members}
@@ -22,6 +23,10 @@ is_no_digit x = not (is_ascii_digit x)
 -- no byte from `from` to i passes p
 abbrev pub IsFree : (ℕ → Bool) → List ℕ → ℕ → ℕ → Type 0
 IsFree p t from i = (k : ℕ) → from ≤ k → k < i → p (get_or t k 0) ≡ false
+
+-- of the 64 bytes from `base` on the bits tell which are such; if none is set, nothing is known
+abbrev pub AreStops : List ℕ → ℕ → ℕ → Type 0
+AreStops t base bits = bits ≢ 0 → (base + 64 ≤ length t) × ((i : ℕ) → i < 64 → test bits i ≡ is_stop (get_or t (base + i) 0))
 
 -- from i on stands the inside of a string, and the quote that closes it
 abbrev pub HasContent : List ℕ → ℕ → Type 0

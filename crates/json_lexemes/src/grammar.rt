@@ -1,43 +1,46 @@
 //! A check of a whole text against the grammar of JSON, in one pass, with no recursion and no memory taken.
 
-ghost use Rattle.std.specs.Prelude.{◌≡◌, ◌<◌, ◌≤◌, ◌+◌, ◌-◌, ◌==◌, ◌∷◌, ℕ, IsTrue, [], cond, true, false, length, get_or, IfSome};
+ghost use Rattle.std.specs.Prelude.{◌≡◌, ◌<◌, ◌≤◌, ◌+◌, ◌-◌, ◌∷◌, ℕ, IsTrue, [], cond, true, false, length, IfNone, IfSome};
 ghost use Rattle.json.specs.Json.{Json};
 ghost use Rattle.json.specs.Lex.{operator_lexeme};
 ghost use Rattle.json.specs.Word.{is_operator};
 ghost use Rattle.json.specs.Tree.{depth};
 ghost use Rattle.json_lexemes.specs.Places.{left_at};
 ghost use Rattle.json_lexemes.specs.Spelled.{Says};
-ghost use Rattle.json_lexemes.specs.Grammar.{Spells, Named, Opens, Continues, Completes, Begins, closing, innermost};
+ghost use Rattle.json_lexemes.specs.Grammar.{AreStops, Spells, Named, Opens, Continues, Completes, Begins, closing, innermost};
 
 use crate::leaves::{closed_string, leaf_end};
-use crate::lexemes::{after, byte_at, whitespace_end};
+use crate::lexemes::{behind_operator, behind_quote, next_byte, whitespace_end};
+use crate::stops::Stops;
 
 /// The most objects and arrays that may be open at once.
 const MOST: usize = 128;
 
-/// The place where the value of the member begins whose name is to begin at `from`.
+/// The place behind the colon of the member whose name is to come from `from` on.
 #[inline(always)]
-fn named_value(text: &[u8], from: usize) -> Option<usize>
-    requires { from ≤ length text.now }
+fn named_value(text: &[u8], from: usize, stops: &mut Stops) -> Option<usize>
+    requires within { from ≤ length text.now }
+    requires stops { AreStops text.now stops.old.base stops.old.bits }
     ensures bounds { IfSome result (λ i. (from < i) × (i ≤ length text.now)) }
     ensures named { IfSome result (λ i. Named true (left_at text.now from) (left_at text.now i)) }
+    ensures stops { AreStops text.now stops.new.base stops.new.bits }
 {
-    if byte_at(text, from) != b'"' {
-        return None;
-    }
-    let end = closed_string(text, from + 1)?;
-    after(text, end, b':')
+    let inside = behind_quote(text, from)?;
+    let end = closed_string(text, inside, stops)?;
+    behind_operator(text, end, b':')
 }
 
-/// The place where a value begins, in an object behind its name.
+/// The place from which a value is to come, in an object behind its name.
 #[inline(always)]
-fn value_in(text: &[u8], from: usize, object: bool) -> Option<usize>
-    requires { from ≤ length text.now }
+fn value_in(text: &[u8], from: usize, object: bool, stops: &mut Stops) -> Option<usize>
+    requires within { from ≤ length text.now }
+    requires stops { AreStops text.now stops.old.base stops.old.bits }
     ensures bounds { IfSome result (λ i. (from ≤ i) × (i ≤ length text.now)) }
     ensures named { IfSome result (λ i. Named object (left_at text.now from) (left_at text.now i)) }
+    ensures stops { AreStops text.now stops.new.base stops.new.bits }
 {
     if object {
-        named_value(text, from)
+        named_value(text, from, stops)
     } else {
         Some(from)
     }
@@ -52,46 +55,57 @@ fn closing(object: bool) -> u8
     if object { b'}' } else { b']' }
 }
 
-/// The place after the value that begins at `from`, and `false`; or where the first value in it begins, and
-/// `true`, if it is an object or an array that isn't empty. `room` says whether one more may open.
+/// The place after the value that is to come from `from` on, and `None`; or, if it is an object or an array that
+/// isn't empty, the place from which the first value in it is to come, and whether it is an object. `room` says
+/// whether one more may open.
 #[inline(always)]
-fn past_begin(text: &[u8], from: usize, room: bool) -> Option<(usize, bool)>
-    requires { from ≤ length text.now }
+fn past_begin(
+    text: &[u8],
+    from: usize,
+    room: bool,
+    stops: &mut Stops,
+) -> Option<(usize, Option<bool>)>
+    requires within { from ≤ length text.now }
+    requires stops { AreStops text.now stops.old.base stops.old.bits }
     ensures bounds { IfSome result (λ r. (from < r.0) × (r.0 ≤ length text.now)) }
-    ensures whole { IfSome result (λ r. r.1 ≡ false → Spells text.now (cond room 1 0) from r.0) }
-    ensures opens { IfSome result (λ r. r.1 ≡ true → Opens text.now (get_or text.now from 0 == 123) from r.0) }
-    ensures room { IfSome result (λ r. r.1 ≡ true → room ≡ true) }
+    ensures whole { IfSome result (λ r. IfNone r.1 (Spells text.now (cond room 1 0) from r.0)) }
+    ensures opens { IfSome result (λ r. IfSome r.1 (λ object. Opens text.now object from r.0)) }
+    ensures room { IfSome result (λ r. IfSome r.1 (λ object. room ≡ true)) }
+    ensures stops { AreStops text.now stops.new.base stops.new.bits }
 {
-    let c = byte_at(text, from);
-    if c != b'{' && c != b'[' {
-        let end = leaf_end(text, from)?;
-        return Some((end, false));
+    let (start, c) = next_byte(text, from);
+    // Strings are the most.
+    if c == b'"' || (c != b'{' && c != b'[') {
+        let end = leaf_end(text, start, c, stops)?;
+        return Some((end, None));
     }
     if !room {
         return None;
     }
-    let inside = whitespace_end(text, from + 1);
-    if byte_at(text, inside) == closing(c == b'{') {
-        return Some((inside + 1, false));
+    let object = c == b'{';
+    let (inside, first) = next_byte(text, start + 1);
+    if first == closing(object) {
+        return Some((inside + 1, None));
     }
-    let first = value_in(text, inside, c == b'{')?;
-    Some((first, true))
+    let place = value_in(text, inside, object, stops)?;
+    Some((place, Some(object)))
 }
 
-/// Behind a value in an object or an array: the place where the next one begins, and `true`, or that after
-/// the closing bracket, and `false`.
+/// Behind a value in an object or an array: the place from which the next one is to come, and `true`, or that
+/// after the closing bracket, and `false`.
 #[inline(always)]
-fn past_value(text: &[u8], from: usize, object: bool) -> Option<(usize, bool)>
-    requires { from ≤ length text.now }
+fn past_value(text: &[u8], from: usize, object: bool, stops: &mut Stops) -> Option<(usize, bool)>
+    requires within { from ≤ length text.now }
+    requires stops { AreStops text.now stops.old.base stops.old.bits }
     ensures bounds { IfSome result (λ r. (from < r.0) × (r.0 ≤ length text.now)) }
     ensures next { IfSome result (λ r. r.1 ≡ true → Continues text.now object from r.0) }
     ensures closes { IfSome result (λ r. r.1 ≡ false
         → left_at text.now from ≡ closing object ∷ left_at text.now r.0) }
+    ensures stops { AreStops text.now stops.new.base stops.new.bits }
 {
-    let i = whitespace_end(text, from);
-    let c = byte_at(text, i);
+    let (i, c) = next_byte(text, from);
     if c == b',' {
-        let next = value_in(text, whitespace_end(text, i + 1), object)?;
+        let next = value_in(text, i + 1, object, stops)?;
         return Some((next, true));
     }
     if c == closing(object) {
@@ -101,23 +115,31 @@ fn past_value(text: &[u8], from: usize, object: bool) -> Option<(usize, bool)>
     }
 }
 
-/// Behind a value: past the closing brackets and a comma, the place where the next value begins and how many
-/// brackets are open there; or the place where none is any more, and 0.
+/// Behind a value: past the closing brackets and a comma, the place from which the next value is to come and how
+/// many brackets are open there; or the place where none is any more, and 0.
 #[inline(always)]
-fn past_closing(text: &[u8], from: usize, objects: &[bool], depth: usize) -> Option<(usize, usize)>
+fn past_closing(
+    text: &[u8],
+    from: usize,
+    objects: &[bool],
+    depth: usize,
+    stops: &mut Stops,
+) -> Option<(usize, usize)>
     requires within { from ≤ length text.now }
     requires fits { depth ≤ length objects.now }
+    requires stops { AreStops text.now stops.old.base stops.old.bits }
     ensures bounds { IfSome result (λ r. (from ≤ r.0) × (r.0 ≤ length text.now) × (r.1 ≤ depth)) }
     ensures next { IfSome result (λ r. (0 < r.1) → (from < r.0) × ((n : ℕ)
         → Begins (n + (depth - r.1)) (innermost objects.now r.1) (left_at text.now r.0)
         → Completes n (innermost objects.now depth) (left_at text.now from))) }
     ensures last { IfSome result (λ r. r.1 ≡ 0 → left_at text.now r.0 ≡ [] → (n : ℕ)
         → Completes n (innermost objects.now depth) (left_at text.now from)) }
+    ensures stops { AreStops text.now stops.new.base stops.new.bits }
 {
     let mut nested = depth;
     let mut i = from;
     while nested > 0 {
-        let (next, more) = past_value(text, i, objects[nested - 1])?;
+        let (next, more) = past_value(text, i, objects[nested - 1], stops)?;
         i = next;
         if more {
             return Some((i, nested));
@@ -139,17 +161,18 @@ pub fn is_json_within(text: &[u8], levels: usize) -> bool
     let most = if levels < MOST { levels } else { MOST };
     let mut objects = [false; MOST];
     let mut depth = 0;
-    let mut i = whitespace_end(text, 0);
+    let mut stops = Stops { base: 0, bits: 0 };
+    let mut i = 0;
     loop {
-        let Some((next, opens)) = past_begin(text, i, depth < most) else {
+        let Some((next, opened)) = past_begin(text, i, depth < most, &mut stops) else {
             return false;
         };
-        if opens {
-            objects[depth] = text[i] == b'{';
+        if let Some(object) = opened {
+            objects[depth] = object;
             depth += 1;
             i = next;
         } else {
-            let Some((place, nested)) = past_closing(text, next, &objects, depth) else {
+            let Some((place, nested)) = past_closing(text, next, &objects, depth, &mut stops) else {
                 return false;
             };
             if nested == 0 {

@@ -1,18 +1,19 @@
 //! Strings, numbers and literals, each checked to its end against the grammar of JSON. Nothing here is
 //! recursive, and no memory is taken.
 
-ghost use Rattle.std.specs.Prelude.{◌≡◌, ◌<◌, ◌≤◌, ◌+◌, ◌∷◌, true, length, drop, IfSome};
+ghost use Rattle.std.specs.Prelude.{◌≡◌, ◌<◌, ◌≤◌, ◌+◌, ◌∷◌, true, length, drop, get_or, IfSome};
 ghost use Rattle.std.specs.List.{prefix_len};
 ghost use Rattle.std.specs.Char.{is_ascii_digit};
 ghost use Rattle.json.specs.Lex.{in_string, lex};
 ghost use Rattle.json.specs.Run.{EndsAt};
 ghost use Rattle.json.specs.Word.{after_digits, after_minus, after_sign, after_whole, after_fraction, after_exponent, after_number, ends_word};
 ghost use Rattle.json_lexemes.specs.Places.{left_at};
-ghost use Rattle.json_lexemes.specs.Grammar.{is_no_digit, is_stop, HasContent, IsFree, Spells};
+ghost use Rattle.json_lexemes.specs.Grammar.{is_no_digit, is_stop, AreStops, HasContent, IsFree, Spells};
 
 use crate::lexemes::{byte_at, is_operator, is_whitespace};
 use crate::names::escaped;
-use crate::scan::{Sought, first_of};
+use crate::scan::{Sought, far_of, first_of};
+use crate::stops::{Stops, near_stop};
 use std::simd::prelude::*;
 
 /// A byte that doesn't stand for itself in a string.
@@ -45,6 +46,23 @@ fn plain_end(text: &[u8], from: usize) -> usize
     first_of::<Stop>(text, from)
 }
 
+/// As `plain_end`, and the byte there, or a space at the text's end.
+#[inline(always)]
+fn stop_from(text: &[u8], from: usize, stops: &mut Stops) -> (usize, u8)
+    requires within { from ≤ length text.now }
+    requires stops { AreStops text.now stops.old.base stops.old.bits }
+    ensures bounds { (from ≤ result.0) × (result.0 ≤ length text.now) }
+    ensures plain { IsFree is_stop text.now from result.0 }
+    ensures value { result.1 ≡ get_or text.now result.0 32 }
+    ensures stops { AreStops text.now stops.new.base stops.new.bits }
+{
+    if let Some(i) = near_stop(text, from, stops) {
+        return (i, text[i]);
+    }
+    let i = far_of::<Stop>(text, from);
+    (i, byte_at(text, i))
+}
+
 /// As `closed_string`, where escapes may stand.
 fn escaped_string(text: &[u8], from: usize) -> Option<usize>
     requires { from ≤ length text.now }
@@ -69,18 +87,22 @@ fn escaped_string(text: &[u8], from: usize) -> Option<usize>
 /// The place after the quote that closes a string whose inside begins at `from`; `None` where none does,
 /// or the inside is no string's.
 #[inline(always)]
-pub(crate) fn closed_string(text: &[u8], from: usize) -> Option<usize>
-    requires { from ≤ length text.now }
+pub(crate) fn closed_string(text: &[u8], from: usize, stops: &mut Stops) -> Option<usize>
+    requires within { from ≤ length text.now }
+    requires stops { AreStops text.now stops.old.base stops.old.bits }
     ensures bounds { IfSome result (λ i. (from < i) × (i ≤ length text.now)) }
     ensures left { IfSome result (λ i. lex in_string (drop from text.now) ≡ left_at text.now i) }
     ensures content { IfSome result (λ _. HasContent text.now from) }
+    ensures stops { AreStops text.now stops.new.base stops.new.bits }
 {
-    let end = plain_end(text, from);
+    let (end, c) = stop_from(text, from, stops);
     // The usual string has no escape: another is read apart.
-    if byte_at(text, end) == b'"' {
-        return Some(end + 1);
-    }
-    escaped_string(text, end)
+    let behind = if c == b'"' {
+        end + 1
+    } else {
+        escaped_string(text, end)?
+    };
+    Some(behind)
 }
 
 /// A byte that is no digit.
@@ -196,6 +218,10 @@ fn number_end(text: &[u8], from: usize) -> Option<usize>
     ensures { EndsAt text.now from result (after_number (drop from text.now)) }
 {
     let point = whole_end(text, minus_end(text, from))?;
+    // Most numbers are whole, and a comma comes next.
+    if byte_at(text, point) == b',' {
+        return Some(point);
+    }
     let power = fraction_end(text, point)?;
     exponent_end(text, power)
 }
@@ -256,19 +282,22 @@ fn literal_close(text: &[u8], from: usize) -> Option<usize>
     None
 }
 
-/// The place after the string, the number or the literal that begins at `from`; `None` where none does.
+/// The place after the string, the number or the literal that begins at `from` with the byte `c`; `None` where
+/// none does.
 #[inline(always)]
-pub(crate) fn leaf_end(text: &[u8], from: usize) -> Option<usize>
-    requires { from ≤ length text.now }
+pub(crate) fn leaf_end(text: &[u8], from: usize, c: u8, stops: &mut Stops) -> Option<usize>
+    requires within { from ≤ length text.now }
+    requires byte { c ≡ get_or text.now from 32 }
+    requires stops { AreStops text.now stops.old.base stops.old.bits }
     ensures bounds { IfSome result (λ i. (from < i) × (i ≤ length text.now)) }
     ensures spells { IfSome result (λ i. Spells text.now 0 from i) }
+    ensures stops { AreStops text.now stops.new.base stops.new.bits }
 {
+    if c == b'"' {
+        return closed_string(text, from + 1, stops);
+    }
     if from == text.len() {
         return None;
-    }
-    let c = text[from];
-    if c == b'"' {
-        return closed_string(text, from + 1);
     }
     // A digit or a minus begins a number, a letter a literal.
     if c <= b'9' {

@@ -1,6 +1,6 @@
 //! Lexemes of a JSON text, by their places. Nothing here is recursive.
 
-ghost use Rattle.std.specs.Prelude.{◌≡◌, ◌≢◌, ◌⊎◌, ◌<◌, ◌≤◌, ◌+◌, ◌-◌, ◌^◌, [], ◌∷◌, List, true, false, length, drop, get_or};
+ghost use Rattle.std.specs.Prelude.{◌≡◌, ◌≢◌, ◌⊎◌, ◌<◌, ◌≤◌, ◌+◌, ◌-◌, ◌^◌, [], ◌∷◌, List, true, false, length, drop, get_or, max};
 ghost use Rattle.std.specs.Prelude.{IfSome, IfNone};
 ghost use Rattle.std.specs.Bool.{Decides};
 ghost use Rattle.std.specs.Str.{IsUtf8, IsCharBoundary};
@@ -8,7 +8,7 @@ ghost use Rattle.json.specs.Word.{is_operator, is_space, ends_word};
 ghost use Rattle.json.specs.Lex.{Lexeme, between, in_word, in_string, lex, operator_lexeme};
 ghost use Rattle.json_lexemes.specs.Lexing.{Outside};
 ghost use Rattle.json_lexemes.specs.Places.{mode_at, left_at, depth_by, Closes, HasEnd, IsEnd, Steps};
-ghost use Rattle.json_lexemes.specs.Skipped.{if_open, nesting, skip};
+ghost use Rattle.json_lexemes.specs.Skipped.{if_open, most_open, nesting, skip};
 ghost use Rattle.json_lexemes.specs.Blocks.{is_opening, is_closing, carried};
 ghost use Rattle.json_lexemes.specs.Runs.{goes_on, is_bracket, is_flat, is_mark, is_of_word, is_quote, run_mode, InRun, InString, Passes};
 
@@ -53,9 +53,9 @@ pub fn byte_at(text: &[u8], i: usize) -> u8
     if i < text.len() { text[i] } else { b' ' }
 }
 
-/// The first place from `from` on where no whitespace stands.
-#[inline(always)]
-pub fn whitespace_end(text: &[u8], from: usize) -> usize
+/// As `whitespace_end`, byte by byte.
+#[inline(never)]
+fn spaces_end(text: &[u8], from: usize) -> usize
     requires { from ≤ length text.now }
     ensures bounds { (from ≤ result) × (result ≤ length text.now) }
     ensures left { left_at text.now result ≡ left_at text.now from }
@@ -71,10 +71,27 @@ pub fn whitespace_end(text: &[u8], from: usize) -> usize
     i
 }
 
-/// The place past the operator `c` and the whitespace around it; `None` where another lexeme comes first,
-/// or none does.
+/// The first place from `from` on where no whitespace stands.
 #[inline(always)]
-pub fn after(text: &[u8], from: usize, c: u8) -> Option<usize>
+pub fn whitespace_end(text: &[u8], from: usize) -> usize
+    requires { from ≤ length text.now }
+    ensures bounds { (from ≤ result) × (result ≤ length text.now) }
+    ensures left { left_at text.now result ≡ left_at text.now from }
+    ensures end { IsEnd text.now from → IsEnd text.now result }
+    ensures between { mode_at text.now from ≡ between → mode_at text.now result ≡ between }
+    ensures stops { result < length text.now → is_space (get_or text.now result 0) ≡ false }
+    ensures boundary { IsUtf8 text.now → IsCharBoundary text.now from → IsCharBoundary text.now result }
+{
+    // Mostly none stands here, and a loop, even one that isn't entered, takes more than this test.
+    if byte_at(text, from) > b' ' {
+        return from;
+    }
+    spaces_end(text, from)
+}
+
+/// As `after`, where whitespace may stand before the operator.
+#[inline(never)]
+fn after_spaces(text: &[u8], from: usize, c: u8) -> Option<usize>
     requires within { from ≤ length text.now }
     requires operator { is_operator c ≡ true }
     ensures bounds { IfSome result (λ i. (from < i) × (i ≤ length text.now)) }
@@ -93,6 +110,88 @@ pub fn after(text: &[u8], from: usize, c: u8) -> Option<usize>
     } else {
         None
     }
+}
+
+/// The place past the operator `c` and the whitespace around it; `None` where another lexeme comes first,
+/// or none does.
+#[inline(always)]
+pub fn after(text: &[u8], from: usize, c: u8) -> Option<usize>
+    requires within { from ≤ length text.now }
+    requires operator { is_operator c ≡ true }
+    ensures bounds { IfSome result (λ i. (from < i) × (i ≤ length text.now)) }
+    ensures left { IfSome result (λ i.
+        left_at text.now from ≡ operator_lexeme c ∷ left_at text.now i) }
+    ensures begins { IfSome result (λ i. IsEnd text.now from → mode_at text.now i ≡ between) }
+    ensures stops { IfSome result (λ i.
+        i < length text.now → is_space (get_or text.now i 0) ≡ false) }
+    ensures none { IfNone result ((ls : List Lexeme)
+        → left_at text.now from ≡ operator_lexeme c ∷ ls → ⊥) }
+    ensures boundary { IsUtf8 text.now → IfSome result (λ i. IsCharBoundary text.now i) }
+{
+    // Mostly it stands here.
+    if from < text.len() && text[from] == c {
+        return Some(whitespace_end(text, from + 1));
+    }
+    after_spaces(text, from, c)
+}
+
+/// The place right behind the operator `c`, before which whitespace may stand; `None` where another lexeme
+/// comes first, or none does.
+#[inline(always)]
+pub(crate) fn behind_operator(text: &[u8], from: usize, c: u8) -> Option<usize>
+    requires within { from ≤ length text.now }
+    requires operator { is_operator c ≡ true }
+    ensures bounds { IfSome result (λ i. (from < i) × (i ≤ length text.now)) }
+    ensures left { IfSome result (λ i.
+        left_at text.now from ≡ operator_lexeme c ∷ left_at text.now i) }
+{
+    // Mostly it stands here.
+    if from < text.len() && text[from] == c {
+        return Some(from + 1);
+    }
+    let at = spaces_end(text, from);
+    if at < text.len() && text[at] == c {
+        Some(at + 1)
+    } else {
+        None
+    }
+}
+
+/// The place right behind a quote, before which whitespace may stand; `None` where none stands.
+#[inline(always)]
+pub(crate) fn behind_quote(text: &[u8], from: usize) -> Option<usize>
+    requires { from ≤ length text.now }
+    ensures bounds { IfSome result (λ i. (from < i) × (i ≤ length text.now)) }
+    ensures left { IfSome result (λ i. left_at text.now (i - 1) ≡ left_at text.now from) }
+    ensures quote { IfSome result (λ i. get_or text.now (i - 1) 0 ≡ 34) }
+{
+    // Mostly it stands here.
+    if from < text.len() && text[from] == b'"' {
+        return Some(from + 1);
+    }
+    let i = spaces_end(text, from);
+    if i < text.len() && text[i] == b'"' {
+        Some(i + 1)
+    } else {
+        None
+    }
+}
+
+/// The place past whitespace, and the byte there, or a space at the end.
+#[inline(always)]
+pub(crate) fn next_byte(text: &[u8], from: usize) -> (usize, u8)
+    requires { from ≤ length text.now }
+    ensures bounds { (from ≤ result.0) × (result.0 ≤ length text.now) }
+    ensures left { left_at text.now result.0 ≡ left_at text.now from }
+    ensures value { result.1 ≡ get_or text.now result.0 32 }
+    ensures within { result.1 ≢ 32 → result.0 < length text.now }
+{
+    let c = byte_at(text, from);
+    if c > b' ' {
+        return (from, c);
+    }
+    let i = spaces_end(text, from);
+    (i, byte_at(text, i))
 }
 
 /// A quote.
@@ -432,12 +531,12 @@ fn blocks_end(text: &[u8], from: usize) -> (usize, usize)
     (resumed(text, at, carry), depth)
 }
 
-/// The place after the object or array whose inside begins at `from`, or after the last lexeme where brackets
-/// stay open.
-fn container_end(text: &[u8], from: usize) -> usize
+/// The place after the object or array whose inside goes on at `from`, behind a bracket or a comma, or after
+/// the last lexeme where brackets stay open.
+pub(crate) fn container_end(text: &[u8], from: usize) -> usize
     requires order { 0 < from }
     requires within { from ≤ length text.now }
-    requires begins { is_opening (get_or text.now (from - 1) 0) ≡ true }
+    requires begins { is_operator (get_or text.now (from - 1) 0) ≡ true }
     ensures bounds { (from ≤ result) × (result ≤ length text.now) }
     ensures left { left_at text.now result ≡ skip 1 (left_at text.now from) }
     ensures end { mode_at text.now from ≡ between → IsEnd text.now result × HasEnd text.now result }
@@ -501,18 +600,71 @@ pub fn last_end(text: &[u8], from: usize) -> usize
     end
 }
 
-/// Whether more brackets than `most` are open at once, of any text. No byte is passed over more than twice.
-pub fn is_deeper(text: &[u8], most: usize) -> bool
-    ensures { Decides result (most < nesting text.now) }
+/// How far the text from `from` on, behind an operator, is passed by blocks in which no more than `most` brackets
+/// are open at once, of `depth` at `from`, and how many are open there.
+fn shallow_end(text: &[u8], from: usize, depth: usize, most: usize) -> (usize, usize)
+    requires order { 0 < from }
+    requires within { from ≤ length text.now }
+    requires begins { is_operator (get_or text.now (from - 1) 0) ≡ true }
+    requires open { (0 < depth) × (depth ≤ most) }
+    requires bound { depth ≤ from }
+    ensures bounds { (from ≤ result.0) × (result.0 ≤ length text.now) }
+    ensures open { (result.1 ≤ most) × (result.1 ≤ result.0) }
+    ensures most { max most (most_open result.1 (left_at text.now result.0))
+        ≡ max most (most_open depth (left_at text.now from)) }
 {
-    let mut depth: usize = 0;
-    let mut i = bracket_from(text, 0);
+    let mut at = from;
+    let mut open = depth;
+    let mut carry = Carry {
+        inside: false,
+        escaped: false,
+    };
+    while text.len() - at >= BLOCK {
+        let Some(found) = block_brackets(text, at, carry) else {
+            break;
+        };
+        let opened = open + found.opens.count_ones() as usize;
+        if opened > most {
+            break;
+        }
+        if let Some(_) = closing_bit(found.opens, found.shuts, open) {
+            break;
+        }
+        open = opened - found.shuts.count_ones() as usize;
+        carry = found.carry;
+        at += BLOCK;
+    }
+    (resumed(text, at, carry), open)
+}
+
+/// Whether more brackets than `most` are open at once from `from` on, of `depth` there.
+fn is_deeper_from(text: &[u8], from: usize, depth: usize, most: usize) -> bool
+    requires within { from ≤ length text.now }
+    requires bound { depth ≤ from }
+    requires under { depth ≤ most }
+    ensures { Decides result (most < most_open depth (left_at text.now from)) }
+{
+    let mut open = depth;
+    let mut i = bracket_from(text, from);
     while i < text.len() {
-        depth = open_after_bracket(depth, text[i]);
-        if depth > most {
+        open = open_after_bracket(open, text[i]);
+        if open > most {
             return true;
         }
         i = bracket_from(text, i + 1);
     }
     false
+}
+
+/// Whether more brackets than `most` are open at once, of any text. No byte is passed over more than
+/// three times.
+pub fn is_deeper(text: &[u8], most: usize) -> bool
+    ensures { Decides result (most < nesting text.now) }
+{
+    let first = bracket_from(text, 0);
+    if most == 0 || first == text.len() || !is_opening(text[first]) {
+        return is_deeper_from(text, first, 0, most);
+    }
+    let (at, depth) = shallow_end(text, first + 1, 1, most);
+    is_deeper_from(text, at, depth, most)
 }

@@ -5,8 +5,8 @@
 //! no check that it is JSON, but for one call. Each contract says which lexemes are left at the place that
 //! it answers, and that no lexeme and no character is cut there.
 //!
-//! [`value_end`] passes over a value by counting brackets, [`member`] and [`element`] find one in an
-//! object or an array, and [`is_name`] compares a name with its escapes read. [`is_json_within`] is the one
+//! [`value_end`] passes over a value by counting brackets, [`first_named`], [`next_named`] and [`numbered`]
+//! find one in an object or an array, and [`is_name`] compares a name with its escapes read. [`is_json_within`] is the one
 //! check: that a whole text is JSON and nests no deeper than so many levels.
 #![tactic(auto)]
 
@@ -17,6 +17,7 @@ mod masks;
 mod names;
 mod scan;
 mod span;
+mod stops;
 #[cfg(test)]
 mod tests;
 mod values;
@@ -27,5 +28,5 @@ pub use lexemes::{
     whitespace_end, word_end,
 };
 pub use names::is_name;
-pub use span::Span;
-pub use values::{element, member, value_from};
+pub use span::{Next, Span};
+pub use values::{array_end, first_named, next_named, numbered, value_from};

@@ -22,9 +22,9 @@ pub(crate) trait Sought {
         ensures { result ≡ mask_l (map is_sought bytes) };
 }
 
-/// The first place from `from` on where such a byte stands, or the text's end.
-#[inline(always)]
-pub(crate) fn first_of<K: Sought>(text: &[u8], from: usize) -> usize
+/// As `first_of`, however far it is.
+#[inline(never)]
+pub(crate) fn far_of<K: Sought>(text: &[u8], from: usize) -> usize
     requires { from ≤ length text.now }
     ensures bounds { (from ≤ result) × (result ≤ length text.now) }
     ensures free { IsFree K.is_sought text.now from result }
@@ -42,4 +42,23 @@ pub(crate) fn first_of<K: Sought>(text: &[u8], from: usize) -> usize
         i += 1;
     }
     i
+}
+
+/// The first place from `from` on where such a byte stands, or the text's end.
+#[inline(always)]
+pub(crate) fn first_of<K: Sought>(text: &[u8], from: usize) -> usize
+    requires { from ≤ length text.now }
+    ensures bounds { (from ≤ result) × (result ≤ length text.now) }
+    ensures free { IsFree K.is_sought text.now from result }
+    ensures stops { result < length text.now → K.is_sought (get_or text.now result 0) ≡ true }
+{
+    if text.len() - from < WIDE {
+        return far_of::<K>(text, from);
+    }
+    // Most are near: a loop, even one that is left at once, takes more than this test.
+    let found = K::mask(u8x16::from_slice(&text[from..]));
+    if found != 0 {
+        return from + found.trailing_zeros() as usize;
+    }
+    far_of::<K>(text, from + WIDE)
 }

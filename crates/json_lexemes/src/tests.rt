@@ -1,8 +1,9 @@
 //! Places of one text, and names.
 
 use crate::{
-    Span, after, byte_at, element, is_deeper, is_json_within, is_name, is_operator, is_whitespace,
-    last_end, member, string_end, value_end, value_from, whitespace_end, word_end,
+    Next, Span, after, array_end, byte_at, first_named, is_deeper, is_json_within, is_name,
+    is_operator, is_whitespace, last_end, next_named, numbered, string_end, value_end, value_from,
+    whitespace_end, word_end,
 };
 use std::test::Fail;
 
@@ -44,10 +45,12 @@ fn at(place: Option<Span>) -> Option<&'static str> {
 fn values(rt: HostRuntime) -> Result<(), Fail> {
     let text = TEXT.as_bytes();
     assert_eq!(rt; at(Some(value_from(text, 8))), Some("[1.50,\"]\"]"));
-    assert_eq!(rt; at(member(text, 2, b"a")), Some("true"));
-    assert!(rt; member(text, 2, b"b").is_none());
-    assert_eq!(rt; at(element(text, 9, 1)), Some("\"]\""));
-    assert!(rt; element(text, 9, 2).is_none());
+    assert!(rt; matches!(first_named(text, 2, b"a"), Next::Value(8)));
+    assert!(rt; matches!(first_named(text, 2, b"b"), Next::End(_)));
+    assert!(rt; matches!(next_named(text, 18, b"a"), Next::Value(29)));
+    assert!(rt; matches!(numbered(text, 8, 1), Next::Value(14)));
+    assert!(rt; matches!(numbered(text, 8, 2), Next::End(18)));
+    assert_eq!(rt; array_end(text, 13), 18);
     Ok(())
 }
 

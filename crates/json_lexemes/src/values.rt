@@ -1,18 +1,18 @@
-//! A value by its place: of a member, or an element.
+//! The values of an object or an array, from one to the next.
 
-ghost use Rattle.std.specs.Prelude.{◌≡◌, ◌<◌, ◌≤◌, Some, false, length, get_or, IfSome, if◌then◌else◌};
+ghost use Rattle.std.specs.Prelude.{◌≡◌, ◌<◌, ◌≤◌, ◌+◌, ◌++◌, ◌∷◌, List, true, false, length, get_or};
 ghost use Rattle.std.specs.Str.{IsUtf8, IsCharBoundary};
 ghost use Rattle.json.specs.Json.{Items, Members};
-ghost use Rattle.json.specs.Lex.{between};
-ghost use Rattle.json.specs.Word.{is_space};
-ghost use Rattle.json_lexemes.specs.Found.{IsCut, IsWithin, Stands, named, numbered};
-ghost use Rattle.json_lexemes.specs.Places.{mode_at, left_at};
+ghost use Rattle.json.specs.Lex.{Lexeme, between, operator_lexeme};
+ghost use Rattle.json.specs.Word.{is_operator, is_space};
+ghost use Rattle.json_lexemes.specs.Found.{IsCut, IsReached, IsWithin, ReachesNamed, ReachesNumbered};
+ghost use Rattle.json_lexemes.specs.Places.{mode_at, left_at, IsEnd};
 ghost use Rattle.json_lexemes.specs.Skipped.{skip};
-ghost use Rattle.json_lexemes.specs.Spelled.{first_elements, first_members};
+ghost use Rattle.json_lexemes.specs.Spelled.{first_elements, first_members, more_elements, more_members};
 
-use crate::lexemes::{after, byte_at, string_end, value_end, whitespace_end};
+use crate::lexemes::{after, byte_at, container_end, string_end, value_end, whitespace_end};
 use crate::names::is_name;
-use crate::span::Span;
+use crate::span::{Next, Span};
 
 /// The value that begins at `start`, where no whitespace stands.
 #[inline(always)]
@@ -31,59 +31,103 @@ pub fn value_from(text: &[u8], start: usize) -> Span
     }
 }
 
-#[inline(always)]
-fn either(first: bool, value: Span, found: Option<Span>) -> Option<Span>
-    ensures { result ≡ (if first then Some value else found) }
+/// The place behind the bracket `c`, or the text's end where another lexeme comes first.
+fn behind(text: &[u8], from: usize, c: u8) -> usize
+    requires within { from ≤ length text.now }
+    requires operator { is_operator c ≡ true }
+    ensures bounds { (from ≤ result) × (result ≤ length text.now) }
+    ensures left { (ls : List Lexeme) → left_at text.now from ≡ operator_lexeme c ∷ ls
+        → left_at text.now result ≡ ls }
+    ensures end { IsEnd text.now from → IsEnd text.now result }
 {
-    if first { Some(value) } else { found }
+    match after(text, from, c) {
+        Some(end) => end,
+        None => text.len(),
+    }
 }
 
-/// The value of the last member of this name, in an object whose inside begins at `from`; `None` where
-/// there is none.
-pub fn member(text: &[u8], from: usize, name: &[u8]) -> Option<Span>
-    requires { from ≤ length text.now }
-    ensures found { (ms : Members) → left_at text.now from ≡ first_members ms
-        → Stands text.now result (named name.now ms) }
-    ensures cut { mode_at text.now from ≡ between → IfSome result (IsCut text.now) }
-    ensures within { IfSome result (IsWithin text.now) }
+/// The value of the first member of this name from `from` on, inside of an object behind its bracket or
+/// a comma. Of several the last is meant: [`next_named`] tells whether this is it.
+pub fn first_named(text: &[u8], from: usize, name: &[u8]) -> Next
+    requires within { from ≤ length text.now }
+    requires begins { mode_at text.now from ≡ between }
+    ensures reaches { (ms : Members) (ls : List Lexeme)
+        → left_at text.now from ≡ first_members ms ++ ls
+        → ReachesNamed text.now result name.now ms ls }
+    ensures place { IsReached text.now from result }
 {
-    let mut found = None;
     let mut i = whitespace_end(text, from);
     while byte_at(text, i) == b'"' {
         let Some(start) = after(text, string_end(text, i + 1), b':') else {
-            return None;
+            return Next::End(text.len());
         };
-        let value = value_from(text, start);
-        found = either(is_name(text, i + 1, name), value, found);
-        let Some(next) = after(text, value.end, b',') else {
-            return found;
+        if is_name(text, i + 1, name) {
+            return Next::Value(start);
+        }
+        let end = value_end(text, start);
+        let Some(next) = after(text, end, b',') else {
+            return Next::End(behind(text, end, b'}'));
         };
         i = next;
     }
-    found
+    Next::End(behind(text, i, b'}'))
 }
 
-/// The element of this number, in an array whose inside begins at `from`; `None` where it has fewer.
-pub fn element(text: &[u8], from: usize, number: usize) -> Option<Span>
+/// As [`first_named`], from the end of a member's value on.
+pub fn next_named(text: &[u8], from: usize, name: &[u8]) -> Next
     requires within { from ≤ length text.now }
-    requires boundary { IsUtf8 text.now → IsCharBoundary text.now from }
-    ensures found { (js : Items) → left_at text.now from ≡ first_elements js
-        → Stands text.now result (numbered number js) }
-    ensures cut { mode_at text.now from ≡ between → IfSome result (IsCut text.now) }
-    ensures within { IfSome result (IsWithin text.now) }
+    requires ends { IsEnd text.now from }
+    ensures reaches { (ms : Members) (ls : List Lexeme)
+        → left_at text.now from ≡ more_members ms ++ ls
+        → ReachesNamed text.now result name.now ms ls }
+    ensures place { IsReached text.now from result }
+{
+    match after(text, from, b',') {
+        Some(next) => first_named(text, next, name),
+        None => Next::End(behind(text, from, b'}')),
+    }
+}
+
+/// The element of this number, in an array whose bracket stands at `start`.
+pub fn numbered(text: &[u8], start: usize, number: usize) -> Next
+    requires within { start < length text.now }
+    requires bracket { get_or text.now start 0 ≡ 91 }
+    requires begins { mode_at text.now start ≡ between }
+    ensures reaches { (js : Items) (ls : List Lexeme)
+        → left_at text.now (start + 1) ≡ first_elements js ++ ls
+        → ReachesNumbered text.now result number js ls }
+    ensures place { IsReached text.now start result }
 {
     let mut left = number;
-    let mut i = whitespace_end(text, from);
+    let mut i = whitespace_end(text, start + 1);
     while byte_at(text, i) != b']' {
-        let value = value_from(text, i);
         if left == 0 {
-            return Some(value);
+            return Next::Value(i);
         }
-        let Some(next) = after(text, value.end, b',') else {
-            return None;
+        let end = value_end(text, i);
+        let Some(next) = after(text, end, b',') else {
+            return Next::End(behind(text, end, b']'));
         };
         left -= 1;
         i = next;
     }
-    None
+    Next::End(behind(text, i, b']'))
+}
+
+/// The place behind the array of which an element's value ends at `from`.
+pub fn array_end(text: &[u8], from: usize) -> usize
+    requires within { from ≤ length text.now }
+    requires ends { IsEnd text.now from }
+    ensures bounds { (from ≤ result) × (result ≤ length text.now) }
+    ensures left { (js : Items) (ls : List Lexeme)
+        → left_at text.now from ≡ more_elements js ++ ls → left_at text.now result ≡ ls }
+    ensures end { IsEnd text.now result }
+{
+    let i = whitespace_end(text, from);
+    if byte_at(text, i) == b',' {
+        // The other elements are passed together.
+        container_end(text, i + 1)
+    } else {
+        behind(text, i, b']')
+    }
 }

@@ -12,4 +12,4 @@ mod texts;
 mod whole;
 
 pub use fault::MergeTextFault;
-pub use whole::{merge_text, merge_text_within};
+pub use whole::{merge_checked_within, merge_text, merge_text_within};

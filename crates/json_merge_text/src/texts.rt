@@ -194,6 +194,8 @@ impl<'a> Texts<'a> {
     }
 
     /// What the patch has at a place added to the document there.
+    // Kept out of the merge's recursion, whose every level would else hold its room.
+    #[inline(never)]
     pub(crate) fn add(&mut self, alloc: Global, path: &PointerBuf) -> Result<(), AllocError>
         requires texts { AreTexts self.old }
         requires named { (q : Json) × StandsAt (text_of self.old.patch) path.now q }
@@ -209,6 +211,8 @@ impl<'a> Texts<'a> {
     }
 
     /// What the document has at a place replaced by what the patch has there.
+    // Kept out of the merge's recursion, whose every level would else hold its room.
+    #[inline(never)]
     pub(crate) fn replace(&mut self, alloc: Global, path: &PointerBuf) -> Result<(), AllocError>
         requires texts { AreTexts self.old }
         requires named { (q : Json) × StandsAt (text_of self.old.patch) path.now q }
@@ -224,6 +228,8 @@ impl<'a> Texts<'a> {
     }
 
     /// What the document has at a place taken out.
+    // Kept out of the merge's recursion, whose every level would else hold its room.
+    #[inline(never)]
     pub(crate) fn remove(&mut self, alloc: Global, path: &PointerBuf) -> Result<(), AllocError>
         requires texts { AreTexts self.old }
         requires stands { (i : Json) × MayStandAt (text_of self.old.document) path.now (Some i) }

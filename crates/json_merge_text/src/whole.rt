@@ -1,6 +1,6 @@
 //! A JSON text into which the text of a merge patch is merged (RFC 7396).
 
-ghost use Rattle.std.specs.Prelude.{◌≡◌, ◌≤◌, [], IfErr, IfNone, IfOk, IfSome, length, max};
+ghost use Rattle.std.specs.Prelude.{◌≡◌, ◌≤◌, [], IfErr, IfNone, IfOk, IfSome, List, length, max, ℕ};
 ghost use Rattle.std.specs.String.{string_bytes};
 ghost use Rattle.json.specs.Json.{Json};
 ghost use Rattle.json.specs.declared.error.Error.TheVariants as Error;
@@ -76,20 +76,28 @@ fn merged<'a>(
     Ok(texts)
 }
 
-/// The same, of texts that are checked first.
-fn checked_and_merged<'a>(
+/// The document's text, checked.
+fn document(alloc: Global, text: &str) -> Result<CheckedText<'_>, MergeTextFault>
+    ensures text { IfOk result (λ checked. text_in checked ≡ text.now) }
+    ensures fault { IfErr result (λ fault. (patch : List ℕ) → IsMergeTextFault text.now patch fault) }
+{
+    match CheckedText::new(alloc, text) {
+        Ok(checked) => Ok(checked),
+        Err(fault) => Err(document_fault(fault)),
+    }
+}
+
+/// The same, of a patch that is checked here.
+fn patch_merged<'a>(
     alloc: Global,
-    text: &'a str,
+    text: CheckedText<'a>,
     patch: &'a str,
 ) -> Result<Texts<'a>, MergeTextFault>
     ensures texts { IfOk result AreTexts }
-    ensures merged { IfOk result (λ new. IsMergedText text.now patch.now (text_of new.document)) }
-    ensures fault { IfErr result (IsMergeTextFault text.now patch.now) }
+    ensures merged { IfOk result
+        (λ new. IsMergedText (text_in text.entry) patch.now (text_of new.document)) }
+    ensures fault { IfErr result (IsMergeTextFault (text_in text.entry) patch.now) }
 {
-    let text = match CheckedText::new(alloc, text) {
-        Ok(text) => text,
-        Err(fault) => return Err(document_fault(fault)),
-    };
     let patch = match CheckedText::new(alloc, patch) {
         Ok(patch) => patch,
         Err(fault) => return Err(patch_fault(fault)),
@@ -128,7 +136,8 @@ pub fn merge_text(alloc: Global, text: &str, patch: &str) -> Result<String, Merg
     // Why there is none.
     ensures fault { IfErr result (IsMergeTextFault text.now patch.now) }
 {
-    let texts = checked_and_merged(alloc, text, patch)?;
+    let text = document(alloc, text)?;
+    let texts = patch_merged(alloc, text, patch)?;
     Ok(texts.document.to_text(alloc)?)
 }
 
@@ -159,8 +168,34 @@ pub fn merge_text_within(
     // Why there is none.
     ensures fault { IfErr result (IsMergeTextFault text.now patch.now) }
 {
-    let texts = checked_and_merged(alloc, text, patch)?;
-    let more = texts.document.len().saturating_sub(text.len());
+    let text = document(alloc, text)?;
+    merge_checked_within(alloc, text, patch, copied)
+}
+
+/// The same, of a document's text that was checked before: it isn't checked again.
+pub fn merge_checked_within(
+    alloc: Global,
+    text: CheckedText,
+    patch: &str,
+    copied: usize,
+) -> Result<Option<String>, MergeTextFault>
+    ensures merged { IfOk result (λ found. IfSome found
+        (λ new. SaysMerged (text_in text.entry) patch.now (string_bytes new))) }
+    ensures unchanged { IfOk result (λ found. IfSome found (λ new.
+        IsMergedAlready (text_in text.entry) patch.now → string_bytes new ≡ text_in text.entry)) }
+    ensures depth { IfOk result (λ found. IfSome found (λ new.
+        nesting (string_bytes new) ≤ max (nesting (text_in text.entry)) (nesting patch.now))) }
+    ensures kept { IfOk result (λ found. IfSome found
+        (λ new. IsMergedText (text_in text.entry) patch.now (string_bytes new))) }
+    ensures small { IfOk result (λ found. IfSome found (λ new.
+        length (string_bytes new) ≤ most_bytes copied (text_in text.entry) patch.now)) }
+    ensures over { IfOk result
+        (λ found. IfNone found (IsMergeOver copied (text_in text.entry) patch.now)) }
+    ensures fault { IfErr result (IsMergeTextFault (text_in text.entry) patch.now) }
+{
+    let bytes = text.as_str().len();
+    let texts = patch_merged(alloc, text, patch)?;
+    let more = texts.document.len().saturating_sub(bytes);
     if more.saturating_sub(patch.len()) > copied {
         return Ok(None);
     }

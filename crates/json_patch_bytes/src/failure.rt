@@ -24,6 +24,8 @@ pub enum Failure {
     Refused(PatchError),
     /// An operation is over the limits.
     Over(LimitError),
+    /// The patch has more operations than it may have: so many.
+    TooMany(usize),
     /// No memory was found.
     Memory,
 }

@@ -16,6 +16,8 @@ pub const TOO_DEEP: u8 = 7;
 pub const TOO_MUCH: u8 = 8;
 /// A text would be JSON, but for a surrogate that has no other half.
 pub const UNPAIRED_SURROGATE: u8 = 9;
+/// A patch has more operations than it may have.
+pub const TOO_MANY: u8 = 10;
 /// A patch is no array.
 pub const NOT_A_LIST: u8 = 11;
 /// An operation is no object.

@@ -1,6 +1,6 @@
 -- What is told of a text that was made, and of a failure, for a call's own reasons.
-use Rattle.std.proofs.Common.{◌≡◌, ◌≢◌, ◌<◌, ◌⊎◌, ℕ, List, Result, Ok, Err, length, refl, rules, arith, subst}
-use Rattle.std.specs.Prelude.{IfErr, IfOk, string_bytes}
+use Rattle.std.proofs.Common.{◌≡◌, ◌≢◌, ◌<◌, ◌⊎◌, ⊎_elim, inl, inr, ℕ, List, Result, Ok, Err, length, refl, rules, arith, subst}
+use Rattle.std.specs.Prelude.{IfErr, IfOk, OnOk, string_bytes}
 use Rattle.std.specs.declared.alloc.Global.{Global}
 use Rattle.std.specs.declared.string.String.{String}
 use Rattle.json_patch_bytes.specs.Failures.{IsFailure}
@@ -19,7 +19,7 @@ module _ (status : ℕ) (old new : List ℕ) (report : Report) where
     no_document = λ is. (let r = h.no_document is in (subst (IsFailure R) r.0 why, r.1));
     no_patch = λ is. (let r = h.no_patch is in (subst (IsFailure R) r.0 why, r.1));
     no_memory = h.no_memory;
-    over = λ is. (let r = h.over is in (r.0, subst (IsFailure R) r.1 why, r.2));
+    over = λ is. ⊎_elim (λ r. inl (r.0, subst (IsFailure R) r.1 why, r.2)) (λ r. inr (r.0, subst (IsFailure R) r.1 why, r.2)) (h.over is);
     untouched = λ n m. h.untouched m;
   }
 
@@ -49,6 +49,11 @@ module _ (status : ℕ) (old new : List ℕ) (report : Report) where
       → IfOk made (λ s. IsPutOut (string_bytes s) status old new report) → IfErr made (λ failure. IsReported failure status old new report) → IsTextWritten P status old new report
   text_written P (Ok s) holds put reported = text_put P (string_bytes s) holds put
   text_written P (Err failure) holds put reported = text_apart P reported.ends.0 (λ is. search (rules, arith, reported.ends, is))
+
+  -- what holds where a text was made
+  pub holds_of_done : (Q : Type 0) (made : Result (String Global) Failure) → OnOk made Q → IfErr made (λ failure. IsReported failure status old new report) → status ≡ OK → Q
+  holds_of_done Q (Ok s) holds reported is = holds
+  holds_of_done Q (Err failure) holds reported is = absurd (reported.ends.0 is)
 
   -- two texts that were made
   pub both_written : (P : List ℕ → List ℕ → Type 0) (text undo before after : List ℕ) → P text undo → (status ≡ OK → IsPut text old new × IsPut undo before after)

@@ -10,9 +10,9 @@ pub record Given : Type 0 where
   pub size : ℕ
   pub words : List ℕ
 
--- how many words are read: those that the size covers, of the 24 bytes that are known
+-- how many words are read: those that the size covers, of the 32 bytes that are known
 abbrev pub word_count : ℕ → ℕ
-word_count size = min size 24 / 8
+word_count size = min size 32 / 8
 
 -- Nothing where the pointer is null, and else a share of the size and of the words, so that others may read them too. The
 -- place may be compared with null, as each place in an object of C may.

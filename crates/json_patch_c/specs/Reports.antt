@@ -5,7 +5,8 @@ use Rattle.json_patch.specs.PatchError.{PatchError}
 use Rattle.json_patch.specs.LimitError.{LimitError}
 use Rattle.json_patch_bytes.specs.Kinds.{limit_kind, refusal_kind}
 use Rattle.json_patch_bytes.specs.Reasons.{Reasons}
-use Rattle.json_patch.specs.Limits.{Limits}
+use Rattle.json_patch_bytes.specs.declared.kinds.TheConstants.{TOO_MANY}
+use Rattle.json_patch_c.specs.declared.given.CallLimits.{CallLimits}
 use Rattle.json_patch_c.specs.declared.given.WrongSize.{WrongSize}
 use Rattle.json_patch_c.specs.declared.report.Report.{Report}
 use Rattle.json_patch_c.specs.declared.status.TheConstants.{BAD_LIMITS, NO_DOCUMENT, NO_MEMORY, NO_PATCH, NO_ROOM, OK, OVER, REFUSED}
@@ -55,11 +56,12 @@ pub record IsTold (R : Reasons) (status : ℕ) (old new : List ℕ) (report : Re
   pub no_patch : status ≡ NO_PATCH → R.no_patch report.operation report.kind × (report.size ≡ 0)
   -- NO_MEMORY: out of memory
   pub no_memory : status ≡ NO_MEMORY → Tells 0 0 0 report
-  -- OVER: an operation is over the limits, the first one
-  pub over : status ≡ OVER → (e : LimitError) × R.over e × Tells 0 e.operation (limit_kind e.kind) report
+  -- OVER: an operation is over the limits, the first one, or the first too many
+  pub over : status ≡ OVER → ((e : LimitError) × R.over e × Tells 0 e.operation (limit_kind e.kind) report)
+      ⊎ ((k : ℕ) × R.many k × Tells 0 k TOO_MANY report)
   pub untouched : status ≢ OK → status ≢ REFUSED → new ≡ old
 
 -- what a call says of limits that aren't known: it does nothing else
-pub record IsBadLimits (limits : Result Limits WrongSize) (status : ℕ) (old new : List ℕ) (report : Report) : Type 0 where
+pub record IsBadLimits (limits : Result CallLimits WrongSize) (status : ℕ) (old new : List ℕ) (report : Report) : Type 0 where
   pub told : (status ≡ BAD_LIMITS) ↔ IsErr limits
   pub untouched : status ≡ BAD_LIMITS → Tells 0 0 0 report × (new ≡ old)

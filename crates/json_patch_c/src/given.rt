@@ -3,7 +3,7 @@
 
 ghost use Rattle.std.specs.Prelude.{◌≡◌, ◌≤◌, IfOk, Option, option_map, slice_index_or};
 ghost use Rattle.json_patch_c.specs.Given.{Given, readable, word_count};
-ghost use Rattle.json_patch_c.specs.Limits.{limits_of, named_limits};
+ghost use Rattle.json_patch_c.specs.Limits.{limits_of, most_said, named_limits, the_call_limits};
 
 use json_patch::Limits;
 use json_patch_bytes::bounds::{default_limits, within_most};
@@ -12,7 +12,16 @@ use std::mem::size_of;
 use std::slice::from_raw_parts;
 
 /// The size of the struct of limits, in bytes: there is one.
-const KNOWN_BYTES: usize = 24;
+const KNOWN_BYTES: usize = 32;
+
+/// The limits of a call.
+#[derive(Clone, Copy)]
+pub struct CallLimits {
+    /// Those of each text that it leaves.
+    pub texts: Limits,
+    /// How many operations a patch may have, where that is limited.
+    pub operations: Option<usize>,
+}
 
 /// A struct of limits has a size that isn't known.
 #[derive(Clone, Copy)]
@@ -37,17 +46,20 @@ impl Model for GivenLimits {
 
 impl GivenLimits {
     /// The limits of a call: those that are given, or the default ones.
-    pub(crate) fn limits(self) -> Result<Limits, WrongSize>
+    pub(crate) fn limits(self) -> Result<CallLimits, WrongSize>
         ensures limits { result ≡ limits_of self.given }
-        ensures bounded { IfOk result (λ l. l.depth ≤ 124) }
+        ensures bounded { IfOk result (λ l. l.texts.depth ≤ 124) }
     {
         match self.get() {
             Some(limits) => limits,
-            None => Ok(default_limits()),
+            None => Ok(CallLimits {
+                texts: default_limits(),
+                operations: None,
+            }),
         }
     }
 
-    fn get(self) -> Option<Result<Limits, WrongSize>>
+    fn get(self) -> Option<Result<CallLimits, WrongSize>>
         ensures { result ≡ option_map (λ g. named_limits g.size g.words) self.given }
     {
         let GivenLimits { at } = self;
@@ -70,17 +82,28 @@ fn word_count(size: usize) -> usize
 }
 
 /// The limits that a struct of this size says by its words.
-fn named(size: usize, words: &[usize]) -> Result<Limits, WrongSize>
+fn named(size: usize, words: &[usize]) -> Result<CallLimits, WrongSize>
     ensures { result ≡ named_limits size words.now }
 {
     if size != KNOWN_BYTES {
         return Err(WrongSize);
     }
     let other = default_limits();
-    Ok(within_most(&Limits {
+    let texts = within_most(&Limits {
         depth: word_or(words, 1, other.depth),
         copied: word_or(words, 2, other.copied),
-    }))
+    });
+    Ok(CallLimits {
+        texts,
+        operations: limited(word_or(words, 3, usize::MAX)),
+    })
+}
+
+/// How many operations a patch may have where this is said: as many as there are where it is the most.
+fn limited(most: usize) -> Option<usize>
+    ensures { result ≡ most_said most }
+{
+    if most == usize::MAX { None } else { Some(most) }
 }
 
 fn word_or(words: &[usize], i: usize, other: usize) -> usize

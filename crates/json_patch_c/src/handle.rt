@@ -1,6 +1,6 @@
 //! The calls for C on a document that is kept, as its text.
 
-ghost use Rattle.std.specs.Prelude.{◌≡◌, ◌≢◌, ◌≤◌, ◌↔◌, ◌⊎◌, [], IfOk, IfSome, IsSomeAnd, None, Some, option_map};
+ghost use Rattle.std.specs.Prelude.{◌≡◌, ◌≢◌, ◌≤◌, ◌↔◌, ◌⊎◌, [], IfOk, IfSome, IsSomeAnd, None, Some, false, option_map};
 ghost use Rattle.json_kept_text.specs.Kept.{State, opened};
 ghost use Rattle.json_patch_bytes.specs.Texts.{IsNoPointer};
 ghost use Rattle.json_patch_c.specs.Limits.{limits_of};
@@ -10,7 +10,7 @@ ghost use Rattle.json_patch_c.specs.States.{kept_in, limits_in};
 ghost use Rattle.json_patch_c.specs.Updates.{IsWayBack};
 ghost use Rattle.json_patch_c.specs.declared.status.TheConstants.{BAD_LIMITS, CLOSED, NOTHING, NO_MEMORY, NO_POINTER, NO_ROOM, OK, OVER, REFUSED};
 ghost use Rattle.json_patch_text_bytes.specs.Reasons.{of_kept, of_merge, of_patch, of_record, of_text, of_two};
-ghost use Rattle.json_patch_text_bytes.specs.Texts.{IsDifference, IsJsonText, IsMergedInto, IsNothingAt, IsPatched, IsRecordedIn, IsValueAt};
+ghost use Rattle.json_patch_text_bytes.specs.Texts.{HasAtMost, IsDifference, IsJsonText, IsMergedInto, IsNothingAt, IsPatched, IsRecordedIn, IsValueAt};
 
 use crate::document::Document;
 use crate::given::GivenLimits;
@@ -33,8 +33,9 @@ pub extern "C" fn json_patch_open(
     report: &mut Report,
 ) -> u8
     ensures opened { IfOk (limits_of limits.given) (λ l. result ≡ OK
-        → (kept_in document.new.held ≡ Some (opened l text.now)) × IsJsonText l.depth text.now × Tells 0 0 0 report.new) }
-    ensures told { IfOk (limits_of limits.given) (λ l. IsTold (of_text l.depth text.now) result [] [] report.new) }
+        → (kept_in document.new.held ≡ Some (opened l.texts text.now)) × (limits_in document.new.held ≡ Some l)
+        × IsJsonText l.texts.depth text.now × Tells 0 0 0 report.new) }
+    ensures told { IfOk (limits_of limits.given) (λ l. IsTold (of_text l.texts.depth text.now) result [] [] report.new) }
     ensures bad_limits { IsBadLimits (limits_of limits.given) result [] [] report.new }
     ensures status { (result ≤ NO_MEMORY) ⊎ ((result ≡ OVER) ⊎ (result ≡ BAD_LIMITS)) }
     ensures unchanged { result ≢ OK → document.new.held ≡ document.old.held }
@@ -42,8 +43,14 @@ pub extern "C" fn json_patch_open(
     let Ok(limits) = limits.limits() else {
         return tell(BAD_LIMITS, 0, 0, report);
     };
-    match kept::opened(alloc, text, limits) {
-        Ok(text) => match Box::new(alloc, Kept { text }) {
+    match kept::opened(alloc, text, limits.texts) {
+        Ok(text) => match Box::new(
+            alloc,
+            Kept {
+                text,
+                operations: limits.operations,
+            },
+        ) {
             Ok(kept) => {
                 document.take(alloc);
                 document.put(kept);
@@ -68,8 +75,9 @@ pub extern "C" fn json_patch_update(
     ensures changed { result ≡ OK → (k e : State) × (kept_in document.old.held ≡ Some k)
         × (kept_in document.new.held ≡ Some e) × IsPatched k.limits k.text patch.now e.text × (e.last ≡ None)
         × Tells 0 0 0 report.new }
-    ensures told { IfSome (kept_in document.old.held) (λ k.
-        IsTold (of_kept (of_patch k.limits k.text patch.now)) result out.old out.new report.new) }
+    ensures few { IfSome document.old.held (λ k. result ≡ OK → HasAtMost k.operations patch.now) }
+    ensures told { IfSome document.old.held (λ k. IsTold
+        (of_kept (of_patch k.operations k.text.limits k.text.text patch.now)) result out.old out.new report.new) }
     ensures closed { (result ≡ CLOSED) ↔ (document.old.held ≡ None) }
     ensures closed_told { result ≡ CLOSED → Tells 0 0 0 report.new × (out.new ≡ out.old) }
     ensures status { (result ≤ NO_MEMORY) ⊎ ((result ≡ CLOSED) ⊎ (result ≡ OVER)) }
@@ -80,7 +88,8 @@ pub extern "C" fn json_patch_update(
     let Some(mut kept) = document.take(alloc) else {
         return tell(CLOSED, 0, 0, report);
     };
-    let made = kept::patched(alloc, &mut kept.text, patch);
+    let most = kept.operations;
+    let made = kept::patched(alloc, &mut kept.text, patch, most);
     document.put(kept);
     match made {
         Ok(()) => tell(OK, 0, 0, report),
@@ -101,8 +110,9 @@ pub extern "C" fn json_patch_update_recorded(
     ensures changed { result ≡ OK → (k e : State) × (kept_in document.old.held ≡ Some k)
         × (kept_in document.new.held ≡ Some e) × IsRecordedIn k patch.now e
         × Tells 0 0 0 report.new }
-    ensures told { IfSome (kept_in document.old.held) (λ k.
-        IsTold (of_kept (of_record k.limits k.text patch.now)) result out.old out.new report.new) }
+    ensures few { IfSome document.old.held (λ k. result ≡ OK → HasAtMost k.operations patch.now) }
+    ensures told { IfSome document.old.held (λ k. IsTold
+        (of_kept (of_record k.operations k.text.limits k.text.text patch.now)) result out.old out.new report.new) }
     ensures closed { (result ≡ CLOSED) ↔ (document.old.held ≡ None) }
     ensures closed_told { result ≡ CLOSED → Tells 0 0 0 report.new × (out.new ≡ out.old) }
     ensures status { (result ≤ NO_MEMORY) ⊎ ((result ≡ CLOSED) ⊎ (result ≡ OVER)) }
@@ -113,7 +123,8 @@ pub extern "C" fn json_patch_update_recorded(
     let Some(mut kept) = document.take(alloc) else {
         return tell(CLOSED, 0, 0, report);
     };
-    let made = kept::recorded(alloc, &mut kept.text, patch);
+    let most = kept.operations;
+    let made = kept::recorded(alloc, &mut kept.text, patch, most);
     document.put(kept);
     match made {
         Ok(()) => tell(OK, 0, 0, report),
@@ -238,7 +249,7 @@ pub extern "C" fn json_patch_diff_to(
     report: &mut Report,
 ) -> u8
     ensures written { IfSome (kept_in document.old.held)
-        (λ k. IsTextWritten (IsDifference k.limits k.text text.now) result out.old out.new report.new) }
+        (λ k. IsTextWritten (IsDifference false k.limits k.text text.now) result out.old out.new report.new) }
     ensures told { IfSome (kept_in document.old.held)
         (λ k. IsTold (of_kept (of_two k.limits.depth k.text text.now)) result out.old out.new report.new) }
     ensures closed { (result ≡ CLOSED) ↔ (document.old.held ≡ None) }
@@ -274,12 +285,13 @@ pub extern "C" fn json_patch_value_at(
     ensures nothing { result ≡ NOTHING → IfSome (kept_in document.old.held)
         (λ k. IsNothingAt k.limits.depth k.text pointer.now) × Tells 0 0 0 report.new }
     ensures status { (result ≤ NOTHING) ⊎ (result ≡ OVER) }
-    ensures document { document.new.held ≡ document.old.held }
+    ensures document { kept_in document.new.held ≡ kept_in document.old.held }
+    ensures limits { limits_in document.new.held ≡ limits_in document.old.held }
 {
-    let Some(kept) = document.take(alloc) else {
+    let Some(mut kept) = document.take(alloc) else {
         return tell(CLOSED, 0, 0, report);
     };
-    let found = kept::value_at(alloc, &kept.text, pointer);
+    let found = kept::value_at(alloc, &mut kept.text, pointer);
     document.put(kept);
     match found {
         Ok(text) => write(text.as_bytes(), out, report),

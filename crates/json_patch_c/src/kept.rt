@@ -13,6 +13,8 @@ use std::alloc::Global;
 #[derive(Drop)]
 pub struct Kept {
     pub(crate) text: KeptText,
+    /// How many operations a patch of it may have, where that is limited.
+    pub(crate) operations: Option<usize>,
     ghost bounded: { text.limits.depth ≤ 124 },
 }
 

@@ -1,10 +1,11 @@
 //! What a call tells beside its status, and what it writes.
 
-ghost use Rattle.std.specs.Prelude.{◌≡◌, ◌≢◌, ◌≤◌, ◌<◌, ◌⊎◌, ◌↔◌, IfErr, IfOk, IsTrue, length, string_bytes};
+ghost use Rattle.std.specs.Prelude.{◌≡◌, ◌≢◌, ◌≤◌, ◌<◌, ◌⊎◌, ◌↔◌, ℕ, IfErr, IfOk, IsTrue, length, string_bytes};
 ghost use Rattle.json_patch.specs.LimitError.{LimitError};
 ghost use Rattle.json_patch.specs.PatchError.{PatchError};
 ghost use Rattle.json_patch_bytes.specs.Kinds.{limit_kind};
-ghost use Rattle.json_patch_bytes.specs.declared.failure.Failure.TheVariants.{NoDocument, NoPatch, Over, Refused};
+ghost use Rattle.json_patch_bytes.specs.declared.failure.Failure.TheVariants.{NoDocument, NoPatch, Over, Refused, TooMany};
+ghost use Rattle.json_patch_bytes.specs.declared.kinds.TheConstants.{TOO_MANY};
 ghost use Rattle.json_patch_c.specs.Reports.{IsPut, Tells, TellsBoth, TellsRefusal};
 ghost use Rattle.json_patch_c.specs.Told.{IsPutOut, IsReported};
 ghost use Rattle.json_patch_c.specs.declared.status.TheConstants.{NO_DOCUMENT, NO_MEMORY, NO_PATCH, NO_ROOM, OK, OVER, REFUSED};
@@ -12,6 +13,7 @@ ghost use Rattle.json_patch_c.specs.declared.status.TheConstants.{NO_DOCUMENT, N
 use crate::status::{NO_DOCUMENT, NO_MEMORY, NO_PATCH, NO_ROOM, OK, OVER, REFUSED};
 use json_patch::PatchError;
 use json_patch_bytes::failure::{Failure, kind_of_limit, kind_of_refusal};
+use json_patch_bytes::kinds::TOO_MANY;
 
 /// What a call tells beside its status: what doesn't belong to the status is 0.
 #[repr(C)]
@@ -120,8 +122,9 @@ pub(crate) fn refuse(failure: &Failure, out: &mut [u8], report: &mut Report) -> 
     ensures no_patch { result ≡ NO_PATCH
         → (failure.now ≡ NoPatch report.new.operation report.new.kind) × (report.new.size ≡ 0) }
     ensures no_memory { result ≡ NO_MEMORY → Tells 0 0 0 report.new }
-    ensures over { result ≡ OVER → (e : LimitError) × (failure.now ≡ Over e)
-        × Tells 0 e.operation (limit_kind e.kind) report.new }
+    ensures over { result ≡ OVER → ((e : LimitError) × (failure.now ≡ Over e)
+        × Tells 0 e.operation (limit_kind e.kind) report.new)
+        ⊎ ((k : ℕ) × (failure.now ≡ TooMany k) × Tells 0 k TOO_MANY report.new) }
     ensures status { (result ≢ OK) × ((result ≤ NO_MEMORY) ⊎ (result ≡ OVER)) }
     ensures unchanged { result ≢ REFUSED → out.new ≡ out.old }
 {
@@ -133,6 +136,7 @@ pub(crate) fn refuse(failure: &Failure, out: &mut [u8], report: &mut Report) -> 
         Failure::NoDocument(kind) => (NO_DOCUMENT, 0, *kind),
         Failure::NoPatch(operation, kind) => (NO_PATCH, *operation, *kind),
         Failure::Over(error) => (OVER, error.operation, kind_of_limit(error.kind)),
+        Failure::TooMany(most) => (OVER, *most, TOO_MANY),
         Failure::Memory => (NO_MEMORY, 0, 0),
     };
     *report = Report {

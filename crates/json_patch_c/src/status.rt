@@ -24,3 +24,5 @@ pub const OVER: u8 = 9;
 pub const BAD_LIMITS: u8 = 10;
 /// No merge patch does what is asked.
 pub const IMPOSSIBLE: u8 = 11;
+/// The flags have a bit that isn't known, or two that don't go together.
+pub const BAD_FLAGS: u8 = 12;

@@ -91,6 +91,13 @@ next d all rest done news op before us o is some pushed a =
 
 -- ---- what a guarded list is
 
+plain_runs : (d : Data) (ops : List Operation) → ArePlain d ops → (e : Data) × Accepts d ops e
+plain_runs d [] h = (d, refl)
+plain_runs d (op ∷ ops) h = let rest = plain_runs h.0 ops h.3 in (rest.0, (h.0, h.2, rest.1))
+
+pub plain_accepted : RunEnds → (d : Data) (ops : List Operation) → IsDocument d → AreWhole ops → ArePlain d ops → (e : Data) × IsAccepted d ops e
+plain_accepted ends d ops hd h plain = let run = plain_runs d ops plain in (run.0, only_end d ops run.0 run.1 (ends d ops hd h))
+
 pub plain_changes : (d : Data) (ops : List Operation) → ArePlain d ops → AreChanges ops
 plain_changes d [] h = tt
 plain_changes d (add P v ∷ ops) h = (tt, plain_changes h.0 ops h.3)

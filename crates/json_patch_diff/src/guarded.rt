@@ -45,7 +45,23 @@ pub fn guarded_diff(alloc: Global, from: &Value, to: &Value) -> Result<Patch, Al
     laws::runs();
     laws::documents();
     let changes = diff(alloc, from, to)?;
-    let mut work = from.clone()?;
+    with_guards(alloc, from, changes)
+}
+
+/// The changes, with a `test` directly before each `remove` and `replace` of what stands there in the
+/// run on this document, as [`guarded_diff`] has them: its numbers are those that the document has.
+///
+/// It copies the document, to make the changes on it. It is refused for memory alone.
+pub fn with_guards(alloc: Global, document: &Value, changes: Patch) -> Result<Patch, AllocError>
+    requires document { IsDocument (view document.now) }
+    requires whole { AreWhole (operations_of changes) }
+    requires plain { ArePlain (view document.now) (operations_of changes) }
+    ensures guarded { IfOk result
+        (λ p. IsGuarded (view document.now) (operations_of changes) (operations_of p)) }
+    ensures whole { IfOk result (λ p. AreWhole (operations_of p)) }
+{
+    laws::runs();
+    let mut work = document.clone()?;
     match apply_patches(alloc, &mut work, changes.as_slice()) {
         Ok(undo) => {
             let guarded = guard(alloc, changes.0, undo.0)?;

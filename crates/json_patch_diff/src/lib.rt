@@ -11,4 +11,4 @@ mod sizes;
 mod survey;
 
 pub use difference::diff;
-pub use guarded::guarded_diff;
+pub use guarded::{guarded_diff, with_guards};

@@ -4,12 +4,13 @@ ghost use Rattle.serde_json.specs.View.{view};
 ghost use Rattle.json_patch.specs.Document.{IsDocument};
 
 use crate::readme::rows::{done, left, no_row, told};
+use json_kept_text::KeptText;
 use json_patch::jsonptr::Pointer;
-use json_patch::{Fault, Patch, document_from_str};
+use json_patch::{Fault, Limits, Patch, document_from_str};
 use json_patch_editor::Editor;
 use json_patch_uses::{
-    Guarded, Message, Settings, SharedDocument, Store, depth, element, merge_all, number_or,
-    patch_section, receive, replace_with, send, tried, undo_newest, update_version,
+    Guarded, Message, Settings, SharedDocument, Store, TextEditor, depth, element, merge_all,
+    number_or, patch_section, receive, replace_with, send, tried, undo_newest, update_version,
 };
 use serde_json::Value;
 use std::alloc::{AllocError, Global};
@@ -201,6 +202,34 @@ fn settings(alloc: Global, document: Value, texts: &[String]) -> Result<String, 
     }
     settings.take_all_back(alloc)?;
     append(alloc, &mut lines, "all back", settings.values())?;
+    Ok(lines)
+}
+
+/// A text whose changes are undone and made again: a command is `undo`, `redo` or a patch.
+pub(crate) fn edited(alloc: Global, words: &[String]) -> Result<String, AllocError> {
+    let Some((text, commands)) = words.split_first() else {
+        return no_row(alloc);
+    };
+    let limits = Limits {
+        depth: 100,
+        copied: 100_000,
+    };
+    let kept = match KeptText::new(alloc, text.as_str(), limits) {
+        Ok(kept) => kept,
+        Err(fault) => return format!(in alloc; "{fault}"),
+    };
+    let mut editor = TextEditor::open(alloc, kept, 2);
+    let mut lines = String::new(alloc);
+    for command in commands.iter() {
+        let answer = match command.as_str() {
+            "undo" => told(alloc, editor.undo(alloc))?,
+            "redo" => told(alloc, editor.redo(alloc))?,
+            patch => told(alloc, done(editor.apply(alloc, patch)))?,
+        };
+        let text = editor.to_text(alloc)?;
+        let line = format!(in alloc; "{answer} leaves {text}; ")?;
+        lines.push_str(line.as_str())?;
+    }
     Ok(lines)
 }
 

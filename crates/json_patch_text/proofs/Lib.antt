@@ -2,7 +2,9 @@ pub mod Agree
 pub mod Alike
 pub mod Bounded
 pub mod Changes
+pub mod Counted
 pub mod Inverses
+pub mod Kept
 pub mod Limits
 pub mod Logged
 pub mod Made
@@ -17,6 +19,7 @@ pub mod Runs
 pub mod Shallow
 pub mod Stepped
 pub mod Steps
+pub mod Tried
 pub mod UndoTexts
 pub mod Undoing
 pub mod Undone

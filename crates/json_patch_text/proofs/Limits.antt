@@ -14,7 +14,7 @@ use Rattle.json_patch_operation.specs.declared.error.PatchErrorKind.{PatchErrorK
 use Rattle.json_patch_text.specs.Made.{AreMadeIn, IsMadeIn}
 use Rattle.json_patch_text.specs.Operations.{TreeOperation, all_under}
 use Rattle.json_patch_text.specs.Run.{RefusesTextAt}
-use Rattle.json_patch_text.specs.Within.{AreMadeCopying, AreMadeWithin, IsTextOver, IsTextOverAt, IsTextWithin}
+use Rattle.json_patch_text.specs.Within.{AreMadeAtCost, AreMadeWithin, IsTextOver, IsTextOverAt, IsTextWithin}
 use Rattle.json_patch_text.specs.declared.operation.TextOperation.{TextOperation}
 use Rattle.json_patch_text.specs.declared.operation.TextOperation.TheVariants.{Add, Remove, Replace, Move, Copy, Test}
 use Rattle.json_patch_text.proofs.Agree.{removed_tree}
@@ -83,7 +83,7 @@ made_at text left new (x ∷ os) zero o at h s = (new, subst (λ y. IsMadeIn tex
 made_at text left new (x ∷ os) (suc k) o at (next, m, rest) s = (next, m, made_at next left new os k o at rest s)
 
 -- of what is made within the limits, the first k operations are
-front_within : (l : Limits) (most : ℕ) (text new : List ℕ) (os : List TextOperation) (n k m : ℕ) → k ≤ n → AreMadeCopying l most text (take n os) new m → (left : List ℕ) × (fewer : ℕ) × AreMadeCopying l most text (take k os) left fewer
+front_within : (l : Limits) (most : ℕ) (text new : List ℕ) (os : List TextOperation) (n k m : ℕ) → k ≤ n → AreMadeAtCost l most text (take n os) new m → (left : List ℕ) × (fewer : ℕ) × AreMadeAtCost l most text (take k os) left fewer
 front_within l most text new [] zero zero m e h = (new, m, h)
 front_within l most text new [] (suc n) zero m e h = (text, 0, (h.0, refl, refl))
 front_within l most text new [] (suc n) (suc k) m e h = (new, m, h)

@@ -1,6 +1,7 @@
 -- What json_text's calls make of a text is what operations come to, and why not.
 use Rattle.std.proofs.Common.{◌≡◌, ◌≤◌, ℕ, List, Bool, true, false, Option, Some, None, Result, Ok, Err, IfOk, IfErr, if◌then◌else◌, refl, sym, ap, ap₂, ◌∙◌, subst, arith}
 use Rattle.std.specs.Bool.{Decides}
+use Rattle.std.specs.Prelude.{IsErrAnd}
 use Rattle.std.proofs.lemmas.Option.{same_Some}
 use Rattle.std.proofs.lemmas.Result.{IfOk-at_ok}
 use Rattle.json.specs.Json.{Json, document, max_depth}
@@ -97,11 +98,11 @@ copy_stops text s F P i (step.Refused kind) a said h =
 copy_stops text s F P i (step.Memory m) a said h = tt
 
 -- what comes of a call that adds s, which stands at F
-pub copied_tree : (text s new : List ℕ) (F P : Pointer) (r : Result Bool StepFault) → (j : Json) × IsShallowText text j × IsWrittenAt text j F s → IfOk r (λ deeper. IsAdded text P s new) → IfOk r (λ deeper. (i : Json) → Says text i → IsLeft new i (copy F P))
+pub copied_tree : (text s new : List ℕ) (F P : Pointer) (r : Result (Option ℕ) StepFault) → (j : Json) × IsShallowText text j × IsWrittenAt text j F s → IfOk r (λ deeper. IsAdded text P s new) → IfOk r (λ deeper. (i : Json) → Says text i → IsLeft new i (copy F P))
 copied_tree text s new F P (Ok deeper) a h = λ i said. copy_comes text s new F P i a said h
 copied_tree text s new F P (Err f) a h = tt
 
-pub copied_stopped : (text s : List ℕ) (F P : Pointer) (r : Result Bool StepFault) → (j : Json) × IsShallowText text j × IsWrittenAt text j F s → IfErr r (IsNotMade (HasNoPlace text P)) → IfErr r (λ f. (i : Json) → Says text i → IsStopped i (copy F P) f)
+pub copied_stopped : (text s : List ℕ) (F P : Pointer) (r : Result (Option ℕ) StepFault) → (j : Json) × IsShallowText text j × IsWrittenAt text j F s → IfErr r (IsNotMade (HasNoPlace text P)) → IfErr r (λ f. (i : Json) → Says text i → IsStopped i (copy F P) f)
 copied_stopped text s F P (Ok deeper) a h = tt
 copied_stopped text s F P (Err f) a h = λ i said. copy_stops text s F P i f a said h
 
@@ -113,17 +114,9 @@ moves b P o p = if b then Err CannotMoveInsideItself else after_move P o p
 pub move_inside : (F P : Pointer) (i : Json) → IsProperPrefix F P → ComesTo i (move F P) (Err CannotMoveInsideItself)
 move_inside F P i h = sym (ap (λ b. moves b P (tree_at F i) (removed F i)) (prefix_begins F P h))
 
-moved_none : (P : Pointer) (p : Option Json) → after_move P None p ≡ Err InvalidFromPointer
-moved_none P None = refl
-moved_none P (Some m) = refl
-
 moved_whole : (P : Pointer) (o : Option Json) → after_move P o None ≡ Err InvalidFromPointer
 moved_whole P None = refl
 moved_whole P (Some v) = refl
-
-pub move_none : (text : List ℕ) (F P : Pointer) (i : Json) → (IsProperPrefix F P → ⊥) → (j : Json) × IsShallowText text j × (tree_at F j ≡ None) → Says text i → ComesTo i (move F P) (Err InvalidFromPointer)
-move_none text F P i out h said =
-    sym (ap (λ b. moves b P (tree_at F i) (removed F i)) (not_begins F P out) ∙ ap (λ o. after_move P o (removed F i)) (nowhere text F i h said) ∙ moved_none P (removed F i))
 
 pub move_whole : (text : List ℕ) (F P : Pointer) (i : Json) → (IsProperPrefix F P → ⊥) → HasNothingToRemove text F → Says text i → ComesTo i (move F P) (Err InvalidFromPointer)
 move_whole text F P i out h said =
@@ -155,19 +148,24 @@ move_stops text s less F P i (step.Refused kind) out a said r h =
 move_stops text s less F P i (step.Memory e) out a said r h = tt
 
 -- what comes of a call that adds s, which stood at F, where this is removed
-pub moved_bytes : (text s less new : List ℕ) (F P : Pointer) (r : Result Bool StepFault) → (j : Json) × IsShallowText text j × IsWrittenAt text j F s → IsRemoved text F less → IfOk r (λ deeper. IsAdded less P s new) → IfOk r (λ deeper. IsMoved text F P new)
+pub moved_bytes : (text s less new : List ℕ) (F P : Pointer) (r : Result (Option ℕ) StepFault) → (j : Json) × IsShallowText text j × IsWrittenAt text j F s → IsRemoved text F less → IfOk r (λ deeper. IsAdded less P s new) → IfOk r (λ deeper. IsMoved text F P new)
 moved_bytes text s less new F P (Ok deeper) (j, shallow, written) gone h = (j, s, less, shallow.0, written, gone, h)
 moved_bytes text s less new F P (Err f) a gone h = tt
 
-pub moved_tree : (text s less new : List ℕ) (F P : Pointer) (r : Result Bool StepFault) → (IsProperPrefix F P → ⊥) → (j : Json) × IsShallowText text j × IsWrittenAt text j F s → IsRemoved text F less → IfOk r (λ deeper. IsAdded less P s new)
+pub moved_tree : (text s less new : List ℕ) (F P : Pointer) (r : Result (Option ℕ) StepFault) → (IsProperPrefix F P → ⊥) → (j : Json) × IsShallowText text j × IsWrittenAt text j F s → IsRemoved text F less → IfOk r (λ deeper. IsAdded less P s new)
     → IfOk r (λ deeper. (i : Json) → Says text i → IsLeft new i (move F P))
 moved_tree text s less new F P (Ok deeper) out a gone h = λ i said. move_comes text s less new F P i out a said gone h
 moved_tree text s less new F P (Err f) out a gone h = tt
 
-pub moved_stopped : (text s less : List ℕ) (F P : Pointer) (r : Result Bool StepFault) → (IsProperPrefix F P → ⊥) → (j : Json) × IsShallowText text j × IsWrittenAt text j F s → IsRemoved text F less → IfErr r (IsNotMade (HasNoPlace less P))
+pub moved_stopped : (text s less : List ℕ) (F P : Pointer) (r : Result (Option ℕ) StepFault) → (IsProperPrefix F P → ⊥) → (j : Json) × IsShallowText text j × IsWrittenAt text j F s → IsRemoved text F less → IfErr r (IsNotMade (HasNoPlace less P))
     → IfErr r (λ f. (i : Json) → Says text i → IsStopped i (move F P) f)
 moved_stopped text s less F P (Ok deeper) out a gone h = tt
 moved_stopped text s less F P (Err f) out a gone h = λ i said. move_stops text s less F P i f out a said gone h
+
+-- the fault of a part is that of the whole
+pub as_stopped : {A : Type 0} (Q : StepFault → Type 0) (r : Result A StepFault) (f : StepFault) → IsErrAnd r (λ x. x ≡ f) → Q f → IfErr r Q
+as_stopped Q (Ok a) f e h = tt
+as_stopped Q (Err g) f e h = subst Q (sym e) h
 
 -- ---- test
 

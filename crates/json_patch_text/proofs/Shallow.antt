@@ -80,11 +80,11 @@ over_by_size n text patch keeps l e le (os, ops, says, written, in_patch, over) 
         let deep : l.depth < nesting over.new = over.over in
         absurd (omega (arith, low, deep, le))
 
-pub never_too_deep : (n : ℕ) (text patch : List ℕ) (ops : List TreeOperation) → SaysOperations patch ops → AllPutWithin n ops → nesting text ≤ n → n ≤ max_depth → IsNeverTooDeep n text patch
-never_too_deep n text patch ops says fit low le = (at_no_operation, over_by_size n text patch keeps)
+pub never_kept : (n : ℕ) (text patch : List ℕ) → KeepsWithin n text patch → n ≤ max_depth → IsNeverTooDeep n text patch
+never_kept n text patch keeps le = (at_no_operation, over_by_size n text patch keeps)
   where
-    keeps : KeepsWithin n text patch
-    keeps = keeps_within n text patch ops says fit low
-
     at_no_operation : (k : ℕ) → IsPatchTextFault text patch (TooDeep k) → ⊥
     at_no_operation k (os, texts, less, (left, made, deep)) = let low : nesting left ≤ n = keeps os k left texts made in absurd (omega (arith, low, deep, le))
+
+pub never_too_deep : (n : ℕ) (text patch : List ℕ) (ops : List TreeOperation) → SaysOperations patch ops → AllPutWithin n ops → nesting text ≤ n → n ≤ max_depth → IsNeverTooDeep n text patch
+never_too_deep n text patch ops says fit low le = never_kept n text patch (keeps_within n text patch ops says fit low) le

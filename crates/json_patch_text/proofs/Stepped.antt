@@ -1,9 +1,9 @@
 -- What a step leaves, from what the call for its operation does.
-use Rattle.std.proofs.Common.{◌≡◌, ℕ, List, [], ◌∷◌, Bool, true, false, Result, Ok, Err, IfOk, IfErr, Bor, ◌∙◌, sym, subst, arith}
+use Rattle.std.proofs.Common.{◌≡◌, ℕ, List, [], ◌∷◌, true, false, Option, Result, Ok, Err, IfOk, IfErr, Bor, ◌∙◌, sym, subst, arith}
 use Rattle.json.specs.Json.{Json}
 use Rattle.jsonptr.specs.Text.{Pointer}
 use Rattle.json_patch_text.specs.Logs.{Counts}
-use Rattle.json_patch_text.specs.Made.{Copies, HasBytesAt, IsLeft, IsNotMade, IsStepped, IsStopped}
+use Rattle.json_patch_text.specs.Made.{Costs, HasBytesAt, HasMoreAt, IsLeft, IsNotMade, IsStepped, IsStopped}
 use Rattle.json_patch_text.specs.Operations.{TreeOperation, add, remove, replace, move, copy, test}
 use Rattle.json_patch_text.specs.Step.{ComesTo}
 use Rattle.json_patch_text.specs.TextOperations.{IsWrittenAs}
@@ -85,22 +85,22 @@ test_left text v new P Q o s i op is p e kept a said h = by op (subst (λ x. IsW
 
 -- ---- made or not
 
-pub add_stepped : (text v new : List ℕ) (P Q : Pointer) (o : TextOperation) (s : Bor (List ℕ)) (i : Json) (op : TreeOperation) (r : Result Bool StepFault) → o ≡ Add Q s → P ≡ Q → v ≡ s.now → IfOk r (λ deeper. IsAdded text P v new) → IfErr r (IsNotMade (HasNoPlace text P))
+pub add_stepped : (text v new : List ℕ) (P Q : Pointer) (o : TextOperation) (s : Bor (List ℕ)) (i : Json) (op : TreeOperation) (r : Result (Option ℕ) StepFault) → o ≡ Add Q s → P ≡ Q → v ≡ s.now → IfOk r (λ deeper. IsAdded text P v new) → IfErr r (IsNotMade (HasNoPlace text P))
     → Says text i → IsWrittenAs o op → IsStepped i op new r
 add_stepped text v new P Q o s i op (Ok deeper) is p e a n said h = add_left text v new P Q o s i op is p e a said h
 add_stepped text v new P Q o s i op (Err f) is p e a n said h = add_stopped text P Q o s i op f is p n said h
 
-pub remove_stepped : (text new : List ℕ) (P Q : Pointer) (o : TextOperation) (i : Json) (op : TreeOperation) (r : Result Bool StepFault) → o ≡ Remove Q → P ≡ Q → IfOk r (λ deeper. IsRemoved text P new) → IfErr r (IsNotMade (HasNothingToRemove text P))
+pub remove_stepped : (text new : List ℕ) (P Q : Pointer) (o : TextOperation) (i : Json) (op : TreeOperation) (r : Result (Option ℕ) StepFault) → o ≡ Remove Q → P ≡ Q → IfOk r (λ deeper. IsRemoved text P new) → IfErr r (IsNotMade (HasNothingToRemove text P))
     → Says text i → IsWrittenAs o op → IsStepped i op new r
 remove_stepped text new P Q o i op (Ok deeper) is p a n said h = remove_left text new P Q o i op is p a said h
 remove_stepped text new P Q o i op (Err f) is p a n said h = remove_stopped text P Q o i op f is p n said h
 
-pub replace_stepped : (text v new : List ℕ) (P Q : Pointer) (o : TextOperation) (s : Bor (List ℕ)) (i : Json) (op : TreeOperation) (r : Result Bool StepFault) → o ≡ Replace Q s → P ≡ Q → v ≡ s.now → IfOk r (λ deeper. IsReplaced text P v new) → IfErr r (IsNotMade (LeadsNowhere text P))
+pub replace_stepped : (text v new : List ℕ) (P Q : Pointer) (o : TextOperation) (s : Bor (List ℕ)) (i : Json) (op : TreeOperation) (r : Result (Option ℕ) StepFault) → o ≡ Replace Q s → P ≡ Q → v ≡ s.now → IfOk r (λ deeper. IsReplaced text P v new) → IfErr r (IsNotMade (LeadsNowhere text P))
     → Says text i → IsWrittenAs o op → IsStepped i op new r
 replace_stepped text v new P Q o s i op (Ok deeper) is p e a n said h = replace_left text v new P Q o s i op is p e a said h
 replace_stepped text v new P Q o s i op (Err f) is p e a n said h = replace_stopped text P Q o s i op f is p n said h
 
-pub move_stepped : (text new : List ℕ) (F G P Q : Pointer) (o : TextOperation) (i : Json) (op : TreeOperation) (r : Result Bool StepFault) → o ≡ Move G Q → F ≡ G → P ≡ Q → IfOk r (λ deeper. (j : Json) → Says text j → IsLeft new j (move F P))
+pub move_stepped : (text new : List ℕ) (F G P Q : Pointer) (o : TextOperation) (i : Json) (op : TreeOperation) (r : Result (Option ℕ) StepFault) → o ≡ Move G Q → F ≡ G → P ≡ Q → IfOk r (λ deeper. (j : Json) → Says text j → IsLeft new j (move F P))
     → IfErr r (λ f. (j : Json) → Says text j → IsStopped j (move F P) f) → Says text i → IsWrittenAs o op → IsStepped i op new r
 move_stepped text new F G P Q o i op (Ok deeper) is f p a n said h = move_left new F G P Q o i op is f p (a i said) h
 move_stepped text new F G P Q o i op (Err g) is f p a n said h = move_stopped F G P Q o i op g is f p (n i said) h
@@ -119,7 +119,7 @@ copy_stopped F G P Q o i op fault is f p a h = by op (subst (λ x. IsWrittenAs x
     by (copy E R) h = subst (λ T. IsStopped i (copy E T) fault) (p ∙ h.1) (subst (λ T. IsStopped i (copy T P) fault) (f ∙ h.0) a)
     by op h = absurd h
 
-pub copy_stepped : (text new : List ℕ) (F G P Q : Pointer) (o : TextOperation) (i : Json) (op : TreeOperation) (r : Result Bool StepFault) → o ≡ Copy G Q → F ≡ G → P ≡ Q → IfOk r (λ deeper. (j : Json) → Says text j → IsLeft new j (copy F P))
+pub copy_stepped : (text new : List ℕ) (F G P Q : Pointer) (o : TextOperation) (i : Json) (op : TreeOperation) (r : Result (Option ℕ) StepFault) → o ≡ Copy G Q → F ≡ G → P ≡ Q → IfOk r (λ deeper. (j : Json) → Says text j → IsLeft new j (copy F P))
     → IfErr r (λ f. (j : Json) → Says text j → IsStopped j (copy F P) f) → Says text i → IsWrittenAs o op → IsStepped i op new r
 copy_stepped text new F G P Q o i op (Ok deeper) is f p a n said h = copy_left new F G P Q o i op is f p (a i said) h
 copy_stepped text new F G P Q o i op (Err g) is f p a n said h = copy_stopped F G P Q o i op g is f p (n i said) h
@@ -141,12 +141,15 @@ taken_replace text o P Q v us is p back = subst (λ x. IsTakenFrom text x us) (s
 pub taken_move : (text : List ℕ) (o : TextOperation) (F G P Q : Pointer) (us : List Undo) → o ≡ Move G Q → F ≡ G → P ≡ Q → IsMovedBack text F P us → IsTakenFrom text o us
 taken_move text o F G P Q us is f p back = subst (λ x. IsTakenFrom text x us) (sym is) (subst (λ X. IsMovedBack text G X us) p (subst (λ X. IsMovedBack text X P us) f back))
 
--- ---- what it copies
+-- ---- what it costs
 
-pub copies_none : {A E : Type 0} (text : List ℕ) (o : TextOperation) (old new : Log) (r : Result A E) → Copies text o 0 → IfOk r (λ done. new.copied ≡ old.copied) → IfOk r (λ done. Counts old (Copies text o) new)
-copies_none text o old new (Ok x) none same = (0, none, omega (arith, same))
-copies_none text o old new (Err f) none same = tt
+pub costs_none : {A E : Type 0} (text : List ℕ) (o : TextOperation) (old new : Log) (r : Result A E) → Costs text o 0 → IfOk r (λ done. new.cost ≡ old.cost) → IfOk r (λ done. Counts old (Costs text o) new)
+costs_none text o old new (Ok x) none same = (0, none, omega (arith, same))
+costs_none text o old new (Err f) none same = tt
 
-pub copies_some : {A E : Type 0} (text : List ℕ) (o : TextOperation) (F P Q : Pointer) (old new : Log) (r : Result A E) → o ≡ Copy F Q → P ≡ F → IfOk r (λ done. Counts old (HasBytesAt text P) new) → IfOk r (λ done. Counts old (Copies text o) new)
-copies_some text o F P Q old new (Ok x) is f (n, bytes, sum) = (n, subst (λ y. Copies text y n) (sym is) (subst (λ X. HasBytesAt text X n) f bytes), sum)
-copies_some text o F P Q old new (Err e) is f counts = tt
+pub copy_costs : {A E : Type 0} (text : List ℕ) (o : TextOperation) (F P Q : Pointer) (old new : Log) (r : Result A E) → o ≡ Copy F Q → P ≡ F → IfOk r (λ done. Counts old (HasBytesAt text P) new) → IfOk r (λ done. Counts old (Costs text o) new)
+copy_costs text o F P Q old new (Ok x) is f (n, bytes, sum) = (n, subst (λ y. Costs text y n) (sym is) (subst (λ X. HasBytesAt text X n) f bytes), sum)
+copy_costs text o F P Q old new (Err e) is f counts = tt
+
+pub test_costs : (text u : List ℕ) (P Q : Pointer) (v : Bor (List ℕ)) (o : TextOperation) (old new : Log) → o ≡ Test Q v → P ≡ Q → u ≡ v.now → Counts old (HasMoreAt text P u) new → Counts old (Costs text o) new
+test_costs text u P Q v o old new is p value (n, more, sum) = (n, subst (λ y. Costs text y n) (sym is) (subst (λ x. HasMoreAt text Q x n) value (subst (λ X. HasMoreAt text X u n) p more)), sum)

@@ -9,7 +9,8 @@ use Rattle.json_patch_limits.specs.declared.limits.Limits.{Limits}
 use Rattle.json_patch_text.specs.Bounded.{AreRecordedUnder, AreShort, IsLoggedUnder, IsUnder, most_of}
 use Rattle.json_patch_text.specs.Operations.{TreeOperation}
 use Rattle.json_patch_text.specs.Patched.{AcceptsPatch, HasTexts}
-use Rattle.json_patch_text.specs.WayBack.{IsRecorded, IsUndoWithin}
+use Rattle.json_patch_text.specs.WayBack.{IsRecorded, IsRecordedWithin, IsUndoWithin}
+use Rattle.json_patch_text.specs.Within.{most_bytes}
 use Rattle.json_patch_text.specs.Run.{AcceptsText}
 use Rattle.json_patch_text.specs.TextOperations.{AreWrittenAs}
 use Rattle.json_patch_text.specs.Undos.{AreTakenFrom, backward_text, undo_list}
@@ -50,7 +51,7 @@ leads text patch new undo r = (r.back, r.inverse.0, (r.j, r.i, r.says.1, r.says.
 -- ---- from a run that keeps what takes it back
 
 pub undo_kept : (b : Option Bounds) (text new undo : List ℕ) (os : List TextOperation) (old log : Log) → old.kept ≡ true → (log.kept ≡ old.kept) × IsLoggedUnder b text os new log → undo ≡ backward_text (map string_bytes log.texts.items)
-    → (us : List Undo) × AreRecordedUnder b text os new us log.copied × (undo ≡ undo_list us)
+    → (us : List Undo) × AreRecordedUnder b text os new us log.cost × (undo ≡ undo_list us)
 undo_kept b text new undo os old log on (same, logged) is = let (us, has, recorded) = logged (same ∙ on) in (us, recorded, is ∙ ap backward_text has.0)
 
 pub recorded_all : (text patch new undo : List ℕ) (os : List TextOperation) (n : ℕ) → HasTexts patch os → ((ops : List TreeOperation) → AreWrittenAs os ops → AcceptsText text ops new) → (us : List Undo) × AreRecordedUnder None text os new us n × (undo ≡ undo_list us)
@@ -99,3 +100,11 @@ record_starts l text patch t os A e low (i, shallow) (ops, (p, patch_said, reads
     let same : length t ≡ length text = ap length e in
     let most : most_of (bounds_of l text patch) ≡ length text + (length patch + l.copied) = refl in
     ((subst (λ x. nesting x ≤ l.depth) (sym e) low, omega (arith, same, most)), λ a. none_short (bounds_of l text patch) text patch i p (subst (λ x. Says x i) e shallow.0) patch_said refl refl)
+
+-- all that is promised of a run within limits that keeps what takes it back
+pub recorded_run : (l : Limits) (text patch new undo : List ℕ) (os : List TextOperation) (n : ℕ) → HasTexts patch os → ((ops : List TreeOperation) → AreWrittenAs os ops → AcceptsText text ops new)
+    → (us : List Undo) × AreRecordedUnder (Some (bounds_of l text patch)) text os new us n × (undo ≡ undo_list us)
+    → IsRecorded text patch new undo × AcceptsPatch new undo text × IsRecordedWithin l text patch new undo × IsUndoWithin l (most_bytes l text patch) undo
+recorded_run l text patch new undo os n h accepted (us, kept, is) =
+    let (recorded, low) = recorded_within (bounds_of l text patch) text patch new undo os n h accepted (us, kept, is) in
+    (recorded, leads text patch new undo recorded, (os, us, n, h, (kept.0, kept.1.0, kept.1.1), is), low)

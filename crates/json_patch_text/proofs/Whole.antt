@@ -1,11 +1,16 @@
 -- A text with no whitespace around it is where its own value stands.
-use Rattle.std.proofs.Common.{◌≡◌, ℕ, suc, ◌-◌, List, [], ◌∷◌, ◌++◌, length, get_or, Bool, true, false, cond, ◌==◌, refl, sym, ap, ◌∙◌, append-nil, arith, length-append}
+use Rattle.std.proofs.Common.{◌≡◌, ℕ, suc, ◌-◌, List, [], ◌∷◌, ◌++◌, length, get_or, Bool, true, false, cond, ◌==◌, refl, sym, ap, ◌∙◌, subst, append-nil, arith, length-append}
 use Rattle.std.proofs.lemmas.Bool.{false≢true}
 use Rattle.json.specs.Json.{Json, array, object, no_items, no_members}
 use Rattle.json.specs.Lex.{Class, quote, backslash, operator, space, other, class, between, lex, lex_byte}
 use Rattle.json.specs.Word.{is_operator, is_space}
 use Rattle.json_text.specs.Pointed.{IsTight, IsWrittenAt}
-use Rattle.json_lexemes.specs.Spelled.{Says}
+use Rattle.json_lexemes.specs.Spelled.{IsShallowText, Says}
+use Rattle.json_patch_text.specs.Drafts.{IsTakenOut}
+use Rattle.json_pieces.specs.Changes.{IsValueIn}
+use Rattle.json_pieces.specs.Whole.{IsTaken, taken_text}
+use Rattle.json_pieces.specs.declared.taken.Taken.{Taken}
+use Rattle.jsonptr.specs.Text.{Pointer}
 use Rattle.json_lexemes.proofs.FirstBytes.{kind, byte_by_kind}
 
 -- ---- whitespace
@@ -88,3 +93,10 @@ put_is [] put (y ∷ ys) s tight e fits =
 
 pub as_written : (s put : List ℕ) (w : Json) → IsTight s → IsWrittenAt s w [] put → put ≡ s
 as_written s put w tight (before, behind, whole, (v, at, stretch)) = put_is before put behind s tight whole stretch.alone
+
+-- a value that is made of a copy is the one that was copied
+pub taken_whole : (text s copy : List ℕ) (P : Pointer) (t : Taken) → (j : Json) × IsShallowText text j × IsWrittenAt text j P s → copy ≡ s → IsTaken t → IsValueIn copy (taken_text t) → IsTakenOut text P t
+taken_whole text s copy P t (j, shallow, written) e h (w, copied, at, said) =
+    let (before, behind, whole, (v, leads, stretch)) = written in
+    let same : taken_text t ≡ s = as_written copy (taken_text t) w (subst IsTight (sym e) stretch.tight) at ∙ e in
+    (h, (j, shallow, subst (IsWrittenAt text j P) (sym same) written))

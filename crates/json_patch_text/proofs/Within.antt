@@ -44,7 +44,7 @@ fault_within : (b : Bounds) (text patch : List ℕ) (os : List TextOperation) (f
 fault_within b text patch os (within.Over e) most (ops, says, w, in_patch) runs = (os, ops, says, w, in_patch, subst (λ n. IsTextOverAt b.limits n text os ops e.operation e.kind) most (runs ops w))
 fault_within b text patch os (within.Patch f) most h runs = patch_fault b text patch os f most h (λ ops w. let (fault, left, before) = runs ops w in (fault, left))
 
-pub run_within : {A : Type 0} (b : Bounds) (text patch : List ℕ) (os : List TextOperation) (r : Result (String A) TextLimitFault) → most_of b ≡ most_bytes b.limits text patch → HasTexts patch os
+pub run_within : {A : Type 0} (b : Bounds) (text patch : List ℕ) (os : List TextOperation) (r : Result A TextLimitFault) → most_of b ≡ most_bytes b.limits text patch → HasTexts patch os
     → IfErr r (λ f. (ops : List TreeOperation) → AreWrittenAs os ops → IsRunFaultUnder false (Some b) text os ops f) → IfErr r (IsTextLimitFault b.limits text patch)
 run_within b text patch os (Ok new) most h runs = tt
 run_within b text patch os (Err f) most h runs = fault_within b text patch os f most h runs

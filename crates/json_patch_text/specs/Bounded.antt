@@ -34,9 +34,9 @@ abbrev pub IsUnder : Option Bounds → List ℕ → Type 0
 IsUnder None text = ⊤
 IsUnder (Some b) text = IsTextWithin b.limits (most_of b) text
 
--- no more was copied than a text may have, nor has the undo's text more, if one is to be kept
+-- the operations cost no more than a text may have, nor has the undo's text more, if one is to be kept
 abbrev pub IsLogShort : Bounds → Log → Type 0
-IsLogShort b log = (log.copied ≤ most_of b) × (log.kept ≡ true → log.size ≤ most_of b)
+IsLogShort b log = (log.cost ≤ most_of b) × (log.kept ≡ true → log.size ≤ most_of b)
 
 abbrev pub IsLogUnder : Option Bounds → Log → Type 0
 IsLogUnder None log = ⊤
@@ -45,13 +45,13 @@ IsLogUnder (Some b) log = IsLogShort b log
 -- how a text and what is kept are over the limits
 abbrev pub IsStepOver : Bounds → List ℕ → Log → LimitKind → Type 0
 IsStepOver b text log limit.TooDeep = b.limits.depth < nesting text
-IsStepOver b text log limit.TooMuch = (nesting text ≤ b.limits.depth) × ((most_of b < length text) ⊎ ((most_of b < log.copied) ⊎ ((log.kept ≡ true) × (most_of b < log.size))))
+IsStepOver b text log limit.TooMuch = (nesting text ≤ b.limits.depth) × ((most_of b < length text) ⊎ ((most_of b < log.cost) ⊎ ((log.kept ≡ true) × (most_of b < log.size))))
 
 abbrev pub StepOverBy : Option Bounds → List ℕ → Log → LimitKind → Type 0
 StepOverBy None text log kind = ⊥
 StepOverBy (Some b) text log kind = IsStepOver b text log kind
 
--- the operations make new of the text; if there are limits, within them, and n bytes are copied in all
+-- the operations make new of the text; if there are limits, within them, and they cost n bytes in all
 abbrev pub AreMadeUnder : Option Bounds → List ℕ → List TextOperation → List ℕ → ℕ → Type 0
 AreMadeUnder None text os new n = AreMadeIn text os new
 AreMadeUnder (Some b) text os new n = AreMadeWithin b.limits (most_of b) text os new n
@@ -83,7 +83,7 @@ abbrev pub AreRecordedUnder : Option Bounds → List ℕ → List TextOperation 
 AreRecordedUnder b text os new us n = AreTakenFrom (IsUnder b) text os new us n × AreShort b us n
 
 abbrev pub IsLoggedUnder : Option Bounds → List ℕ → List TextOperation → List ℕ → Log → Type 0
-IsLoggedUnder b text os new log = log.kept ≡ true → (us : List Undo) × HasLog log us × AreRecordedUnder b text os new us log.copied
+IsLoggedUnder b text os new log = log.kept ≡ true → (us : List Undo) × HasLog log us × AreRecordedUnder b text os new us log.cost
 
 abbrev pub IsRecordedUntil : Option Bounds → List ℕ → List TextOperation → ℕ → Type 0
 IsRecordedUntil b text os k = (left : List ℕ) × (us : List Undo) × (n : ℕ) × AreRecordedUnder b text (take k os) left us n

@@ -22,6 +22,6 @@ AreLogged old vs new = (us : List Undo) → HasLog old us → HasLog new (us ++ 
 abbrev pub Logs : Log → (List Undo → Type 0) → Log → Type 0
 Logs old Is new = (new.kept ≡ old.kept) × (old.kept ≡ true → (vs : List Undo) × Is vs × AreLogged old vs new)
 
--- so many bytes more are counted as copied
+-- the cost is so many bytes more
 abbrev pub Counts : Log → (ℕ → Type 0) → Log → Type 0
-Counts old Are new = (n : ℕ) × Are n × (new.copied ≡ old.copied + n)
+Counts old Are new = (n : ℕ) × Are n × (new.cost ≡ old.cost + n)

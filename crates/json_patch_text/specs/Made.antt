@@ -1,5 +1,5 @@
 -- What an operation makes of a text, in trees and byte by byte (RFC 6902, section 4).
-use Rattle.std.specs.Prelude.{◌≡◌, ◌<◌, ◌≤◌, Bool, false, ℕ, List, [], ◌∷◌, length, take, Result, Ok, Err, ⊤}
+use Rattle.std.specs.Prelude.{◌≡◌, ◌<◌, ◌≤◌, ◌-◌, IfSome, ℕ, Option, List, [], ◌∷◌, length, take, Result, Ok, Err, ⊤}
 use Rattle.json.specs.Json.{Json, max_depth}
 use Rattle.jsonptr.specs.Text.{Pointer}
 use Rattle.json_patch_operation.specs.declared.error.PatchErrorKind.TheVariants.{InvalidPointer}
@@ -42,7 +42,7 @@ abbrev pub AreMadeIn : List ℕ → List TextOperation → List ℕ → Type 0
 AreMadeIn text [] new = new ≡ text
 AreMadeIn text (o ∷ os) new = (next : List ℕ) × IsMadeIn text o next × AreMadeIn next os new
 
--- ---- how much is copied
+-- ---- what it takes of a limit on bytes
 
 -- s is what stands in the text where P leads, as it is written
 abbrev pub Stands : List ℕ → Pointer → List ℕ → Type 0
@@ -52,10 +52,16 @@ Stands text P s = (i : Json) × Says text i × IsWrittenAt text i P s
 abbrev pub HasBytesAt : List ℕ → Pointer → ℕ → Type 0
 HasBytesAt text P n = (s : List ℕ) × Stands text P s × (n ≡ length s)
 
--- the operation copies n bytes of the text: a `copy` what stands at its `from`, any other none
-abbrev pub Copies : List ℕ → TextOperation → ℕ → Type 0
-Copies text (Copy F P) n = HasBytesAt text F n
-Copies text o n = n ≡ 0
+-- n is how many more bytes stand there than v has
+abbrev pub HasMoreAt : List ℕ → Pointer → List ℕ → ℕ → Type 0
+HasMoreAt text P v n = (m : ℕ) × HasBytesAt text P m × (n ≡ m - length v)
+
+-- the operation costs n bytes: a `copy` those that it copies, of what stands at its `from`; a `test` those that it reads of what stands at its
+-- path, less as many as its value has; any other none
+abbrev pub Costs : List ℕ → TextOperation → ℕ → Type 0
+Costs text (Copy F P) n = HasBytesAt text F n
+Costs text (Test P v) n = HasMoreAt text P v.now n
+Costs text o n = n ≡ 0
 
 -- ---- too deep
 
@@ -81,13 +87,13 @@ IsStopped i op (step.Refused kind) = ComesTo i op (Err kind)
 IsStopped i op (step.Memory m) = ⊤
 
 -- new is what it leaves where it is made
-abbrev pub IsStepped : Json → TreeOperation → List ℕ → Result Bool StepFault → Type 0
-IsStepped i op new (Ok deeper) = IsLeft new i op
+abbrev pub IsStepped : Json → TreeOperation → List ℕ → Result (Option ℕ) StepFault → Type 0
+IsStepped i op new (Ok most) = IsLeft new i op
 IsStepped i op new (Err f) = IsStopped i op f
 
--- of a text that nests no deeper than these levels, the new one doesn't either, unless it is said that it may
-abbrev pub IsNoDeeper : ℕ → List ℕ → List ℕ → Bool → Type 0
-IsNoDeeper levels text new deeper = deeper ≡ false → nesting text ≤ levels → nesting new ≤ levels
+-- of a text that nests no deeper than these levels, the new one nests no deeper than most, if that is known
+abbrev pub IsNested : ℕ → List ℕ → List ℕ → Option ℕ → Type 0
+IsNested levels text new most = IfSome most (λ n. nesting text ≤ levels → nesting new ≤ n)
 
 -- a change isn't made, since the pointer leads nowhere in this sense
 abbrev pub IsNotMade : Type 0 → StepFault → Type 0

@@ -9,7 +9,7 @@ use Rattle.json_lexemes.specs.Skipped.{nesting}
 use Rattle.json_lexemes.specs.Spelled.{Says}
 use Rattle.json_patch_document.specs.ChangeComputed.{front_of}
 use Rattle.json_patch_text.specs.Inverses.{undo_added}
-use Rattle.json_patch_text.specs.Made.{Copies, IsMadeIn, Stands}
+use Rattle.json_patch_text.specs.Made.{Costs, IsMadeIn, Stands}
 use Rattle.json_patch_text.specs.Operations.{TreeOperation, add, remove, replace}
 use Rattle.json_patch_text.specs.declared.operation.TextOperation.{TextOperation}
 use Rattle.json_patch_text.specs.declared.operation.TextOperation.TheVariants.{Add, Remove, Replace, Move, Copy, Test}
@@ -55,10 +55,10 @@ IsTakenFrom text (Test P v) us = us ≡ []
 -- ---- a list of operations
 
 -- new is the text with each operation made in turn, on a text of at most 128 levels, and us what takes them back, the last of us first;
--- each text on the way is so, and n bytes are copied in all
+-- each text on the way is so, and they cost n bytes in all
 abbrev pub AreTakenFrom : (List ℕ → Type 0) → List ℕ → List TextOperation → List ℕ → List Undo → ℕ → Type 0
 AreTakenFrom Fits text [] new us n = Fits text × (new ≡ text) × (us ≡ []) × (n ≡ 0)
-AreTakenFrom Fits text (o ∷ os) new us n = Fits text × (nesting text ≤ max_depth) × ((next : List ℕ) × (vs : List Undo) × (ws : List Undo) × (m : ℕ) × (rest : ℕ) × IsMadeIn text o next × IsTakenFrom text o vs × Copies text o m × AreTakenFrom Fits next os new ws rest × (us ≡ vs ++ ws) × (n ≡ m + rest))
+AreTakenFrom Fits text (o ∷ os) new us n = Fits text × (nesting text ≤ max_depth) × ((next : List ℕ) × (vs : List Undo) × (ws : List Undo) × (m : ℕ) × (rest : ℕ) × IsMadeIn text o next × IsTakenFrom text o vs × Costs text o m × AreTakenFrom Fits next os new ws rest × (us ≡ vs ++ ws) × (n ≡ m + rest))
 
 -- ---- its text
 

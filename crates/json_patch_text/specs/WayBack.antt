@@ -8,7 +8,7 @@ use Rattle.json_patch_limits.specs.declared.limits.LimitKind.{LimitKind}
 use Rattle.json_patch_limits.specs.declared.limits.LimitKind.TheVariants as limit
 use Rattle.json_patch_limits.specs.declared.limits.Limits.{Limits}
 use Rattle.json_patch_text.specs.Inverses.{IsTreeInverse}
-use Rattle.json_patch_text.specs.Made.{Copies, IsMadeIn}
+use Rattle.json_patch_text.specs.Made.{Costs, IsMadeIn}
 use Rattle.json_patch_text.specs.Operations.{TreeOperation, SaysOperations, all_under}
 use Rattle.json_patch_text.specs.Patched.{HasTexts}
 use Rattle.json_patch_text.specs.Run.{AcceptsText, AcceptsTree}
@@ -55,7 +55,7 @@ AreRecordedWithin l most text os new us n = AreTakenFrom (IsTextWithin l most) t
 abbrev pub IsUndoWithin : Limits → ℕ → List ℕ → Type 0
 IsUndoWithin l most undo = (nesting undo ≤ 2 + l.depth) × (length undo ≤ most)
 
--- how a new text is over the limits, or its undo's, or the n bytes that were copied for it
+-- how a new text is over the limits, or its undo's, or the n bytes that the operations cost
 abbrev pub IsRecordOver : Limits → ℕ → List ℕ → List ℕ → ℕ → LimitKind → Type 0
 IsRecordOver l most new undo n limit.TooDeep = l.depth < nesting new
 IsRecordOver l most new undo n limit.TooMuch = (nesting new ≤ l.depth) × ((most < length new) ⊎ ((most < n) ⊎ (most < length undo)))
@@ -69,7 +69,7 @@ pub record IsRecordOverAt (l : Limits) (most : ℕ) (text : List ℕ) (os : List
   pub new : List ℕ
   pub vs : List Undo
   pub m : ℕ
-  pub made : (o : TextOperation) × (slice_get os k ≡ Some o) × IsMadeIn left o new × IsTakenFrom left o vs × Copies left o m
+  pub made : (o : TextOperation) × (slice_get os k ≡ Some o) × IsMadeIn left o new × IsTakenFrom left o vs × Costs left o m
   pub accepted : AcceptsText text (take (suc k) ops) new
   pub over : IsRecordOver l most new (undo_list (us ++ vs)) (n + m) kind
 

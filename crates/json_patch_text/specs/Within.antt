@@ -1,11 +1,11 @@
--- A JSON text patched within limits: how deep each text on the way nests, how long it is, and how much is copied.
+-- A JSON text patched within limits: how deep each text on the way nests, how long it is, and what the operations cost.
 use Rattle.std.specs.Prelude.{◌≡◌, ◌⊎◌, ◌≤◌, ◌<◌, ◌+◌, ℕ, suc, List, [], ◌∷◌, length, take, Some, slice_get}
 use Rattle.json.specs.Json.{Json, max_depth}
 use Rattle.json_patch_limits.specs.declared.limits.LimitError.{LimitError}
 use Rattle.json_patch_limits.specs.declared.limits.LimitKind.{LimitKind}
 use Rattle.json_patch_limits.specs.declared.limits.LimitKind.TheVariants as limit
 use Rattle.json_patch_limits.specs.declared.limits.Limits.{Limits}
-use Rattle.json_patch_text.specs.Made.{Copies, IsMadeIn}
+use Rattle.json_patch_text.specs.Made.{Costs, IsMadeIn}
 use Rattle.json_patch_text.specs.Operations.{TreeOperation, SaysOperations}
 use Rattle.json_patch_text.specs.Patched.{HasTexts, IsPatchTextFault}
 use Rattle.json_patch_text.specs.Run.{AcceptsText}
@@ -22,7 +22,7 @@ use Rattle.json_text.specs.declared.fault.TextFault.TheVariants as fault
 
 -- ---- a text and the limits
 
--- how many bytes a text may have, and the `copy`s may copy together: as many as the document's text and the patch's, and `copied` more
+-- how many bytes a text may have, and the operations of a list may cost together: as many as the document's text and the patch's, and `copied` more
 abbrev pub most_bytes : Limits → List ℕ → List ℕ → ℕ
 most_bytes l text patch = length text + (length patch + l.copied)
 
@@ -30,32 +30,32 @@ most_bytes l text patch = length text + (length patch + l.copied)
 abbrev pub IsTextWithin : Limits → ℕ → List ℕ → Type 0
 IsTextWithin l most text = (nesting text ≤ l.depth) × (length text ≤ most)
 
--- or how it is over them, or the n bytes that were copied for it
+-- or how it is over them, or the n bytes that the operations cost
 abbrev pub IsTextOver : Limits → ℕ → List ℕ → ℕ → LimitKind → Type 0
 IsTextOver l most text n limit.TooDeep = l.depth < nesting text
 IsTextOver l most text n limit.TooMuch = (nesting text ≤ l.depth) × ((most < length text) ⊎ (most < n))
 
 -- ---- a list of operations
 
--- new is the text with each operation made in turn, each text on the way is within the limits, the first and the last too, and n bytes are
--- copied in all
-abbrev pub AreMadeCopying : Limits → ℕ → List ℕ → List TextOperation → List ℕ → ℕ → Type 0
-AreMadeCopying l most text [] new n = IsTextWithin l most text × (new ≡ text) × (n ≡ 0)
-AreMadeCopying l most text (o ∷ os) new n = IsTextWithin l most text × ((next : List ℕ) × (m : ℕ) × (rest : ℕ) × IsMadeIn text o next × Copies text o m × AreMadeCopying l most next os new rest × (n ≡ m + rest))
+-- new is the text with each operation made in turn, each text on the way is within the limits, the first and the last too, and they cost n
+-- bytes in all
+abbrev pub AreMadeAtCost : Limits → ℕ → List ℕ → List TextOperation → List ℕ → ℕ → Type 0
+AreMadeAtCost l most text [] new n = IsTextWithin l most text × (new ≡ text) × (n ≡ 0)
+AreMadeAtCost l most text (o ∷ os) new n = IsTextWithin l most text × ((next : List ℕ) × (m : ℕ) × (rest : ℕ) × IsMadeIn text o next × Costs text o m × AreMadeAtCost l most next os new rest × (n ≡ m + rest))
 
 -- and these are no more than a text may have
 abbrev pub AreMadeWithin : Limits → ℕ → List ℕ → List TextOperation → List ℕ → ℕ → Type 0
-AreMadeWithin l most text os new n = AreMadeCopying l most text os new n × (n ≤ most)
+AreMadeWithin l most text os new n = AreMadeAtCost l most text os new n × (n ≤ most)
 
--- those before the one at k are made so, and with it the list is accepted, but the text that it would leave is over the limits, or what is
--- copied with it, by this
+-- those before the one at k are made so, and with it the list is accepted, but the text that it would leave is over the limits, or what they
+-- cost with it, by this
 pub record IsTextOverAt (l : Limits) (most : ℕ) (text : List ℕ) (os : List TextOperation) (ops : List TreeOperation) (k : ℕ) (kind : LimitKind) : Type 0 where
   pub left : List ℕ
   pub n : ℕ
   pub before : AreMadeWithin l most text (take k os) left n
   pub new : List ℕ
   pub m : ℕ
-  pub made : (o : TextOperation) × (slice_get os k ≡ Some o) × IsMadeIn left o new × Copies left o m
+  pub made : (o : TextOperation) × (slice_get os k ≡ Some o) × IsMadeIn left o new × Costs left o m
   pub accepted : AcceptsText text (take (suc k) ops) new
   pub over : IsTextOver l most new (n + m) kind
 

@@ -1,6 +1,6 @@
 //! How deep and how long a text may be that a patch leaves, and how much it may copy.
 
-ghost use Rattle.std.specs.Prelude.{◌≡◌, ◌<◌, ◌≤◌, false, IfOk, MatchOption};
+ghost use Rattle.std.specs.Prelude.{◌≡◌, ◌<◌, ◌≤◌, false, IfOk, IfSome, MatchOption};
 ghost use Rattle.std.specs.Bool.{Decides};
 ghost use Rattle.json_patch_text.specs.Bounded.{IsLogShort, IsLogUnder, IsStepOver, IsUnder, StepOverBy, levels_of, most_of};
 ghost use Rattle.json_patch_text.specs.Drafts.{IsDraft, draft_text};
@@ -38,6 +38,26 @@ pub(crate) fn is_nested(
     draft.is_deeper(alloc, levels)
 }
 
+/// How deep the text nests at the most, if no more than so many levels. Where this isn't known, the text is
+/// looked at, and where it nests half as deep the look is for many changes, each of which may let it nest
+/// a little deeper.
+pub(crate) fn settled(
+    alloc: Global,
+    draft: &Draft,
+    most: Option<usize>,
+    levels: usize,
+) -> Result<Option<usize>, AllocError>
+    requires draft { IsDraft draft.now }
+    requires depth { IfSome most (λ n. nesting (draft_text draft.now) ≤ n) }
+    ensures { IfOk result (λ settled. IfSome settled
+        (λ n. (n ≤ levels) × (nesting (draft_text draft.now) ≤ n))) }
+{
+    match most {
+        Some(most) if most <= levels => Ok(Some(most)),
+        _ => draft.most_levels(alloc, levels),
+    }
+}
+
 impl Bounds {
     /// Whether so many bytes are more than a text may have.
     fn is_exceeded(self, bytes: usize) -> bool
@@ -47,7 +67,7 @@ impl Bounds {
         more.saturating_sub(self.patch) > self.limits.copied
     }
 
-    /// How the text is over the limits, or what was copied or takes it back is, if one is.
+    /// How the text is over the limits, or the cost is, or what takes it back, if one is.
     fn over(self, log: &Log, draft: &Draft, deeper: bool) -> Result<Option<LimitKind>, AllocError>
         requires draft { IsDraft draft.now }
         requires depth { deeper ≡ false → nesting (draft_text draft.now) ≤ self.limits.depth }
@@ -61,7 +81,7 @@ impl Bounds {
         if self.is_exceeded(draft.len()) {
             return Ok(Some(LimitKind::TooMuch));
         }
-        if self.is_exceeded(log.copied) {
+        if self.is_exceeded(log.cost) {
             return Ok(Some(LimitKind::TooMuch));
         }
         if log.kept && self.is_exceeded(log.size) {
@@ -71,7 +91,7 @@ impl Bounds {
     }
 }
 
-/// How the text is over the limits, or what was copied or takes it back is, if there are any and one is.
+/// How the text is over the limits, or the cost is, or what takes it back, if there are any and one is.
 pub(crate) fn over(
     bounds: Option<Bounds>,
     log: &Log,

@@ -1,17 +1,20 @@
 //! The text that operations work on: as a whole, or in pieces.
 
-ghost use Rattle.std.specs.Prelude.{◌≡◌, IfOk, MatchOption, false, option_map, true};
+ghost use Rattle.std.specs.Prelude.{◌≡◌, ◌≤◌, IfOk, IfSome, MatchOption, false, is_some, option_map, true};
 ghost use Rattle.std.specs.String.{string_bytes};
 ghost use Rattle.json.specs.Json.{Json};
+ghost use Rattle.json_lexemes.specs.Skipped.{nesting};
 ghost use Rattle.json_lexemes.specs.Spelled.{IsShallowText, Says};
 ghost use Rattle.jsonptr.specs.Pointers.{tokens_of};
-ghost use Rattle.json_patch_text.specs.Drafts.{IsCopyOf, whole_text};
+ghost use Rattle.json_patch_text.specs.Drafts.{IsCopyOf, IsTakenOut, whole_text};
+ghost use Rattle.json_pieces.specs.Changes.{Removes};
+ghost use Rattle.json_pieces.specs.Whole.{IsTaken, taken_text};
 ghost use Rattle.json_text.specs.Checked.{text_in};
 ghost use Rattle.json_text.specs.Listing.{shape_of};
 ghost use Rattle.json_text.specs.Pointed.{tree_at};
 
 use crate::operation::TextOperation;
-use json_pieces::Pieces;
+use json_pieces::{Pieces, Taken};
 use json_text::{CheckedText, Shape, is_deeper};
 use jsonptr::Pointer;
 use std::alloc::{AllocError, Global};
@@ -81,6 +84,31 @@ impl WholeText<'_> {
     }
 }
 
+impl WholeText<'_> {
+    /// Takes out the value where the pointer leads.
+    fn take_out<'a>(
+        &mut self,
+        alloc: Global,
+        pointer: Pointer,
+    ) -> Result<Option<Taken<'a>>, AllocError>
+        requires { (j : Json) × IsShallowText (whole_text self.old) j }
+        ensures removed { IfOk result (λ found. Removes (whole_text self.old) (tokens_of pointer.entry)
+            (whole_text self.new) (is_some found)) }
+        ensures taken { IfOk result (λ found. IfSome found
+            (IsTakenOut (whole_text self.old) (tokens_of pointer.entry))) }
+    {
+        let Some(value) = self.value(alloc, pointer)? else {
+            return Ok(None);
+        };
+        let Some(new) = self.checked().remove(alloc, pointer)? else {
+            return Ok(None);
+        };
+        let taken = Taken::new(alloc, CheckedText::known(value.as_str()))?;
+        *self = WholeText::Made(new);
+        Ok(Some(taken))
+    }
+}
+
 /// The text that operations work on.
 #[derive(Drop)]
 pub(crate) enum Draft<'a> {
@@ -91,11 +119,24 @@ pub(crate) enum Draft<'a> {
     Pieces(Pieces<'a>),
 }
 
+/// How deep the text nests at the most, if no more than so many levels: half of them, or all.
+fn most_levels(text: &str, levels: usize) -> Option<usize>
+    ensures { IfSome result (λ most. (most ≤ levels) × (nesting text.now ≤ most)) }
+{
+    if !is_deeper(text, levels / 2) {
+        Some(levels / 2)
+    } else if !is_deeper(text, levels) {
+        Some(levels)
+    } else {
+        None
+    }
+}
+
 impl<'a> Draft<'a> {
     ghost use Rattle.std.specs.Prelude.{◌<◌, length};
     ghost use Rattle.std.specs.Bool.{Decides};
-    ghost use Rattle.json_lexemes.specs.Skipped.{nesting};
-    ghost use Rattle.json_patch_text.specs.Drafts.{IsDraft, draft_text};
+    ghost use Rattle.json_patch_text.specs.Drafts.{IsDraft, IsInPieces, KeepsDraft, draft_text};
+    ghost use Rattle.json_patch_text.specs.declared.draft.Draft.TheVariants as variant;
     ghost use Rattle.json_pieces.specs.Changes.{Adds, Removes, Replaces};
 
     /// The document's text, as serves these operations best: for a single one in place as a whole, since
@@ -133,6 +174,33 @@ impl<'a> Draft<'a> {
         }
     }
 
+    /// How deep the text nests at the most, if no more than so many levels.
+    pub(crate) fn most_levels(
+        &self,
+        alloc: Global,
+        levels: usize,
+    ) -> Result<Option<usize>, AllocError>
+        requires { IsDraft self.now }
+        ensures { IfOk result (λ found. IfSome found
+            (λ most. (most ≤ levels) × (nesting (draft_text self.now) ≤ most))) }
+    {
+        match self {
+            Draft::Whole(text) => Ok(most_levels(text.as_str(), levels)),
+            Draft::Pieces(pieces) => Ok(most_levels(pieces.to_text(alloc)?.as_str(), levels)),
+        }
+    }
+
+    /// The pieces that it is in.
+    pub(crate) fn into_pieces(self) -> Pieces<'a>
+        requires { IsInPieces self }
+        ensures { self.entry ≡ variant.Pieces result }
+    {
+        match self {
+            Draft::Whole(_) => unreachable!(),
+            Draft::Pieces(pieces) => pieces,
+        }
+    }
+
     /// The text, in one string.
     pub(crate) fn into_text(self, alloc: Global) -> Result<String, AllocError>
         requires { IsDraft self }
@@ -153,7 +221,8 @@ impl<'a> Draft<'a> {
     ) -> Result<Option<String>, AllocError>
         requires draft { IsDraft self.old }
         requires shallow { (j : Json) × IsShallowText (draft_text self.old) j }
-        ensures draft { IfOk result (λ found. IsDraft self.new) }
+        ensures draft { IsDraft self.new }
+        ensures back { KeepsDraft self.old self.new }
         ensures kept { IfOk result (λ found. draft_text self.new ≡ draft_text self.old) }
         ensures value { IfOk result (IsCopyOf (draft_text self.old) (tokens_of pointer.entry)) }
     {
@@ -171,7 +240,8 @@ impl<'a> Draft<'a> {
     ) -> Result<Option<Shape>, AllocError>
         requires draft { IsDraft self.old }
         requires shallow { (j : Json) × IsShallowText (draft_text self.old) j }
-        ensures draft { IfOk result (λ found. IsDraft self.new) }
+        ensures draft { IsDraft self.new }
+        ensures back { KeepsDraft self.old self.new }
         ensures kept { IfOk result (λ found. draft_text self.new ≡ draft_text self.old) }
         ensures shape { IfOk result (λ found. (j : Json) → Says (draft_text self.old) j
             → found ≡ option_map shape_of (tree_at (tokens_of pointer.entry) j)) }
@@ -191,7 +261,8 @@ impl<'a> Draft<'a> {
     ) -> Result<bool, AllocError>
         requires draft { IsDraft self.old }
         requires shallow { (j : Json) × IsShallowText (draft_text self.old) j }
-        ensures draft { IfOk result (λ done. IsDraft self.new) }
+        ensures draft { IsDraft self.new }
+        ensures back { KeepsDraft self.old self.new }
         ensures replaced { IfOk result (Replaces (draft_text self.old) (tokens_of pointer.entry)
             (text_in value.entry) (draft_text self.new)) }
     {
@@ -208,7 +279,8 @@ impl<'a> Draft<'a> {
     pub(crate) fn remove(&mut self, alloc: Global, pointer: Pointer) -> Result<bool, AllocError>
         requires draft { IsDraft self.old }
         requires shallow { (j : Json) × IsShallowText (draft_text self.old) j }
-        ensures draft { IfOk result (λ done. IsDraft self.new) }
+        ensures draft { IsDraft self.new }
+        ensures back { KeepsDraft self.old self.new }
         ensures removed { IfOk result (Removes (draft_text self.old) (tokens_of pointer.entry)
             (draft_text self.new)) }
     {
@@ -230,7 +302,8 @@ impl<'a> Draft<'a> {
     ) -> Result<bool, AllocError>
         requires draft { IsDraft self.old }
         requires shallow { (j : Json) × IsShallowText (draft_text self.old) j }
-        ensures draft { IfOk result (λ done. IsDraft self.new) }
+        ensures draft { IsDraft self.new }
+        ensures back { KeepsDraft self.old self.new }
         ensures added { IfOk result (Adds (draft_text self.old) (tokens_of pointer.entry)
             (text_in value.entry) (draft_text self.new)) }
     {
@@ -240,6 +313,52 @@ impl<'a> Draft<'a> {
                 Ok(text.take(new))
             }
             Draft::Pieces(pieces) => pieces.add(alloc, pointer, value),
+        }
+    }
+
+    /// As [`Pieces::take`].
+    pub(crate) fn take(
+        &mut self,
+        alloc: Global,
+        pointer: Pointer,
+    ) -> Result<Option<Taken<'a>>, AllocError>
+        requires draft { IsDraft self.old }
+        requires shallow { (j : Json) × IsShallowText (draft_text self.old) j }
+        ensures draft { IsDraft self.new }
+        ensures back { KeepsDraft self.old self.new }
+        ensures removed { IfOk result (λ found. Removes (draft_text self.old) (tokens_of pointer.entry)
+            (draft_text self.new) (is_some found)) }
+        ensures taken { IfOk result (λ found. IfSome found
+            (IsTakenOut (draft_text self.old) (tokens_of pointer.entry))) }
+    {
+        match self {
+            Draft::Whole(text) => text.take_out(alloc, pointer),
+            Draft::Pieces(pieces) => pieces.take(alloc, pointer),
+        }
+    }
+
+    /// As [`Pieces::put`].
+    pub(crate) fn put(
+        &mut self,
+        alloc: Global,
+        pointer: Pointer,
+        taken: Taken<'a>,
+    ) -> Result<bool, AllocError>
+        requires draft { IsDraft self.old }
+        requires shallow { (j : Json) × IsShallowText (draft_text self.old) j }
+        requires taken { IsTaken taken }
+        ensures draft { IsDraft self.new }
+        ensures back { KeepsDraft self.old self.new }
+        ensures added { IfOk result (Adds (draft_text self.old) (tokens_of pointer.entry)
+            (taken_text taken.entry) (draft_text self.new)) }
+    {
+        match self {
+            Draft::Whole(text) => {
+                let value = taken.into_text(alloc)?;
+                let put = CheckedText::known(value.as_str());
+                Ok(text.take(text.checked().add(alloc, pointer, put)?))
+            }
+            Draft::Pieces(pieces) => pieces.put(alloc, pointer, taken),
         }
     }
 }

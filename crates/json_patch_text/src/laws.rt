@@ -23,10 +23,11 @@ ghost use Rattle.json_patch_text.specs.Operations.{TreeOperation, ReadsTreePatch
 ghost use Rattle.json_patch_text.specs.Inverses.{IsTreeInverse, Undoes};
 ghost use Rattle.json_patch_text.specs.Run.{AcceptsTree, RefusesTextAt, RefusesTreeAt};
 ghost use Rattle.json_patch_text.specs.Shallow.{AllPutWithin, IsNeverTooDeep};
-ghost use Rattle.json_patch_text.specs.Within.{AreMadeWithin, IsFaultWithin, IsTextOver, IsTextOverAt, IsTextWithin};
+ghost use Rattle.json_patch_text.specs.Within.{AreMadeWithin, IsFaultWithin, IsPatchedWithin, IsTextOver, IsTextOverAt, IsTextWithin};
 ghost use Rattle.json_patch_text.specs.declared.fault.PatchTextFault.TheVariants as PatchTextFault;
 ghost use Rattle.json_patch_text.specs.declared.operation.TextOperation.{TextOperation};
 ghost use Rattle.json_lexemes.specs.Skipped.{nesting};
+ghost use Rattle.json_lexemes.specs.Spelled.{Says};
 ghost use Rattle.json_reading.specs.Reading.{Reading};
 ghost use Rattle.json_reading.specs.Same.{SameTree};
 ghost use Rattle.json_reading.specs.Trees.{data_of};
@@ -79,7 +80,7 @@ pub fn runs()
 
 /// Operations within limits.
 pub fn limits()
-    // A text and n bytes that were copied for it are within the limits, or over them in one way.
+    // A text and the n bytes that its operations cost are within the limits, or over them in one way.
     ensures within_or_over { (l : Limits) (most n : ℕ) (text : List ℕ)
         → (IsTextWithin l most text × (n ≤ most))
         ⊎ ((kind : LimitKind) × IsTextOver l most text n kind) }
@@ -88,7 +89,7 @@ pub fn limits()
     ensures one_kind { (l : Limits) (most n : ℕ) (text : List ℕ) (kind other : LimitKind)
         → IsTextOver l most text n kind → IsTextOver l most text n other → other ≡ kind }
 
-    // What is made within the limits is made, and is within them, as is all that was copied.
+    // What is made within the limits is made, and is within them, as is its cost.
     ensures made { (l : Limits) (most n : ℕ) (text new : List ℕ) (os : List TextOperation)
         → AreMadeWithin l most text os new n
         → AreMadeIn text os new × IsTextWithin l most new × (n ≤ most) }
@@ -112,6 +113,11 @@ pub fn limits()
     ensures never { (levels : ℕ) (text patch : List ℕ) (ops : List TreeOperation)
         → SaysOperations patch ops → AllPutWithin levels ops → nesting text ≤ levels
         → levels ≤ max_depth → IsNeverTooDeep levels text patch }
+
+    // Nor of a patch that was made within so many levels.
+    ensures tried { (l : Limits) (levels : ℕ) (text patch new : List ℕ) (i : Json) → Says text i
+        → IsPatchedWithin l text patch new → l.depth ≤ levels → levels ≤ max_depth
+        → IsNeverTooDeep levels text patch }
 {}
 
 /// Patches as trees.

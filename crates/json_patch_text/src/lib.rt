@@ -1,6 +1,6 @@
 //! A JSON text patched in place (RFC 6902): [`patch_text`], and what it is to patch a text, in
 //! definitions and their laws. [`patch_text_within`] is for the patch of a stranger: no text on the way
-//! nests deeper, or is longer, than limits allow, and no more is copied.
+//! nests deeper, or is longer, than limits allow, nor do its operations cost more.
 //!
 //! Every byte that no operation changes is kept: whitespace, the order of members, `1.50` and `"\u0061"`
 //! as they are written.
@@ -18,6 +18,7 @@ pub mod laws;
 mod log;
 mod operation;
 mod patch;
+mod pieces;
 mod reading;
 mod record;
 mod run;
@@ -26,4 +27,5 @@ mod undo;
 
 pub use fault::{PatchTextFault, TextLimitFault};
 pub use patch::{check_patch, patch_text, patch_text_within};
+pub use pieces::{patch_pieces, record_pieces};
 pub use record::{Recorded, record_text, record_text_within};

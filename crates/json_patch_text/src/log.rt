@@ -4,7 +4,7 @@ ghost use Rattle.std.specs.Prelude.{◌≡◌, [], ◌∷◌, ◌++◌, IfOk, Li
 ghost use Rattle.std.specs.String.{string_bytes};
 ghost use Rattle.json.specs.Json.{Json};
 ghost use Rattle.json_lexemes.specs.Spelled.{IsShallowText, Says};
-ghost use Rattle.json_patch_text.specs.Drafts.{IsDraft, draft_text};
+ghost use Rattle.json_patch_text.specs.Drafts.{IsDraft, KeepsDraft, draft_text};
 ghost use Rattle.json_patch_text.specs.Logs.{AreLogged, HasLog, Logs, comma_before};
 ghost use Rattle.json_patch_text.specs.Undos.{TakesBack, backward_text, undo_text};
 ghost use Rattle.json_text.specs.Pointed.{tree_at};
@@ -25,8 +25,8 @@ pub(crate) struct Log {
     pub texts: Vec<String>,
     /// How many bytes the text of their list has.
     pub size: usize,
-    /// How many bytes the `copy`s have copied, whether anything is kept or not.
-    pub copied: usize,
+    /// How many bytes the operations have taken of the limits, whether anything is kept or not.
+    pub cost: usize,
 }
 
 /// What stands before an operation of this number in the text of a list.
@@ -42,21 +42,21 @@ impl Log {
 
     pub(crate) fn new(alloc: Global, kept: bool) -> Log
         ensures kept { result.kept ≡ kept }
-        ensures empty { HasLog result [] × (result.copied ≡ 0) }
+        ensures empty { HasLog result [] × (result.cost ≡ 0) }
     {
         Log {
             alloc,
             kept,
             texts: Vec::new(alloc),
             size: 2,
-            copied: 0,
+            cost: 0,
         }
     }
 
     fn push(&mut self, undo: &Undo) -> Result<(), AllocError>
         ensures kept { IfOk result (λ none. self.new.kept ≡ self.old.kept) }
         ensures logged { IfOk result (λ none. AreLogged self.old (undo.now ∷ []) self.new) }
-        ensures counted { IfOk result (λ none. self.new.copied ≡ self.old.copied) }
+        ensures counted { IfOk result (λ none. self.new.cost ≡ self.old.cost) }
     {
         let text = undo.to_text(self.alloc)?;
         let comma = comma(self.texts.len()).len();
@@ -71,14 +71,16 @@ impl Log {
     }
 
     /// Keeps what takes back an addition that is to be made.
+    #[tactic(auto, using(crate::proofs::Kept::kept_first, crate::proofs::Kept::kept_more))]
     pub(crate) fn added(&mut self, draft: &mut Draft, path: Pointer) -> Result<(), AllocError>
         requires draft { IsDraft draft.old }
         requires shallow { (j : Json) × IsShallowText (draft_text draft.old) j }
-        ensures draft { IfOk result (λ none. IsDraft draft.new) }
+        ensures draft { IsDraft draft.new }
+        ensures back { KeepsDraft draft.old draft.new }
         ensures same { IfOk result (λ none. draft_text draft.new ≡ draft_text draft.old) }
         ensures logs { IfOk result (λ none. Logs self.old (λ us. (u : Undo) × (us ≡ u ∷ [])
             × TakesBack (draft_text draft.old) (tokens_of path.entry) u) self.new) }
-        ensures counted { IfOk result (λ none. self.new.copied ≡ self.old.copied) }
+        ensures counted { IfOk result (λ none. self.new.cost ≡ self.old.cost) }
     {
         if !self.kept {
             return Ok(());
@@ -89,6 +91,7 @@ impl Log {
 
     /// Keeps the value that stands at a place and is to be removed from it, or exchanged for another. Where
     /// none stands there, it keeps nothing.
+    #[tactic(auto, using(crate::proofs::Kept::kept_first, crate::proofs::Kept::kept_more))]
     pub(crate) fn displaced(
         &mut self,
         draft: &mut Draft,
@@ -97,12 +100,13 @@ impl Log {
     ) -> Result<(), AllocError>
         requires draft { IsDraft draft.old }
         requires shallow { (j : Json) × IsShallowText (draft_text draft.old) j }
-        ensures draft { IfOk result (λ none. IsDraft draft.new) }
+        ensures draft { IsDraft draft.new }
+        ensures back { KeepsDraft draft.old draft.new }
         ensures same { IfOk result (λ none. draft_text draft.new ≡ draft_text draft.old) }
         ensures logs { IfOk result (λ none. (i v : Json) → Says (draft_text draft.old) i
             → tree_at (tokens_of path.entry) i ≡ Some v
             → Logs self.old (PutsBack exchanged (draft_text draft.old) (tokens_of path.entry)) self.new) }
-        ensures counted { IfOk result (λ none. self.new.copied ≡ self.old.copied) }
+        ensures counted { IfOk result (λ none. self.new.cost ≡ self.old.cost) }
     {
         if !self.kept {
             return Ok(());

@@ -1,6 +1,6 @@
 //! A JSON text patched by the text of a patch (RFC 6902).
 
-ghost use Rattle.std.specs.Prelude.{◌≡◌, ◌<◌, ◌≤◌, IfErr, IfOk, IfSome, List};
+ghost use Rattle.std.specs.Prelude.{◌≡◌, ◌<◌, ◌≤◌, IfErr, IfOk, IfSome, List, length};
 ghost use Rattle.std.specs.String.{string_bytes};
 ghost use Rattle.json_patch_text.specs.Operations.{SaysOperations, TreeOperation};
 ghost use Rattle.json_patch_text.specs.Patched.{AcceptsPatch, HasTexts, IsPatchTextFault, IsPatchedText};
@@ -98,14 +98,16 @@ pub(crate) fn operations_in<'a>(
     }
 }
 
-/// Reads a patch's text (RFC 6902, sections 3 and 4) as [`patch_text`] does, and does nothing else. So of
-/// `[{"op": "add", "path": "/a"}]` the fault is `Unreadable`: the member "value" is missing in operation 0.
-pub fn check_patch(alloc: Global, patch: &str) -> Result<(), PatchTextFault>
-    ensures read { IfOk result (λ none. (ops : List TreeOperation) × SaysOperations patch.now ops) }
+/// Reads a patch's text (RFC 6902, sections 3 and 4) as [`patch_text`] does, and answers how many operations
+/// it says. So of `[{"op": "add", "path": "/a"}]` the fault is `Unreadable`: the member "value" is missing in
+/// operation 0.
+pub fn check_patch(alloc: Global, patch: &str) -> Result<usize, PatchTextFault>
+    ensures read { IfOk result (λ n. (ops : List TreeOperation) × SaysOperations patch.now ops
+        × (length ops ≡ n)) }
     ensures fault { IfErr result (IsUnread patch.now) }
 {
-    let _operations = operations_in(alloc, patch)?;
-    Ok(())
+    let said = operations_in(alloc, patch)?;
+    Ok(said.len())
 }
 
 /// The text with the patch applied, and every byte kept that no operation changes.
@@ -141,10 +143,11 @@ pub fn patch_text(alloc: Global, text: &str, patch: &str) -> Result<String, Patc
 /// Each text that the operations leave, one after another, may have at most `limits.depth` objects and
 /// arrays open at once. It may have at most as many bytes as `text` and `patch` together, and
 /// `limits.copied` bytes more: so much the `copy`s may add, with the whitespace, commas and names that go
-/// with a new member or element. All `copy`s together may copy at most as many bytes, also where what
-/// they put in is exchanged or removed again.
+/// with a new member or element. All operations together may cost at most as many bytes: a `copy` what it
+/// copies, also where that is exchanged or removed again; a `test` what it reads of the text beyond the length
+/// of its own value, which says the same in fewer bytes.
 ///
-/// The first operation that would leave another text, or with which more is copied, is `Over`, with its
+/// The first operation that would leave another text, or with which they cost more, is `Over`, with its
 /// number: `TooDeep` where that text nests deeper, and else `TooMuch`. An operation that is refused leaves
 /// no text, and is never over. Where `text` itself nests deeper than `limits.depth`, it is refused as a
 /// document that is too deep.
@@ -176,6 +179,26 @@ pub fn patch_text_within(
     ensures fault { IfErr result (IsTextLimitFault limits text.now patch.now) }
 {
     let checked = document_within(text, limits.depth)?;
+    patched(alloc, text, checked, patch, limits)
+}
+
+/// The same, of a text that nests no deeper than the limits say, and is checked here where it wasn't before.
+fn patched<'a>(
+    alloc: Global,
+    text: &'a str,
+    checked: Option<CheckedText<'a>>,
+    patch: &str,
+    limits: Limits,
+) -> Result<String, TextLimitFault>
+    requires text { IfSome checked (λ checked. text_in checked ≡ text.now) }
+    requires depth { nesting text.now ≤ limits.depth }
+    ensures accepted { IfOk result (λ new. AcceptsPatch text.now patch.now (string_bytes new)) }
+    ensures kept { IfOk result (λ new. IsPatchedText text.now patch.now (string_bytes new)) }
+    ensures within { IfOk result (λ new. IsPatchedWithin limits text.now patch.now (string_bytes new)) }
+    ensures bounded { IfOk result
+        (λ new. IsTextWithin limits (most_bytes limits text.now patch.now) (string_bytes new)) }
+    ensures fault { IfErr result (IsTextLimitFault limits text.now patch.now) }
+{
     let operations = operations_in(alloc, patch)?;
     let document = document(alloc, text, checked)?;
     let bounds = Bounds {

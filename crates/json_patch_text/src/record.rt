@@ -1,12 +1,13 @@
 //! A JSON text patched, and the text of a patch that leads back (RFC 6902).
 
-ghost use Rattle.std.specs.Prelude.{◌≡◌, ◌≤◌, ◌+◌, IfErr, IfOk, List};
+ghost use Rattle.std.specs.Prelude.{◌≡◌, ◌≤◌, ◌+◌, IfErr, IfOk, IfSome, List};
 ghost use Rattle.std.specs.String.{string_bytes};
 ghost use Rattle.json.specs.Json.{max_depth};
 ghost use Rattle.json_lexemes.specs.Skipped.{nesting};
 ghost use Rattle.json_patch_text.specs.Patched.{AcceptsPatch, IsPatchTextFault, IsPatchedText};
 ghost use Rattle.json_patch_text.specs.WayBack.{IsRecordLimitFault, IsRecorded, IsRecordedWithin, IsUndoText, IsUndoWithin};
 ghost use Rattle.json_patch_text.specs.Within.{IsTextWithin, most_bytes};
+ghost use Rattle.json_text.specs.Checked.{text_in};
 
 use crate::bounds::Bounds;
 use crate::fault::{PatchTextFault, TextLimitFault};
@@ -14,6 +15,7 @@ use crate::log::Log;
 use crate::patch::{document, document_within, operations_in};
 use crate::run::run;
 use json_patch_limits::limits::Limits;
+use json_text::CheckedText;
 use std::alloc::Global;
 
 /// A patched text, and the text of a patch that leads back.
@@ -66,7 +68,7 @@ pub fn record_text(alloc: Global, text: &str, patch: &str) -> Result<Recorded, P
 
 /// The text with the patch applied, and the way back, as [`record_text`] has them, within limits.
 ///
-/// Each text that the operations leave, and what they copy, is bounded as
+/// Each text that the operations leave, and what they cost, is bounded as
 /// [`patch_text_within`](crate::patch_text_within) bounds it. The undo may have as many bytes as such a
 /// text: what a list of `move`s displaces again and again counts each time. The first operation with
 /// which this isn't so is `Over`. The undo nests two levels deeper than the texts at the most, so with
@@ -103,6 +105,32 @@ pub fn record_text_within(
     ensures fault { IfErr result (IsRecordLimitFault limits text.now patch.now) }
 {
     let checked = document_within(text, limits.depth)?;
+    recording(alloc, text, checked, patch, limits)
+}
+
+/// The same, of a text that nests no deeper than the limits say, and is checked here where it wasn't before.
+fn recording<'a>(
+    alloc: Global,
+    text: &'a str,
+    checked: Option<CheckedText<'a>>,
+    patch: &str,
+    limits: Limits,
+) -> Result<Recorded, TextLimitFault>
+    requires text { IfSome checked (λ checked. text_in checked ≡ text.now) }
+    requires depth { nesting text.now ≤ limits.depth }
+    ensures accepted { IfOk result (λ r. AcceptsPatch text.now patch.now (string_bytes r.text)) }
+    ensures kept { IfOk result (λ r. IsPatchedText text.now patch.now (string_bytes r.text)) }
+    ensures recorded { IfOk result
+        (λ r. IsRecorded text.now patch.now (string_bytes r.text) (string_bytes r.undo)) }
+    ensures leads_back { IfOk result (λ r. AcceptsPatch (string_bytes r.text) (string_bytes r.undo) text.now) }
+    ensures within { IfOk result
+        (λ r. IsRecordedWithin limits text.now patch.now (string_bytes r.text) (string_bytes r.undo)) }
+    ensures bounded { IfOk result
+        (λ r. IsTextWithin limits (most_bytes limits text.now patch.now) (string_bytes r.text)) }
+    ensures undo_bounded { IfOk result
+        (λ r. IsUndoWithin limits (most_bytes limits text.now patch.now) (string_bytes r.undo)) }
+    ensures fault { IfErr result (IsRecordLimitFault limits text.now patch.now) }
+{
     let operations = operations_in(alloc, patch)?;
     let document = document(alloc, text, checked)?;
     let bounds = Bounds {

@@ -7,7 +7,7 @@ ghost use Rattle.json.specs.Json.{Items, Json, array};
 ghost use Rattle.json.specs.Print.{quoted};
 ghost use Rattle.json_lexemes.specs.Spelled.{IsShallowText, Says};
 ghost use Rattle.json_patch_text.specs.Changed.{count};
-ghost use Rattle.json_patch_text.specs.Drafts.{IsDraft, draft_text};
+ghost use Rattle.json_patch_text.specs.Drafts.{IsDraft, KeepsDraft, draft_text};
 ghost use Rattle.json_patch_text.specs.Inverses.{settled, undo_added};
 ghost use Rattle.json_patch_text.specs.Undos.{IsUndo, in_array, is_array, undo_text};
 ghost use Rattle.json_text.specs.Pointed.{tree_at};
@@ -92,10 +92,12 @@ fn is_array(shape: Option<Shape>) -> bool
 }
 
 /// Whether the pointer is at a place in an array.
+#[tactic(auto, using(crate::proofs::Kept::kept_first, crate::proofs::Kept::kept_more))]
 fn in_array(alloc: Global, draft: &mut Draft, path: Pointer) -> Result<bool, AllocError>
     requires draft { IsDraft draft.old }
     requires shallow { (j : Json) × IsShallowText (draft_text draft.old) j }
-    ensures draft { IfOk result (λ is. IsDraft draft.new) }
+    ensures draft { IsDraft draft.new }
+    ensures back { KeepsDraft draft.old draft.new }
     ensures kept { IfOk result (λ is. draft_text draft.new ≡ draft_text draft.old) }
     ensures array { IfOk result (λ is. (i : Json) → Says (draft_text draft.old) i
         → is ≡ in_array i (tokens_of path.entry)) }
@@ -107,6 +109,7 @@ fn in_array(alloc: Global, draft: &mut Draft, path: Pointer) -> Result<bool, All
 }
 
 /// Whether an array has an element of this number.
+#[tactic(auto, using(crate::proofs::Kept::kept_first, crate::proofs::Kept::kept_more))]
 fn has_element(
     alloc: Global,
     draft: &mut Draft,
@@ -115,7 +118,8 @@ fn has_element(
 ) -> Result<bool, AllocError>
     requires draft { IsDraft draft.old }
     requires shallow { (j : Json) × IsShallowText (draft_text draft.old) j }
-    ensures draft { IfOk result (λ has. IsDraft draft.new) }
+    ensures draft { IsDraft draft.new }
+    ensures back { KeepsDraft draft.old draft.new }
     ensures kept { IfOk result (λ has. draft_text draft.new ≡ draft_text draft.old) }
     ensures element { IfOk result (λ has. (i : Json) (js : Items) → Says (draft_text draft.old) i
         → tree_at (tokens_of place.entry) i ≡ Some (array js) → Decides has (number < count js)) }
@@ -129,10 +133,12 @@ fn has_element(
 
 /// How many elements an array has: found by looking at some of them, so that a long one isn't passed
 /// over.
+#[tactic(auto, using(crate::proofs::Kept::kept_first, crate::proofs::Kept::kept_more))]
 fn count_at(alloc: Global, draft: &mut Draft, place: Pointer) -> Result<usize, AllocError>
     requires draft { IsDraft draft.old }
     requires shallow { (j : Json) × IsShallowText (draft_text draft.old) j }
-    ensures draft { IfOk result (λ n. IsDraft draft.new) }
+    ensures draft { IsDraft draft.new }
+    ensures back { KeepsDraft draft.old draft.new }
     ensures kept { IfOk result (λ n. draft_text draft.new ≡ draft_text draft.old) }
     ensures count { IfOk result (λ n. (i : Json) (js : Items) → Says (draft_text draft.old) i
         → tree_at (tokens_of place.entry) i ≡ Some (array js) → n ≡ count js) }
@@ -158,10 +164,12 @@ fn count_at(alloc: Global, draft: &mut Draft, place: Pointer) -> Result<usize, A
 
 /// Where what is added to an array is taken out: at the number of the new element, where the pointer has
 /// `-`.
+#[tactic(auto, using(crate::proofs::Kept::kept_first, crate::proofs::Kept::kept_more))]
 fn settled(alloc: Global, draft: &mut Draft, path: Pointer) -> Result<PointerBuf, AllocError>
     requires draft { IsDraft draft.old }
     requires shallow { (j : Json) × IsShallowText (draft_text draft.old) j }
-    ensures draft { IfOk result (λ place. IsDraft draft.new) }
+    ensures draft { IsDraft draft.new }
+    ensures back { KeepsDraft draft.old draft.new }
     ensures kept { IfOk result (λ place. draft_text draft.new ≡ draft_text draft.old) }
     ensures place { IfOk result (λ place. (i : Json) (F : Tokens) (l : List ℕ) (js : Items)
         → Says (draft_text draft.old) i → tokens_of path.entry ≡ F ++ l ∷ []
@@ -181,6 +189,7 @@ fn settled(alloc: Global, draft: &mut Draft, path: Pointer) -> Result<PointerBuf
 
 /// What takes back a value that is to be added at `path`, with the value that it displaces, if there is
 /// one, as it stands in the text.
+#[tactic(auto, using(crate::proofs::Kept::kept_first, crate::proofs::Kept::kept_more))]
 pub(crate) fn undo_added(
     alloc: Global,
     draft: &mut Draft,
@@ -188,7 +197,8 @@ pub(crate) fn undo_added(
 ) -> Result<Undo, AllocError>
     requires draft { IsDraft draft.old }
     requires shallow { (j : Json) × IsShallowText (draft_text draft.old) j }
-    ensures draft { IfOk result (λ undo. IsDraft draft.new) }
+    ensures draft { IsDraft draft.new }
+    ensures back { KeepsDraft draft.old draft.new }
     ensures kept { IfOk result (λ undo. draft_text draft.new ≡ draft_text draft.old) }
     ensures undo { IfOk result (λ undo. (i : Json) → Says (draft_text draft.old) i
         → IsUndo (draft_text draft.old) i undo (undo_added i (tokens_of path.entry))) }

@@ -1,19 +1,20 @@
 -- What is made of bytes that are texts, and why nothing is: a fault of a text is one of a call's reasons.
-use Rattle.std.proofs.Common.{◌≡◌, ◌≤◌, ◌↔◌, [], ◌∷◌, inl, inr, ℕ, List, arith, refl, subst, sym}
+use Rattle.std.proofs.Common.{◌≡◌, ◌≤◌, ◌<◌, ◌↔◌, [], ◌∷◌, inl, inr, Bool, true, false, ℕ, List, Option, Some, arith, refl, subst, sym}
 use Rattle.std.specs.Prelude.{IsUtf8, length, max}
 use Rattle.std.proofs.Math.Nat.{max-le}
 use Rattle.json_lexemes.specs.Skipped.{nesting}
 use Rattle.json_text.specs.declared.fault.TextFault.TheVariants as text
 use Rattle.json.specs.Json.{Json}
 use Rattle.json_lexemes.specs.Spelled.{Says}
-use Rattle.json_diff_text.specs.Differences.{IsFewBetween, IsPlainPatch, SaySame}
+use Rattle.json_diff_text.specs.Differences.{IsFewBetween, IsFewGuarded, IsGuardedPatch, IsMovingPatch, IsPlainPatch, IsRefusedElsewhere, SaySame}
 use Rattle.json_merge_text.specs.Merged.{IsMergeOver, IsMergedAlready, IsMergedText, SaysMerged}
 use Rattle.json_merge_text.specs.Merged.{most_bytes as merged_bytes}
 use Rattle.json_patch.specs.LimitKind.TheVariants.{TooMuch}
 use Rattle.json_patch.specs.Limits.{Limits}
 use Rattle.json_patch.specs.ReadKind.{ReadKind}
 use Rattle.json_patch.specs.ReadKind.TheVariants.{NotAList, NotAnObject, MissingOp, OpNotText, UnknownOp, MissingFrom, FromNotText, BadFrom, MissingPath, PathNotText, BadPath, MissingValue, ValueNotWhole}
-use Rattle.json_patch_text.specs.Operations.{SaysOperations}
+use Rattle.json_patch_text.proofs.Counted.{as_many_always}
+use Rattle.json_patch_text.specs.Operations.{SaysOperations, TreeOperation}
 use Rattle.json_patch_text.specs.Patched.{AcceptsPatch, IsPatchedText}
 use Rattle.json_patch_text.specs.WayBack.{IsRecordLimitFault, IsRecordedWithin, IsUndoWithin}
 use Rattle.json_patch_text.specs.WayBack.{IsRecorded as IsWayBack}
@@ -29,8 +30,8 @@ use Rattle.json_patch_bytes.specs.declared.kinds.TheConstants.{NOT_JSON}
 use Rattle.json_patch_bytes.specs.declared.failure.Failure.{Failure}
 use Rattle.json_patch_bytes.specs.declared.failure.Failure.TheVariants as failure
 use Rattle.json_patch_text_bytes.specs.Failures.{IsNamed, IsOfText, IsTold, of_fault}
-use Rattle.json_patch_text_bytes.specs.Reasons.{of_patch, of_record, of_text, of_texts}
-use Rattle.json_patch_text_bytes.specs.Texts.{IsDifference, IsJsonText, IsMergedInto, IsMergedOver, IsNoJsonText, IsNoTextPatch, IsPatched, IsRecorded}
+use Rattle.json_patch_text_bytes.specs.Reasons.{of_count, of_patch, of_record, of_text, of_texts}
+use Rattle.json_patch_text_bytes.specs.Texts.{HasAtMost, IsDifference, IsGuardedDifference, IsJsonText, IsMergedInto, IsMergedOver, IsNoJsonText, IsNoTextPatch, IsOneTooMany, IsPatched, IsRecorded}
 
 -- ---- the kind of what is wrong with a text
 
@@ -71,6 +72,7 @@ module _ (R : Reasons) where
   own_in levels document (failure.NoPatch operation kind) own why = absurd why
   own_in levels document (failure.Refused e) own why = absurd why
   own_in levels document (failure.Over e) own why = absurd why
+  own_in levels document (failure.TooMany k) own why = absurd why
   own_in levels document failure.Memory own why = tt
 
   -- a failure that is named anew
@@ -89,34 +91,34 @@ module _ (R : Reasons) where
 
 -- ---- why a run fails
 
-run_failure : (l : Limits) (document patch : List ℕ) (fault : TextLimitFault) → l.depth ≤ 124 → IsUtf8 patch → nesting patch ≤ 127
-    → IsTextLimitFault l document patch fault → (IsOfText (of_fault fault) → IsJsonText l.depth document) → IsFailure (of_patch l document patch) (of_fault fault)
-run_failure l document patch (within.Over e) few utf8 fits why is = why
-run_failure l document patch (within.Patch (run.Document text.NotJson)) few utf8 fits why is = absurd (why (is tt).1.0 (is tt).1.1)
-run_failure l document patch (within.Patch (run.Document text.TooDeep)) few utf8 fits why is = absurd (omega (arith, few, (is tt).2, why))
-run_failure l document patch (within.Patch (run.Document (text.Memory m))) few utf8 fits why is = tt
-run_failure l document patch (within.Patch (run.Patch text.NotJson)) few utf8 fits why is = (is tt, inl (refl, inr (inl refl, λ u. (fits, why))))
-run_failure l document patch (within.Patch (run.Patch text.TooDeep)) few utf8 fits why is = absurd (omega (arith, fits, why))
-run_failure l document patch (within.Patch (run.Patch (text.Memory m))) few utf8 fits why is = tt
-run_failure l document patch (within.Patch (run.Unreadable e)) few utf8 fits why is = (is tt, inr (e.operation, e.kind, utf8, why, refl, refl))
-run_failure l document patch (within.Patch (run.Refused e)) few utf8 fits why is = why
-run_failure l document patch (within.Patch (run.TooDeep k)) few utf8 fits why is = absurd (omega (arith, few, why.0))
-run_failure l document patch (within.Patch (run.Memory m)) few utf8 fits why is = tt
+run_failure : (most : Option ℕ) (l : Limits) (document patch : List ℕ) (fault : TextLimitFault) → HasAtMost most patch → l.depth ≤ 124 → IsUtf8 patch → nesting patch ≤ 127
+    → IsTextLimitFault l document patch fault → (IsOfText (of_fault fault) → IsJsonText l.depth document) → IsFailure (of_patch most l document patch) (of_fault fault)
+run_failure most l document patch (within.Over e) small few utf8 fits why is = (small, why)
+run_failure most l document patch (within.Patch (run.Document text.NotJson)) small few utf8 fits why is = absurd (why (is tt).1.0 (is tt).1.1)
+run_failure most l document patch (within.Patch (run.Document text.TooDeep)) small few utf8 fits why is = absurd (omega (arith, few, (is tt).2, why))
+run_failure most l document patch (within.Patch (run.Document (text.Memory m))) small few utf8 fits why is = tt
+run_failure most l document patch (within.Patch (run.Patch text.NotJson)) small few utf8 fits why is = (is tt, inl (refl, inr (inl refl, λ u. (fits, why))))
+run_failure most l document patch (within.Patch (run.Patch text.TooDeep)) small few utf8 fits why is = absurd (omega (arith, fits, why))
+run_failure most l document patch (within.Patch (run.Patch (text.Memory m))) small few utf8 fits why is = tt
+run_failure most l document patch (within.Patch (run.Unreadable e)) small few utf8 fits why is = (is tt, inr (e.operation, e.kind, utf8, why, refl, refl))
+run_failure most l document patch (within.Patch (run.Refused e)) small few utf8 fits why is = (small, why)
+run_failure most l document patch (within.Patch (run.TooDeep k)) small few utf8 fits why is = absurd (omega (arith, few, why.0))
+run_failure most l document patch (within.Patch (run.Memory m)) small few utf8 fits why is = tt
 
 -- one that is recorded fails for the same but where an operation is refused, or over the limits
-record_failure : (l : Limits) (document patch : List ℕ) (fault : TextLimitFault) → l.depth ≤ 124 → IsUtf8 patch → nesting patch ≤ 127
-    → IsRecordLimitFault l document patch fault → (IsOfText (of_fault fault) → IsJsonText l.depth document) → IsFailure (of_record l document patch) (of_fault fault)
-record_failure l document patch (within.Over e) few utf8 fits why is = why
-record_failure l document patch (within.Patch (run.Document text.NotJson)) few utf8 fits why is = absurd (why.0 (is tt).1.0 (is tt).1.1)
-record_failure l document patch (within.Patch (run.Document text.TooDeep)) few utf8 fits why is = absurd (omega (arith, few, (is tt).2, why.0))
-record_failure l document patch (within.Patch (run.Document (text.Memory m))) few utf8 fits why is = tt
-record_failure l document patch (within.Patch (run.Patch text.NotJson)) few utf8 fits why is = run_failure l document patch (within.Patch (run.Patch text.NotJson)) few utf8 fits why.0 is
-record_failure l document patch (within.Patch (run.Patch text.TooDeep)) few utf8 fits why is = absurd (omega (arith, fits, why.0))
-record_failure l document patch (within.Patch (run.Patch (text.Memory m))) few utf8 fits why is = tt
-record_failure l document patch (within.Patch (run.Unreadable e)) few utf8 fits why is = run_failure l document patch (within.Patch (run.Unreadable e)) few utf8 fits why.0 is
-record_failure l document patch (within.Patch (run.Refused e)) few utf8 fits why is = why
-record_failure l document patch (within.Patch (run.TooDeep k)) few utf8 fits why is = absurd (omega (arith, few, why.0.0))
-record_failure l document patch (within.Patch (run.Memory m)) few utf8 fits why is = tt
+record_failure : (most : Option ℕ) (l : Limits) (document patch : List ℕ) (fault : TextLimitFault) → HasAtMost most patch → l.depth ≤ 124 → IsUtf8 patch → nesting patch ≤ 127
+    → IsRecordLimitFault l document patch fault → (IsOfText (of_fault fault) → IsJsonText l.depth document) → IsFailure (of_record most l document patch) (of_fault fault)
+record_failure most l document patch (within.Over e) small few utf8 fits why is = (small, why)
+record_failure most l document patch (within.Patch (run.Document text.NotJson)) small few utf8 fits why is = absurd (why.0 (is tt).1.0 (is tt).1.1)
+record_failure most l document patch (within.Patch (run.Document text.TooDeep)) small few utf8 fits why is = absurd (omega (arith, few, (is tt).2, why.0))
+record_failure most l document patch (within.Patch (run.Document (text.Memory m))) small few utf8 fits why is = tt
+record_failure most l document patch (within.Patch (run.Patch text.NotJson)) small few utf8 fits why is = run_failure most l document patch (within.Patch (run.Patch text.NotJson)) small few utf8 fits why.0 is
+record_failure most l document patch (within.Patch (run.Patch text.TooDeep)) small few utf8 fits why is = absurd (omega (arith, fits, why.0))
+record_failure most l document patch (within.Patch (run.Patch (text.Memory m))) small few utf8 fits why is = tt
+record_failure most l document patch (within.Patch (run.Unreadable e)) small few utf8 fits why is = run_failure most l document patch (within.Patch (run.Unreadable e)) small few utf8 fits why.0 is
+record_failure most l document patch (within.Patch (run.Refused e)) small few utf8 fits why is = (small, why)
+record_failure most l document patch (within.Patch (run.TooDeep k)) small few utf8 fits why is = absurd (omega (arith, few, why.0.0))
+record_failure most l document patch (within.Patch (run.Memory m)) small few utf8 fits why is = tt
 
 -- ---- the texts d and p, which the bytes are
 
@@ -137,12 +139,12 @@ is_patched l document patch d p new same same_patch here utf8 accepted kept with
     } in
     subst (λ s. IsPatched l s patch new) same (subst (λ s. IsPatched l d s new) same_patch at)
 
-pub is_failure : (l : Limits) (document patch d p : List ℕ) (fault : TextLimitFault) (failure told : Failure) → d ≡ document → p ≡ patch → l.depth ≤ 124
-    → IsUtf8 patch → nesting patch ≤ 127 → IsTextLimitFault l d p fault → failure ≡ of_fault fault → IsTold l.depth document patch failure told → IsFailure (of_patch l document patch) told
-is_failure l document patch d p fault failure told same same_patch few utf8 fits why of first =
+pub is_failure : (most : Option ℕ) (l : Limits) (document patch d p : List ℕ) (fault : TextLimitFault) (failure told : Failure) → d ≡ document → p ≡ patch → HasAtMost most patch → l.depth ≤ 124
+    → IsUtf8 patch → nesting patch ≤ 127 → IsTextLimitFault l d p fault → failure ≡ of_fault fault → IsTold l.depth document patch failure told → IsFailure (of_patch most l document patch) told
+is_failure most l document patch d p fault failure told same same_patch small few utf8 fits why of first =
     let here : IsTextLimitFault l document patch fault = subst (λ s. IsTextLimitFault l s patch fault) same (subst (λ s. IsTextLimitFault l d s fault) same_patch why) in
-    told_in (of_patch l document patch) l.depth document patch (of_fault fault) told (λ kind none. none) (λ kind called none. (none.0, other_patch patch kind none.1 called))
-    (run_failure l document patch fault few utf8 fits here) (subst (λ f. IsTold l.depth document patch f told) of first)
+    told_in (of_patch most l document patch) l.depth document patch (of_fault fault) told (λ kind none. none) (λ kind called none. (none.0, other_patch patch kind none.1 called))
+    (run_failure most l document patch fault small few utf8 fits here) (subst (λ f. IsTold l.depth document patch f told) of first)
 
 -- ---- a patch that is recorded
 
@@ -166,29 +168,55 @@ is_recorded l document patch d p new undo same same_patch here utf8 utf8_undo fe
     } in
     subst (λ s. IsRecorded l s patch new undo) same (subst (λ s. IsRecorded l d s new undo) same_patch at)
 
-pub is_record_failure : (l : Limits) (document patch d p : List ℕ) (fault : TextLimitFault) (failure told : Failure) → d ≡ document → p ≡ patch → l.depth ≤ 124
-    → IsUtf8 patch → nesting patch ≤ 127 → IsRecordLimitFault l d p fault → failure ≡ of_fault fault → IsTold l.depth document patch failure told → IsFailure (of_record l document patch) told
-is_record_failure l document patch d p fault failure told same same_patch few utf8 fits why of first =
+pub is_record_failure : (most : Option ℕ) (l : Limits) (document patch d p : List ℕ) (fault : TextLimitFault) (failure told : Failure) → d ≡ document → p ≡ patch → HasAtMost most patch → l.depth ≤ 124
+    → IsUtf8 patch → nesting patch ≤ 127 → IsRecordLimitFault l d p fault → failure ≡ of_fault fault → IsTold l.depth document patch failure told → IsFailure (of_record most l document patch) told
+is_record_failure most l document patch d p fault failure told same same_patch small few utf8 fits why of first =
     let here : IsRecordLimitFault l document patch fault = subst (λ s. IsRecordLimitFault l s patch fault) same (subst (λ s. IsRecordLimitFault l d s fault) same_patch why) in
-    told_in (of_record l document patch) l.depth document patch (of_fault fault) told (λ kind none. none) (λ kind called none. (none.0, other_patch patch kind none.1 called))
-    (record_failure l document patch fault few utf8 fits here) (subst (λ f. IsTold l.depth document patch f told) of first)
+    told_in (of_record most l document patch) l.depth document patch (of_fault fault) told (λ kind none. none) (λ kind called none. (none.0, other_patch patch kind none.1 called))
+    (record_failure most l document patch fault small few utf8 fits here) (subst (λ f. IsTold l.depth document patch f told) of first)
 
 -- ---- the texts alone
 
 -- why they aren't read is why they aren't patched, or recorded
-pub unread_patch : (l : Limits) (document patch : List ℕ) (failure : Failure) → IsFailure (of_texts l.depth document patch) failure → IsFailure (of_patch l document patch) failure
-unread_patch l document patch (failure.NoDocument kind) why = why
-unread_patch l document patch (failure.NoPatch operation kind) why = why
-unread_patch l document patch (failure.Refused e) why = absurd why
-unread_patch l document patch (failure.Over e) why = absurd why
-unread_patch l document patch failure.Memory why = tt
+pub unread_patch : (most : Option ℕ) (l : Limits) (document patch : List ℕ) (failure : Failure) → IsFailure (of_texts most l.depth document patch) failure → IsFailure (of_patch most l document patch) failure
+unread_patch most l document patch (failure.NoDocument kind) why = why
+unread_patch most l document patch (failure.NoPatch operation kind) why = why
+unread_patch most l document patch (failure.Refused e) why = absurd why
+unread_patch most l document patch (failure.Over e) why = absurd why
+unread_patch most l document patch (failure.TooMany k) why = why
+unread_patch most l document patch failure.Memory why = tt
 
-pub unread_record : (l : Limits) (document patch : List ℕ) (failure : Failure) → IsFailure (of_texts l.depth document patch) failure → IsFailure (of_record l document patch) failure
-unread_record l document patch (failure.NoDocument kind) why = why
-unread_record l document patch (failure.NoPatch operation kind) why = why
-unread_record l document patch (failure.Refused e) why = absurd why
-unread_record l document patch (failure.Over e) why = absurd why
-unread_record l document patch failure.Memory why = tt
+pub unread_record : (most : Option ℕ) (l : Limits) (document patch : List ℕ) (failure : Failure) → IsFailure (of_texts most l.depth document patch) failure → IsFailure (of_record most l document patch) failure
+unread_record most l document patch (failure.NoDocument kind) why = why
+unread_record most l document patch (failure.NoPatch operation kind) why = why
+unread_record most l document patch (failure.Refused e) why = absurd why
+unread_record most l document patch (failure.Over e) why = absurd why
+unread_record most l document patch (failure.TooMany k) why = why
+unread_record most l document patch failure.Memory why = tt
+
+-- ---- the patch's operations are counted
+
+pub few_said : (most n : ℕ) (patch p : List ℕ) → p ≡ patch → n ≤ most → (said : List TreeOperation) × SaysOperations p said × (length said ≡ n) → HasAtMost (Some most) patch
+few_said most n patch p same fits (said, says, count) ops others =
+    let as_many : length ops ≡ n = as_many_always patch n ops (said, subst (λ s. SaysOperations s said) same says, count) others in
+    omega (arith, fits, as_many)
+
+pub one_too_many : (most n : ℕ) (patch p : List ℕ) → p ≡ patch → most < n → (said : List TreeOperation) × SaysOperations p said × (length said ≡ n) → IsOneTooMany (Some most) patch most
+one_too_many most n patch p same more (said, says, count) = (refl, (said, subst (λ s. SaysOperations s said) same says, omega (arith, more, count)))
+
+-- why there are too many, or none, is why the texts aren't read
+pub counted_texts : (most : Option ℕ) (levels : ℕ) (document patch : List ℕ) (found told : Failure) → IsFailure (of_count most patch) found
+    → IsTold levels document patch found told → IsFailure (of_texts most levels document patch) told
+counted_texts most levels document patch found told why first =
+    told_in (of_texts most levels document patch) levels document patch found told (λ kind none. none) (λ kind called none. (none.0, other_patch patch kind none.1 called)) (here found why) first
+  where
+    here : (f : Failure) → IsFailure (of_count most patch) f → (IsOfText f → IsJsonText levels document) → IsFailure (of_texts most levels document patch) f
+    here (failure.NoDocument kind) none json = absurd none
+    here (failure.NoPatch operation kind) none json = (json tt, none)
+    here (failure.Refused e) none json = absurd none
+    here (failure.Over e) none json = absurd none
+    here (failure.TooMany k) more json = (json tt, more)
+    here failure.Memory none json = tt
 
 -- ---- a merge
 
@@ -216,15 +244,30 @@ is_merged_over l document patch d p same same_patch text flat over =
 
 -- ---- a difference
 
-pub is_difference : (l : Limits) (from to a b patch : List ℕ) → a ≡ from → b ≡ to → IsUtf8 from → nesting from ≤ l.depth → IsUtf8 to → nesting to ≤ l.depth
-    → AcceptsPatch a patch b → IsPlainPatch a patch → (SaysOperations patch [] ↔ SaySame a b) → IsFewBetween a b patch → IsDifference l from to patch
-is_difference l from to a b patch same same_to utf8 flat utf8_to flat_to leads plain nothing few =
-    let at : IsDifference l a b patch = record {
+pub is_difference : (moves : Bool) (l : Limits) (from to a b patch : List ℕ) → a ≡ from → b ≡ to → IsUtf8 from → nesting from ≤ l.depth → IsUtf8 to → nesting to ≤ l.depth
+    → AcceptsPatch a patch b → (moves ≡ false → IsPlainPatch a patch) → (moves ≡ true → IsMovingPatch patch) → (SaysOperations patch [] ↔ SaySame a b) → IsFewBetween a b patch → IsDifference moves l from to patch
+is_difference moves l from to a b patch same same_to utf8 flat utf8_to flat_to leads plain moving nothing few =
+    let at : IsDifference moves l a b patch = record {
       first = (subst IsUtf8 (sym same) utf8, (leads.2.0, leads.2.2), subst (λ s. nesting s ≤ l.depth) (sym same) flat);
       second = (subst IsUtf8 (sym same_to) utf8_to, (leads.2.1, leads.2.3), subst (λ s. nesting s ≤ l.depth) (sym same_to) flat_to);
       leads = leads;
       plain = plain;
+      moving = moving;
       nothing = nothing;
       few = few;
     } in
-    subst (λ s. IsDifference l s to patch) same (subst (λ s. IsDifference l a s patch) same_to at)
+    subst (λ s. IsDifference moves l s to patch) same (subst (λ s. IsDifference moves l a s patch) same_to at)
+
+pub is_guarded_difference : (l : Limits) (from to a b patch : List ℕ) → a ≡ from → b ≡ to → IsUtf8 from → nesting from ≤ l.depth → IsUtf8 to → nesting to ≤ l.depth
+    → AcceptsPatch a patch b → IsGuardedPatch a patch → IsRefusedElsewhere a patch → (SaysOperations patch [] ↔ SaySame a b) → IsFewGuarded a b patch → IsGuardedDifference l from to patch
+is_guarded_difference l from to a b patch same same_to utf8 flat utf8_to flat_to leads guarded refused nothing few =
+    let at : IsGuardedDifference l a b patch = record {
+      first = (subst IsUtf8 (sym same) utf8, (leads.2.0, leads.2.2), subst (λ s. nesting s ≤ l.depth) (sym same) flat);
+      second = (subst IsUtf8 (sym same_to) utf8_to, (leads.2.1, leads.2.3), subst (λ s. nesting s ≤ l.depth) (sym same_to) flat_to);
+      leads = leads;
+      guarded = guarded;
+      refused = refused;
+      nothing = nothing;
+      few = few;
+    } in
+    subst (λ s. IsGuardedDifference l s to patch) same (subst (λ s. IsGuardedDifference l a s patch) same_to at)

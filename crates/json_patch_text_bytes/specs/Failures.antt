@@ -19,7 +19,7 @@ use Rattle.json_patch_bytes.specs.Surrogates.{IsNoJsonKind}
 use Rattle.json_patch_bytes.specs.declared.kinds.TheConstants.{NOT_JSON, TOO_DEEP}
 use Rattle.json_patch_bytes.specs.Texts.{IsNoPointer}
 use Rattle.json_patch_bytes.specs.declared.failure.Failure.{Failure}
-use Rattle.json_patch_bytes.specs.declared.failure.Failure.TheVariants.{NoDocument, NoPatch, Refused, Over, Memory}
+use Rattle.json_patch_bytes.specs.declared.failure.Failure.TheVariants.{NoDocument, NoPatch, Refused, Over, TooMany, Memory}
 use Rattle.json_patch_text_bytes.specs.Reasons.{of_text}
 use Rattle.json_patch_text_bytes.specs.Texts.{IsJsonText, IsNothingAt}
 use Rattle.json_patch_text_bytes.specs.declared.lookup.LookupFault.{LookupFault}
@@ -79,6 +79,7 @@ IsOfText (NoDocument kind) = ⊤
 IsOfText (NoPatch operation kind) = ⊤
 IsOfText (Refused e) = ⊥
 IsOfText (Over e) = ⊥
+IsOfText (TooMany k) = ⊤
 IsOfText Memory = ⊥
 
 -- the failure, or the same of a second text that isn't JSON, with the kind of that

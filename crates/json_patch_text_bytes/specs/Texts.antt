@@ -1,12 +1,12 @@
 -- What bytes say as a JSON text, whatever its numbers, and what a call makes of it.
-use Rattle.std.specs.Prelude.{◌≡◌, ◌≤◌, ◌<◌, ◌⊎◌, ◌↔◌, [], ℕ, List, Option, None, Some, IsUtf8, length, unwrap_or}
+use Rattle.std.specs.Prelude.{◌≡◌, ◌≤◌, ◌<◌, ◌⊎◌, ◌↔◌, [], Bool, true, false, ℕ, List, Option, None, Some, IfSome, IsUtf8, length, unwrap_or}
 use Rattle.json.specs.Json.{Json}
 use Rattle.jsonptr.specs.Text.{Pointer}
 use Rattle.json_lexemes.specs.Skipped.{nesting}
 use Rattle.json_text.specs.Pointed.{IsWrittenAt, tree_at}
 use Rattle.json_kept_text.specs.Kept.{Change, State}
 use Rattle.json_lexemes.specs.Spelled.{Says}
-use Rattle.json_diff_text.specs.Differences.{IsFewBetween, IsPlainPatch, SaySame}
+use Rattle.json_diff_text.specs.Differences.{IsFewBetween, IsFewGuarded, IsGuardedPatch, IsMovingPatch, IsPlainPatch, IsRefusedElsewhere, SaySame}
 use Rattle.json_merge_text.specs.Merged.{IsMergeOver, IsMergedAlready, IsMergedText, SaysMerged, most_bytes}
 use Rattle.json_patch.specs.LimitError.{LimitError}
 use Rattle.json_patch.specs.LimitKind.TheVariants.{TooMuch}
@@ -45,6 +45,14 @@ IsNoTextPatch text operation kind = ((operation ≡ 0) × IsNoJsonText 127 text 
 -- the bytes say a patch, whatever its numbers
 abbrev pub IsTextPatch : List ℕ → Type 0
 IsTextPatch text = IsJsonText 127 text × ((ops : List TreeOperation) × SaysOperations text ops)
+
+-- it says at most so many operations, if that is limited
+abbrev pub HasAtMost : Option ℕ → List ℕ → Type 0
+HasAtMost most patch = IfSome most (λ n. (ops : List TreeOperation) → SaysOperations patch ops → length ops ≤ n)
+
+-- it says more, and the one of this number is the first too many
+abbrev pub IsOneTooMany : Option ℕ → List ℕ → ℕ → Type 0
+IsOneTooMany most patch k = (most ≡ Some k) × ((ops : List TreeOperation) × SaysOperations patch ops × (k < length ops))
 
 -- new is the document's text patched, every byte kept that no operation changes, with each text on the way within the limits
 pub record IsPatched (l : Limits) (document patch new : List ℕ) : Type 0 where
@@ -97,15 +105,26 @@ pub record IsMergedInto (l : Limits) (document patch new : List ℕ) : Type 0 wh
 abbrev pub IsMergedOver : Limits → List ℕ → List ℕ → LimitError → Type 0
 IsMergedOver l document patch e = IsJsonText l.depth document × (e ≡ record { operation = 0; kind = TooMuch }) × IsMergeOver l.copied document patch
 
--- the patch leads from what the one text says to what the other says, both of at most so many levels
-pub record IsDifference (l : Limits) (from to patch : List ℕ) : Type 0 where
+-- the patch leads from what the one text says to what the other says, both of at most so many levels; it has moves where they are asked for
+pub record IsDifference (moves : Bool) (l : Limits) (from to patch : List ℕ) : Type 0 where
   pub first : IsJsonText l.depth from
   pub second : IsJsonText l.depth to
   pub leads : AcceptsPatch from patch to
-  pub plain : IsPlainPatch from patch
+  pub plain : moves ≡ false → IsPlainPatch from patch
+  pub moving : moves ≡ true → IsMovingPatch patch
   -- it has no operation exactly where both say the same
   pub nothing : SaysOperations patch [] ↔ SaySame from to
   pub few : IsFewBetween from to patch
+
+-- the same, with a test before each operation that removes or replaces, by which other texts refuse it
+pub record IsGuardedDifference (l : Limits) (from to patch : List ℕ) : Type 0 where
+  pub first : IsJsonText l.depth from
+  pub second : IsJsonText l.depth to
+  pub leads : AcceptsPatch from patch to
+  pub guarded : IsGuardedPatch from patch
+  pub refused : IsRefusedElsewhere from patch
+  pub nothing : SaysOperations patch [] ↔ SaySame from to
+  pub few : IsFewGuarded from to patch
 
 -- s is the value's text in the document's where the pointer leads
 abbrev pub IsValueAt : ℕ → List ℕ → List ℕ → List ℕ → Type 0

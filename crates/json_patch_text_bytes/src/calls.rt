@@ -1,10 +1,13 @@
 //! What is made of a JSON text.
 
-ghost use Rattle.std.specs.Prelude.{◌≡◌, ◌≤◌, IfErr, IfOk, IfSome, None, string_bytes};
+ghost use Rattle.std.specs.Prelude.{◌≡◌, ◌↔◌, ◌≤◌, [], IfErr, IfOk, IfSome, None, OnOk, false, string_bytes, true};
+ghost use Rattle.json_diff_text.specs.Differences.{IsDiffTextFault, IsFewBetween, IsMovingPatch, IsPlainPatch, SaySame};
 ghost use Rattle.json_patch_bytes.specs.Failures.{IsFailure};
+ghost use Rattle.json_patch_text.specs.Operations.{SaysOperations};
+ghost use Rattle.json_patch_text.specs.Patched.{AcceptsPatch};
 ghost use Rattle.json_patch_text_bytes.specs.Failures.{IsLookupFault};
 ghost use Rattle.json_patch_text_bytes.specs.Reasons.{of_check, of_merge, of_patch, of_record, of_two};
-ghost use Rattle.json_patch_text_bytes.specs.Texts.{IsDifference, IsMergedInto, IsPatched, IsRecorded, IsTextPatch, IsValueAt};
+ghost use Rattle.json_patch_text_bytes.specs.Texts.{HasAtMost, IsDifference, IsGuardedDifference, IsMergedInto, IsPatched, IsRecorded, IsTextPatch, IsValueAt};
 ghost use Rattle.json_patch_text_bytes.specs.MergePatches.{AreNeverJoined, HasNoMergeDifference, IsJoined, IsMergeDifference};
 
 use crate::failures::{of_difference, of_joining, of_merge, of_reading, of_run};
@@ -12,7 +15,9 @@ use crate::lookup::LookupFault;
 use crate::texts::{
     MOST_OF_PATCH, checked_text, flat_text, named, text_and_patch, told, two_texts,
 };
-use json_diff_text::{diff_text, merge_both_text, merge_diff_text};
+use json_diff_text::{
+    DiffTextFault, diff_text, guarded_diff_text, merge_both_text, merge_diff_text, moving_diff_text,
+};
 use json_merge_text::merge_text_within;
 use json_patch::{LimitError, LimitKind, Limits};
 use json_patch_bytes::failure::Failure;
@@ -31,20 +36,23 @@ pub(crate) const TOO_LONG: LimitError = LimitError {
 /// The document's text with the patch applied (RFC 6902), and every byte kept that no operation changes.
 ///
 /// `NoDocument` where the document's bytes are no UTF-8 or no JSON, or nest deeper than the limit; then
-/// `NoPatch` where the patch's bytes say none; then `Over` where an operation would leave a text over
-/// the limits, of which `copied` counts bytes here, or `Refused`.
+/// `NoPatch` where the patch's bytes say none; then `TooMany` where they say more operations than `most`, if
+/// that is limited; then `Over` where an operation would leave a text over the limits, of which `copied`
+/// counts bytes here, or `Refused`.
 #[tactic(auto, using(crate::proofs::Faults::unread_patch))]
 pub fn patched(
     alloc: Global,
     document: &[u8],
     patch: &[u8],
     limits: Limits,
+    most: Option<usize>,
 ) -> Result<String, Failure>
     requires { limits.depth ≤ 124 }
     ensures text { IfOk result (λ s. IsPatched limits document.now patch.now (string_bytes s)) }
-    ensures failure { IfErr result (IsFailure (of_patch limits document.now patch.now)) }
+    ensures few { OnOk result (HasAtMost most patch.now) }
+    ensures failure { IfErr result (IsFailure (of_patch most limits document.now patch.now)) }
 {
-    let (text, flat) = text_and_patch(alloc, document, patch, limits.depth)?;
+    let (text, flat) = text_and_patch(alloc, document, patch, limits.depth, most)?;
     match patch_text_within(alloc, text, flat, limits) {
         Ok(new) => Ok(new),
         Err(fault) => {
@@ -62,13 +70,15 @@ pub fn recorded(
     document: &[u8],
     patch: &[u8],
     limits: Limits,
+    most: Option<usize>,
 ) -> Result<Recorded, Failure>
     requires { limits.depth ≤ 124 }
     ensures texts { IfOk result (λ r.
         IsRecorded limits document.now patch.now (string_bytes r.text) (string_bytes r.undo)) }
-    ensures failure { IfErr result (IsFailure (of_record limits document.now patch.now)) }
+    ensures few { OnOk result (HasAtMost most patch.now) }
+    ensures failure { IfErr result (IsFailure (of_record most limits document.now patch.now)) }
 {
-    let (text, flat) = text_and_patch(alloc, document, patch, limits.depth)?;
+    let (text, flat) = text_and_patch(alloc, document, patch, limits.depth, most)?;
     match record_text_within(alloc, text, flat, limits) {
         Ok(made) => Ok(made),
         Err(fault) => {
@@ -123,18 +133,66 @@ pub fn merged(
     }
 }
 
+/// The patch between two texts.
+fn difference(alloc: Global, from: &str, to: &str, moves: bool) -> Result<String, DiffTextFault>
+    ensures leads { IfOk result (λ s. AcceptsPatch from.now (string_bytes s) to.now) }
+    ensures plain { IfOk result (λ s. moves ≡ false → IsPlainPatch from.now (string_bytes s)) }
+    ensures moving { IfOk result (λ s. moves ≡ true → IsMovingPatch (string_bytes s)) }
+    ensures nothing { IfOk result
+        (λ s. SaysOperations (string_bytes s) [] ↔ SaySame from.now to.now) }
+    ensures few { IfOk result (λ s. IsFewBetween from.now to.now (string_bytes s)) }
+    ensures fault { IfErr result (IsDiffTextFault from.now to.now) }
+{
+    if moves {
+        moving_diff_text(alloc, from, to)
+    } else {
+        diff_text(alloc, from, to)
+    }
+}
+
 /// The patch that leads from what one text says to what another says (RFC 6902), whatever numbers both
-/// have: applied to the one within the same levels it leaves the other.
+/// have, with moves where they are asked for: applied to the one within the same levels it leaves the
+/// other.
 ///
 /// `NoDocument` where the first's bytes are no UTF-8 or no JSON, or nest deeper than the limit; then
 /// `NoPatch` where the second's are such. Of the limits `depth` alone counts.
-pub fn differing(alloc: Global, from: &[u8], to: &[u8], limits: Limits) -> Result<String, Failure>
+pub fn differing(
+    alloc: Global,
+    from: &[u8],
+    to: &[u8],
+    limits: Limits,
+    moves: bool,
+) -> Result<String, Failure>
     requires { limits.depth ≤ 124 }
-    ensures text { IfOk result (λ s. IsDifference limits from.now to.now (string_bytes s)) }
+    ensures text { IfOk result (λ s. IsDifference moves limits from.now to.now (string_bytes s)) }
     ensures failure { IfErr result (IsFailure (of_two limits.depth from.now to.now)) }
 {
     let (first, second) = two_texts(alloc, from, to, limits.depth)?;
-    match diff_text(alloc, first, second) {
+    match difference(alloc, first, second, moves) {
+        Ok(patch) => Ok(patch),
+        Err(fault) => {
+            let failure = of_difference(fault);
+            Err(told(alloc, from, to, limits.depth, failure))
+        }
+    }
+}
+
+/// The patch of [`differing`] without moves, with a test directly before each operation that removes or
+/// replaces, of what that takes: other texts that have something else there refuse it. It fails as that.
+// Inlined into a caller that makes other differences too, it would take stack from them.
+#[inline(never)]
+pub fn guarded_differing(
+    alloc: Global,
+    from: &[u8],
+    to: &[u8],
+    limits: Limits,
+) -> Result<String, Failure>
+    requires { limits.depth ≤ 124 }
+    ensures text { IfOk result (λ s. IsGuardedDifference limits from.now to.now (string_bytes s)) }
+    ensures failure { IfErr result (IsFailure (of_two limits.depth from.now to.now)) }
+{
+    let (first, second) = two_texts(alloc, from, to, limits.depth)?;
+    match guarded_diff_text(alloc, first, second) {
         Ok(patch) => Ok(patch),
         Err(fault) => {
             let failure = of_difference(fault);

@@ -1,16 +1,17 @@
 //! What is made of a text that is kept.
 
-ghost use Rattle.std.specs.Prelude.{◌≡◌, ◌≤◌, IfErr, IfOk, None, OnErr, OnOk, Some, option_map, string_bytes};
+ghost use Rattle.std.specs.Prelude.{◌≡◌, ◌≤◌, IfErr, IfOk, None, OnErr, OnOk, Some, false, option_map, string_bytes};
 ghost use Rattle.json_kept_text.specs.Kept.{opened};
 ghost use Rattle.json_patch_bytes.specs.Failures.{IsFailure};
 ghost use Rattle.json_patch_text_bytes.specs.Failures.{IsKeptLookupFault};
 ghost use Rattle.json_patch_text_bytes.specs.Reasons.{of_kept, of_merge, of_patch, of_record, of_text, of_two};
-ghost use Rattle.json_patch_text_bytes.specs.Texts.{IsDifference, IsJsonText, IsMergedInto, IsPatched, IsRecordedIn, IsValueAt};
+ghost use Rattle.json_patch_text_bytes.specs.Texts.{HasAtMost, IsDifference, IsJsonText, IsMergedInto, IsPatched, IsRecordedIn, IsValueAt};
 
 use crate::calls::TOO_LONG;
+use crate::count::counted_text;
 use crate::failures::{of_difference, of_document, of_merge, of_run};
 use crate::lookup::LookupFault;
-use crate::texts::{MOST_OF_PATCH, flat_text, named};
+use crate::texts::named;
 use json_kept_text::{KeptText, MergeLimitFault};
 use json_patch::Limits;
 use json_patch_bytes::failure::Failure;
@@ -45,19 +46,26 @@ pub fn opened(alloc: Global, text: &[u8], limits: Limits) -> Result<KeptText, Fa
 
 /// Applies the patch to the text, as [`crate::calls::patched`] does: it fails as that, but that the text is
 /// known to be JSON.
-pub fn patched(alloc: Global, kept: &mut KeptText, patch: &[u8]) -> Result<(), Failure>
+#[tactic(auto, using(crate::proofs::KeptFaults::kept_unread_patch))]
+pub fn patched(
+    alloc: Global,
+    kept: &mut KeptText,
+    patch: &[u8],
+    most: Option<usize>,
+) -> Result<(), Failure>
     requires { kept.old.limits.depth ≤ 124 }
+    ensures few { OnOk result (HasAtMost most patch.now) }
     ensures text { OnOk result (IsPatched kept.old.limits kept.old.text patch.now kept.new.text) }
     ensures unrecorded { OnOk result (kept.new.last ≡ None) }
     ensures limits { kept.new.limits ≡ kept.old.limits }
     ensures failure { IfErr result
-        (IsFailure (of_kept (of_patch kept.old.limits kept.old.text patch.now))) }
+        (IsFailure (of_kept (of_patch most kept.old.limits kept.old.text patch.now))) }
     ensures unchanged { OnErr result (kept.new ≡ kept.old) }
 {
     kept.limits();
-    let flat = match flat_text(patch, MOST_OF_PATCH) {
+    let flat = match counted_text(alloc, patch, most) {
         Ok(flat) => flat,
-        Err(kind) => return Err(named(alloc, patch, Failure::NoPatch(0, kind))),
+        Err(failure) => return Err(named(alloc, patch, failure)),
     };
     match kept.patch(alloc, flat) {
         Ok(()) => Ok(()),
@@ -67,18 +75,25 @@ pub fn patched(alloc: Global, kept: &mut KeptText, patch: &[u8]) -> Result<(), F
 
 /// The same, and the change is recorded. It fails as [`crate::calls::recorded`], but that the text is known
 /// to be JSON.
-pub fn recorded(alloc: Global, kept: &mut KeptText, patch: &[u8]) -> Result<(), Failure>
+#[tactic(auto, using(crate::proofs::KeptFaults::kept_unread_record))]
+pub fn recorded(
+    alloc: Global,
+    kept: &mut KeptText,
+    patch: &[u8],
+    most: Option<usize>,
+) -> Result<(), Failure>
     requires { kept.old.limits.depth ≤ 124 }
+    ensures few { OnOk result (HasAtMost most patch.now) }
     ensures text { OnOk result (IsRecordedIn kept.old patch.now kept.new) }
     ensures limits { kept.new.limits ≡ kept.old.limits }
     ensures failure { IfErr result
-        (IsFailure (of_kept (of_record kept.old.limits kept.old.text patch.now))) }
+        (IsFailure (of_kept (of_record most kept.old.limits kept.old.text patch.now))) }
     ensures unchanged { OnErr result (kept.new ≡ kept.old) }
 {
     kept.limits();
-    let flat = match flat_text(patch, MOST_OF_PATCH) {
+    let flat = match counted_text(alloc, patch, most) {
         Ok(flat) => flat,
-        Err(kind) => return Err(named(alloc, patch, Failure::NoPatch(0, kind))),
+        Err(failure) => return Err(named(alloc, patch, failure)),
     };
     match kept.patch_recorded(alloc, flat) {
         Ok(()) => Ok(()),
@@ -108,11 +123,11 @@ pub fn merged(alloc: Global, kept: &mut KeptText, patch: &[u8]) -> Result<(), Fa
     }
 }
 
-/// The patch that leads from the text to what the bytes say, as [`crate::calls::differing`] makes it: it
-/// fails as that, but that the text is known to be JSON.
+/// The patch that leads from the text to what the bytes say, as [`crate::calls::differing`] makes it
+/// without moves: it fails as that, but that the text is known to be JSON.
 pub fn differing(alloc: Global, kept: &KeptText, to: &[u8]) -> Result<String, Failure>
     requires { kept.now.limits.depth ≤ 124 }
-    ensures text { IfOk result (λ s. IsDifference kept.now.limits kept.now.text to.now (string_bytes s)) }
+    ensures text { IfOk result (λ s. IsDifference false kept.now.limits kept.now.text to.now (string_bytes s)) }
     ensures failure { IfErr result
         (IsFailure (of_kept (of_two kept.now.limits.depth kept.now.text to.now))) }
 {
@@ -129,11 +144,16 @@ pub fn differing(alloc: Global, kept: &KeptText, to: &[u8]) -> Result<String, Fa
 /// The text of the value where the pointer leads in the text (RFC 6901), as it is written there.
 ///
 /// `NoPointer` where the pointer's bytes are none; `Document` where memory runs out.
-pub fn value_at(alloc: Global, kept: &KeptText, pointer: &[u8]) -> Result<String, LookupFault>
+pub fn value_at(
+    alloc: Global,
+    kept: &mut KeptText,
+    pointer: &[u8],
+) -> Result<String, LookupFault>
     ensures value { IfOk result
-        (λ s. IsValueAt kept.now.limits.depth kept.now.text pointer.now (string_bytes s)) }
+        (λ s. IsValueAt kept.old.limits.depth kept.old.text pointer.now (string_bytes s)) }
     ensures fault { IfErr result
-        (IsKeptLookupFault kept.now.limits.depth kept.now.text pointer.now) }
+        (IsKeptLookupFault kept.old.limits.depth kept.old.text pointer.now) }
+    ensures unchanged { kept.new ≡ kept.old }
 {
     kept.limits();
     let Ok(text) = str::from_utf8(pointer) else {

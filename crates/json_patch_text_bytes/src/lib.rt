@@ -10,6 +10,7 @@
 #![tactic(auto)]
 
 pub mod calls;
+mod count;
 mod failures;
 pub mod kept;
 pub mod lookup;

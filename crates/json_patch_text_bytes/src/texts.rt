@@ -1,13 +1,14 @@
 //! The JSON text that bytes are.
 
-ghost use Rattle.std.specs.Prelude.{◌≡◌, ◌≤◌, IfErr, IfOk, IsUtf8};
+ghost use Rattle.std.specs.Prelude.{◌≡◌, ◌≤◌, IfErr, IfOk, IsUtf8, OnOk};
 ghost use Rattle.json_lexemes.specs.Skipped.{nesting};
 ghost use Rattle.json_patch_bytes.specs.Failures.{IsFailure};
 ghost use Rattle.json_patch_text_bytes.specs.Failures.{IsNamed, IsTold};
 ghost use Rattle.json_patch_text_bytes.specs.Reasons.{of_text, of_texts, of_two};
-ghost use Rattle.json_patch_text_bytes.specs.Texts.{IsJsonText, IsNoFlatText};
+ghost use Rattle.json_patch_text_bytes.specs.Texts.{HasAtMost, IsJsonText, IsNoFlatText};
 ghost use Rattle.json_text.specs.Checked.{text_in};
 
+use crate::count::counted_text;
 use crate::failures::of_document;
 use json_patch_bytes::failure::Failure;
 use json_patch_bytes::kinds::{NOT_JSON, TOO_DEEP};
@@ -61,24 +62,28 @@ pub(crate) fn two_texts<'a>(
 }
 
 /// The texts that the bytes of a document and of a patch are, or what is wrong with one, the document's first.
-/// Whether the patch is JSON isn't looked at, nor of the document more than its bytes: to patch it reads it.
+/// Of the document no more than its bytes is looked at, and of the patch how many operations it has, where they are
+/// limited: to patch reads both.
+#[tactic(auto, using(crate::proofs::Faults::counted_texts))]
 pub(crate) fn text_and_patch<'a>(
     alloc: Global,
     document: &'a [u8],
     patch: &'a [u8],
     levels: usize,
+    most: Option<usize>,
 ) -> Result<(&'a str, &'a str), Failure>
     requires { levels ≤ 124 }
     ensures document { IfOk result (λ two. (two.0.now ≡ document.now) × IsUtf8 document.now) }
+    ensures few { OnOk result (HasAtMost most patch.now) }
     ensures patch { IfOk result (λ two. (two.1.now ≡ patch.now) × IsUtf8 patch.now × (nesting patch.now ≤ 127)) }
-    ensures failure { IfErr result (IsFailure (of_texts levels document.now patch.now)) }
+    ensures failure { IfErr result (IsFailure (of_texts most levels document.now patch.now)) }
 {
     let Ok(text) = from_utf8(document) else {
         return Err(Failure::NoDocument(NOT_JSON));
     };
-    match flat_text(patch, MOST_OF_PATCH) {
+    match counted_text(alloc, patch, most) {
         Ok(patch) => Ok((text, patch)),
-        Err(kind) => Err(told(alloc, document, patch, levels, Failure::NoPatch(0, kind))),
+        Err(failure) => Err(told(alloc, document, patch, levels, failure)),
     }
 }
 
@@ -138,7 +143,7 @@ pub(crate) fn told(
     ensures { IsTold levels document.now second.now failure result }
 {
     match failure {
-        Failure::NoDocument(_) | Failure::NoPatch(_, _) => {}
+        Failure::NoDocument(_) | Failure::NoPatch(_, _) | Failure::TooMany(_) => {}
         _ => return failure,
     }
     match checked_text(alloc, document, levels) {

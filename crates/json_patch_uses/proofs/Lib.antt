@@ -2,3 +2,4 @@ pub mod TestedFirst
 pub mod Chains
 pub mod SharedChanges
 pub mod Elements
+pub mod TextTrails

@@ -9,3 +9,5 @@ pub mod SharedDocuments
 pub mod Guards
 pub mod Guarded
 pub mod Sending
+pub mod TextEditors
+pub mod TextSteps

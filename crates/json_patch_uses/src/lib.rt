@@ -14,6 +14,7 @@ mod session;
 mod settings;
 mod shared;
 mod store;
+mod text_editor;
 mod texts;
 mod versioned;
 
@@ -29,5 +30,6 @@ pub use session::tried;
 pub use settings::Settings;
 pub use shared::{ChangeFault, SharedDocument};
 pub use store::Store;
+pub use text_editor::TextEditor;
 pub use texts::patched;
 pub use versioned::{VersionFault, update_version};

@@ -8,5 +8,12 @@ pub mod Openings
 pub mod Rows
 pub mod Lifts
 pub mod Walks
+pub mod Utf8
 pub mod Calls
 pub mod Looks
+pub mod HeldRows
+pub mod Opened
+pub mod Finer
+pub mod Backs
+pub mod Stepped
+pub mod Logs

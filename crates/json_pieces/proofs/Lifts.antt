@@ -1,7 +1,6 @@
 -- An edit in a child is one in its object or array.
 use Rattle.std.proofs.Common.{◌≡◌, inl, inr, ℕ, ◌<◌, Bool, List, [], ◌∷◌, ◌++◌, length, Option, Some, None, option_and_then, refl, sym, ap, ◌∙◌, subst, append_assoc}
-use Rattle.std.specs.Prelude.{String, option_map}
-use Rattle.std.specs.declared.alloc.Global.{Global}
+use Rattle.std.specs.Prelude.{option_map}
 use Rattle.json.specs.Json.{Json}
 use Rattle.jsonptr.specs.Text.{Pointer}
 use Rattle.json_text.specs.Cuts.{AllSuit, IsWhitespace, Piece, row_text}
@@ -16,6 +15,7 @@ use Rattle.json_lexemes.proofs.Nests.{one_tree}
 use Rattle.json_pieces.specs.Edits.{Alters, Fails, IsRightWay, Makes}
 use Rattle.json_pieces.specs.Looks.{Looks}
 use Rattle.json_pieces.specs.declared.edit.Edit.{Edit}
+use Rattle.json_pieces.specs.declared.node.Node.{Node}
 use Rattle.json_pieces.specs.PieceLists.{with_value}
 use Rattle.json_pieces.proofs.Rows.Numbers.{Stands, stands, value_at}
 use Rattle.json_pieces.proofs.Rows.Says.{row_says}
@@ -55,7 +55,7 @@ module _ (b : Bool) (hollow t : List ℕ) (n : ℕ) (cs : List Child) (ps : List
   lift_fails e P s (inl none) = inl (below t P (tree_in b cs) s.child_tree None s.is none)
   lift_fails e P s (inr (v, leads, misses)) = inr (v, below t P (tree_in b cs) s.child_tree (Some v) s.is leads, misses)
 
-  pub lift_makes : (e : Edit) (P : Pointer) (found : Option (String Global)) → (s : Stands b t n cs ps) → Makes e (value_at n ps) s.child_tree P x found → Makes e (row_text b hollow ps) (tree_in b cs) (t ∷ P) (row_text b hollow (with_value n x ps)) found
+  pub lift_makes : (e : Edit) (P : Pointer) (found : Option Node) → (s : Stands b t n cs ps) → Makes e (value_at n ps) s.child_tree P x found → Makes e (row_text b hollow ps) (tree_in b cs) (t ∷ P) (row_text b hollow (with_value n x ps)) found
   lift_makes e P None s (same, fails) =
       (s.split.put hollow x ∙ ap (λ y. s.split.before ++ (y ++ s.split.behind)) same ∙ sym (s.split.whole hollow), lift_fails e P s fails)
   lift_makes e P (Some out) s m = record {

@@ -1,25 +1,23 @@
 -- The walk to the place of an edit, and the edit there.
-use Rattle.std.proofs.Common.{◌≡◌, inl, inr, ℕ, ◌+◌, ◌<◌, ◌≤◌, ◌^◌, Bool, true, false, List, [], ◌∷◌, length, get_or, map, Option, Some, None, option_and_then, refl, sym, ap, ◌∙◌, subst, arith, append-nil, Box}
+use Rattle.std.proofs.Common.{◌≡◌, inl, inr, ℕ, ◌+◌, ◌<◌, ◌≤◌, ◌^◌, true, List, [], ◌∷◌, length, get_or, map, Option, Some, None, option_and_then, refl, sym, ap, ◌∙◌, subst, arith, append-nil, Box}
 use Rattle.std.specs.Box.{with_value as boxed_with}
-use Rattle.std.specs.Prelude.{IfOk, IsSome, OnErr, OnOk, Result, Ok, Err, String, slice_set}
+use Rattle.std.specs.Prelude.{IfOk, IfSome, OnOk, Result, Ok, Err, is_some, slice_set}
 use Rattle.std.specs.declared.alloc.AllocError.{AllocError}
 use Rattle.std.proofs.lemmas.List.{get_or_default, set-get_or, set-set}
 use Rattle.std.proofs.lemmas.Result.{IfOk-weaker}
 use Rattle.std.specs.Borrow.{Bor}
-use Rattle.std.proofs.lemmas.Bool.{true≢false}
-use Rattle.std.specs.String.{string_bytes}
 use Rattle.std.specs.declared.alloc.Global.{Global}
 use Rattle.json.specs.Json.{Json, null, boolean, number, string, array, object}
 use Rattle.jsonptr.specs.Text.{Pointer}
 use Rattle.json_text.specs.Cuts.{AllSuit, row_text}
 use Rattle.json_text.specs.Less.{IsLeaf, IsNumberOf}
 use Rattle.json_text.specs.Listing.{IsTextOf}
-use Rattle.json_text.specs.Pointed.{child, tree_at}
+use Rattle.json_text.specs.Pointed.{child, tree_at, IsWrittenAt}
 use Rattle.json_text.specs.Rows.{Child, tree_in}
 use Rattle.json_lexemes.specs.Spelled.{Says}
 use Rattle.long_vec.specs.Items.{items_of}
-use Rattle.json_pieces.specs.Edits.{Alters, Changes, IsMade, IsReady, Makes, PutsIn, TakesOut}
-use Rattle.json_pieces.specs.Nodes.{IsOpened, IsRowOf, IsSound, IsWhole, Tree, parts_of, row_view, shut, text_bytes, tree_text, view, wide}
+use Rattle.json_pieces.specs.Edits.{Alters, IsMade, Makes, PutsIn, TakesOut}
+use Rattle.json_pieces.specs.Nodes.{IsOpened, IsSound, IsWhole, Tree, parts_of, row_view, shut, text_bytes, tree_text, view, wide}
 use Rattle.json_pieces.specs.declared.edit.Edit.{Edit}
 use Rattle.json_pieces.specs.declared.edit.Edit.TheVariants.{Read, Put, Take, Insert}
 use Rattle.json_pieces.specs.declared.node.Node.{Node}
@@ -53,18 +51,6 @@ row_stays P old new b r is left same h = subst P (ap view is ∙ view_open b ∙
 pub known : {X E P : Type 0} (c : Result X E) → P → OnOk c P
 known (Ok x) p = p
 known (Err e) p = tt
-
-pub known_err : {X E P : Type 0} (c : Result X E) → P → OnErr c P
-known_err (Ok x) p = tt
-known_err (Err e) p = p
-
-pub settled : {X E P : Type 0} (c : Result X E) → IfOk c (λ x. P) → OnErr c P → P
-settled (Ok x) p q = p
-settled (Err e) p q = q
-
-pub sound_anyway : {X E : Type 0} (c : Result X E) (old new : Row) → IsSound (row_view old) → OnOk c (IsSound (row_view new)) → OnErr c (row_view new ≡ row_view old) → IsSound (row_view new)
-sound_anyway (Ok x) old new h sound same = sound
-sound_anyway (Err e) old new h sound same = subst IsSound (sym same) h
 
 -- a row was opened, and is another since
 module _ (old opened new : Node) (copy : Row) (r s : Box Row Global) (same : tree_text (view opened) ≡ tree_text (view old)) (copied : copy ≡ r.value) (is : opened ≡ Open r) (left : new ≡ Open s) where
@@ -129,56 +115,45 @@ whole_alters text j new h = record {
 text_of_tree : (t : Tree) (j : Json) → IsWhole t → Says (tree_text t) j → IsTextOf (tree_text t) j
 text_of_tree t j h says = (says, h.1.1.1)
 
-pub read_made : (old : Node) (e : Edit) (out : String Global) → IsWhole (view old) → e ≡ Read → string_bytes out ≡ tree_text (view old) → (j : Json) → Says (tree_text (view old)) j → Makes e (tree_text (view old)) j [] (tree_text (view old)) (Some out)
-read_made old e out h is same j says =
+pub read_made : (old out : Node) (e : Edit) → IsWhole (view old) → e ≡ Read → tree_text (view out) ≡ tree_text (view old) → (j : Json) → Says (tree_text (view old)) j → Makes e (tree_text (view old)) j [] (tree_text (view old)) (Some out)
+read_made old out e h is same j says =
     let text = tree_text (view old) in
     subst (λ x. Makes x text j [] text (Some out)) (sym is)
     (record { way = []; value = j; own = text; left = text; alters = whole_alters text j text (text_of_tree (view old) j h says); is_left = (refl, same); right = tt })
 
-pub put_made : (old new : Node) (e : Edit) (x : Bor (List ℕ)) (s : Text) (out : String Global) → IsWhole (view old) → e ≡ Put x → new ≡ Closed s → text_bytes s ≡ x.now → (j : Json) → Says (tree_text (view old)) j → Makes e (tree_text (view old)) j [] (tree_text (view new)) (Some out)
-put_made old new e x s out h is left same j says =
+pub put_made : (old new x out : Node) (e : Edit) → IsWhole (view old) → e ≡ Put x → new ≡ x → (j : Json) → Says (tree_text (view old)) j → Makes e (tree_text (view old)) j [] (tree_text (view new)) (Some out)
+put_made old new x out e h is left j says =
     let text = tree_text (view old) in
-    let made : tree_text (view new) ≡ x.now = ap tree_text (ap view left ∙ view_closed s) ∙ same in
     subst (λ y. Makes y text j [] (tree_text (view new)) (Some out)) (sym is)
-    (record { way = []; value = j; own = text; left = tree_text (view new); alters = whole_alters text j (tree_text (view new)) (text_of_tree (view old) j h says); is_left = made; right = tt })
-
-pub put_whole : (new : Node) (e : Edit) (x : Bor (List ℕ)) (s : Text) → IsReady e → e ≡ Put x → new ≡ Closed s → text_bytes s ≡ x.now → IsWhole (view new)
-put_whole new e x s ready is left same =
-    let value : (w : Json) × IsTextOf x.now w = subst IsReady is ready in
-    subst IsWhole (sym (ap view left ∙ view_closed s)) (tt, subst (λ y. (w : Json) × IsTextOf y w) (sym same) value)
+    (record { way = []; value = j; own = text; left = tree_text (view new); alters = whole_alters text j (tree_text (view new)) (text_of_tree (view old) j h says); is_left = ap (λ n. tree_text (view n)) left; right = tt })
 
 -- ---- in the object or the array
 
-pub taken : (e : Edit) (t : Bor (List ℕ)) (r : Row) (new : List ℕ) (done : Bool) → IsSound (row_view r) → e ≡ Take t → ((j : Json) → Says (tree_text (row_view r)) j → TakesOut (tree_text (row_view r)) j t.now new done) → (j : Json) → Says (tree_text (row_view r)) j → Changes e (tree_text (row_view r)) j new done
-taken e t r new done h is made j says = subst (λ x. Changes x (tree_text (row_view r)) j new done) (sym is) (by_done done (made j says))
+pub taken : (e : Edit) (t : Bor (List ℕ)) (r : Row) (new : List ℕ) (found : Option Node) → IsSound (row_view r) → e ≡ Take t → ((j : Json) → Says (tree_text (row_view r)) j → TakesOut (tree_text (row_view r)) j t.now new (is_some found))
+    → IfSome found (λ v. (j : Json) → Says (tree_text (row_view r)) j → IsWrittenAt (tree_text (row_view r)) j (t.now ∷ []) (tree_text (view v))) → (j : Json) → Says (tree_text (row_view r)) j → Makes e (tree_text (row_view r)) j [] new found
+taken e t r new found h is made at j says = subst (λ x. Makes x (tree_text (row_view r)) j [] new found) (sym is) (by_found found (made j says) at)
   where
-    by_done : (d : Bool) → TakesOut (tree_text (row_view r)) j t.now new d → Changes (Take t) (tree_text (row_view r)) j new d
-    by_done true m = λ out. record { way = []; value = j; own = tree_text (row_view r); left = new; alters = whole_alters (tree_text (row_view r)) j new (text_of_tree (row_view r) j (row_whole r h) says); is_left = m; right = tt }
-    by_done false m = (m.0, inr (j, refl, m.1))
+    by_found : (o : Option Node) → TakesOut (tree_text (row_view r)) j t.now new (is_some o) → IfSome o (λ v. (i : Json) → Says (tree_text (row_view r)) i → IsWrittenAt (tree_text (row_view r)) i (t.now ∷ []) (tree_text (view v))) → Makes (Take t) (tree_text (row_view r)) j [] new o
+    by_found (Some v) m w = record { way = []; value = j; own = tree_text (row_view r); left = new; alters = whole_alters (tree_text (row_view r)) j new (text_of_tree (row_view r) j (row_whole r h) says); is_left = (m, w j says); right = tt }
+    by_found None m w = (m.0, inr (j, refl, m.1))
 
-pub put_in : (e : Edit) (t x : Bor (List ℕ)) (r : Row) (new : List ℕ) (done : Bool) → IsSound (row_view r) → e ≡ Insert t x → ((j : Json) → Says (tree_text (row_view r)) j → PutsIn (tree_text (row_view r)) j t.now x.now new done) → (j : Json) → Says (tree_text (row_view r)) j → Changes e (tree_text (row_view r)) j new done
-put_in e t x r new done h is made j says = subst (λ y. Changes y (tree_text (row_view r)) j new done) (sym is) (by_done done (made j says))
+pub put_in : (e : Edit) (t : Bor (List ℕ)) (x : Node) (r : Row) (new : List ℕ) (found : Option Node) → IsSound (row_view r) → e ≡ Insert t x → ((j : Json) → Says (tree_text (row_view r)) j → PutsIn (tree_text (row_view r)) j t.now (tree_text (view x)) new (is_some found))
+    → (j : Json) → Says (tree_text (row_view r)) j → Makes e (tree_text (row_view r)) j [] new found
+put_in e t x r new found h is made j says = subst (λ y. Makes y (tree_text (row_view r)) j [] new found) (sym is) (by_found found (made j says))
   where
-    either : PutsIn (tree_text (row_view r)) j t.now x.now new true → (out : List ℕ) → IsMade (Insert t x) (tree_text (row_view r)) j [] new out
+    either : PutsIn (tree_text (row_view r)) j t.now (tree_text (view x)) new true → (out : List ℕ) → IsMade (Insert t x) (tree_text (row_view r)) j [] new out
     either (inl m) out = record { way = []; value = j; own = tree_text (row_view r); left = new; alters = whole_alters (tree_text (row_view r)) j new (text_of_tree (row_view r) j (row_whole r h) says); is_left = m; right = tt }
-    either (inr m) out = record { way = t.now ∷ []; value = m.value; own = m.own; left = x.now; alters = m.alters; is_left = (refl, refl); right = (j, refl, m.object) }
+    either (inr m) out = record { way = t.now ∷ []; value = m.value; own = m.own; left = tree_text (view x); alters = m.alters; is_left = (refl, refl); right = (j, refl, m.object) }
 
-    by_done : (d : Bool) → PutsIn (tree_text (row_view r)) j t.now x.now new d → Changes (Insert t x) (tree_text (row_view r)) j new d
-    by_done true m = either m
-    by_done false m = (m.0, inr (j, refl, m.1))
+    by_found : (o : Option Node) → PutsIn (tree_text (row_view r)) j t.now (tree_text (view x)) new (is_some o) → Makes (Insert t x) (tree_text (row_view r)) j [] new o
+    by_found (Some out) m = either m (tree_text (view out))
+    by_found None m = (m.0, inr (j, refl, m.1))
 
-pub answered : (e : Edit) (text : List ℕ) (j : Json) (new : List ℕ) (done : Bool) (found : Option (String Global)) → (done ≡ true → IsSome found) → (done ≡ false → found ≡ None) → Changes e text j new done → Makes e text j [] new found
-answered e text j new true (Some out) some none m = m (string_bytes out)
-answered e text j new true None some none m = absurd (true≢false (sym (some refl)))
-answered e text j new false found some none m = subst (Makes e text j [] new) (sym (none refl)) m
-
--- ---- opened
-
-pub box_opened : (n : Node) (b : Box Row Global) (r : Row) → b.value ≡ r → IsWhole (view n) → IsRowOf (tree_text (view n)) r → IsWhole (view (Open b)) × (tree_text (view (Open b)) ≡ tree_text (view n))
-box_opened n b r is (sound, (j, text)) h =
-    let seen : view (Open b) ≡ row_view r = view_open b ∙ ap row_view is in
-    let same : tree_text (view (Open b)) ≡ tree_text (view n) = ap tree_text seen ∙ h.1 in
-    ((subst IsSound (sym seen) h.0, (j, subst (λ x. IsTextOf x j) (sym same) text)), same)
+-- the same of what a call answers
+pub taken_by : (c : Result (Option Node) AllocError) (e : Edit) (t : Bor (List ℕ)) (r : Row) (new : List ℕ) → IsSound (row_view r) → e ≡ Take t → IfOk c (λ found. (j : Json) → Says (tree_text (row_view r)) j → TakesOut (tree_text (row_view r)) j t.now new (is_some found))
+    → IfOk c (λ found. IfSome found (λ v. (j : Json) → Says (tree_text (row_view r)) j → IsWrittenAt (tree_text (row_view r)) j (t.now ∷ []) (tree_text (view v)))) → IfOk c (λ found. (j : Json) → Says (tree_text (row_view r)) j → Makes e (tree_text (row_view r)) j [] new found)
+taken_by (Ok found) e t r new h is made at = taken e t r new found h is made at
+taken_by (Err x) e t r new h is made at = tt
 
 -- ---- a child
 

@@ -1,17 +1,15 @@
 -- What an edit makes of a value's text.
 use Rattle.std.specs.Prelude.{◌≡◌, ◌⊎◌, ℕ, Bool, true, false, List, [], ◌∷◌, ◌++◌, Option, Some, None, ⊤}
-use Rattle.std.specs.String.{string_bytes}
-use Rattle.std.specs.Prelude.{String}
-use Rattle.std.specs.declared.alloc.Global.{Global}
 use Rattle.json.specs.Json.{Json}
 use Rattle.jsonptr.specs.Text.{Pointer}
 use Rattle.json_text.specs.Added.{IsPutInto}
 use Rattle.json_text.specs.Changed.{add_child}
 use Rattle.json_text.specs.Less.{IsObject, IsWithout}
-use Rattle.json_text.specs.Listing.{IsTextOf}
-use Rattle.json_text.specs.Pointed.{child, put_at, tree_at, IsStretch}
+use Rattle.json_text.specs.Pointed.{child, put_at, tree_at, IsStretch, IsWrittenAt}
+use Rattle.json_pieces.specs.Nodes.{IsWhole, tree_text, view}
 use Rattle.json_pieces.specs.declared.edit.Edit.{Edit}
 use Rattle.json_pieces.specs.declared.edit.Edit.TheVariants.{Read, Put, Take, Insert}
+use Rattle.json_pieces.specs.declared.node.Node.{Node}
 
 -- in the text, which says j, the stretch where P leads, own, which says v, is exchanged for left
 pub record Alters (text : List ℕ) (j : Json) (P : Pointer) (v : Json) (own left new : List ℕ) : Type 0 where
@@ -22,16 +20,16 @@ pub record Alters (text : List ℕ) (j : Json) (P : Pointer) (v : Json) (own lef
   pub stood : IsStretch before own behind v (λ w. put_at P w j)
   pub exchanged : new ≡ before ++ (left ++ behind)
 
--- what the edit leaves of a value, and answers: a member that stands is exchanged itself, by its name
+-- what the edit leaves of a value, and the text that it answers: a member that stands is exchanged itself, by its name
 abbrev pub IsLeft : Edit → Pointer → Json → List ℕ → List ℕ → List ℕ → Type 0
 IsLeft Read [] v own left out = (left ≡ own) × (out ≡ own)
 IsLeft Read (u ∷ P) v own left out = ⊥
-IsLeft (Put x) [] v own left out = left ≡ x.now
+IsLeft (Put x) [] v own left out = left ≡ tree_text (view x)
 IsLeft (Put x) (u ∷ P) v own left out = ⊥
-IsLeft (Take t) [] v own left out = IsWithout own v t.now left
+IsLeft (Take t) [] v own left out = IsWithout own v t.now left × IsWrittenAt own v (t.now ∷ []) out
 IsLeft (Take t) (u ∷ P) v own left out = ⊥
-IsLeft (Insert t x) [] v own left out = IsPutInto own v t.now x.now left
-IsLeft (Insert t x) (u ∷ []) v own left out = (u ≡ t.now) × (left ≡ x.now)
+IsLeft (Insert t x) [] v own left out = IsPutInto own v t.now (tree_text (view x)) left
+IsLeft (Insert t x) (u ∷ []) v own left out = (u ≡ t.now) × (left ≡ tree_text (view x))
 IsLeft (Insert t x) (u ∷ w ∷ P) v own left out = ⊥
 
 -- by a name only in an object
@@ -59,16 +57,16 @@ abbrev pub Fails : Edit → Json → Pointer → Type 0
 Fails e j P = (tree_at P j ≡ None) ⊎ ((v : Json) × (tree_at P j ≡ Some v) × Misses e v)
 
 -- it is made where P leads, or nothing is
-abbrev pub Makes : Edit → List ℕ → Json → Pointer → List ℕ → Option (String Global) → Type 0
-Makes e text j P new (Some out) = IsMade e text j P new (string_bytes out)
+abbrev pub Makes : Edit → List ℕ → Json → Pointer → List ℕ → Option Node → Type 0
+Makes e text j P new (Some out) = IsMade e text j P new (tree_text (view out))
 Makes e text j P new None = (new ≡ text) × Fails e j P
 
 -- what it puts is a value's text
 abbrev pub IsReady : Edit → Type 0
 IsReady Read = ⊤
-IsReady (Put x) = (w : Json) × IsTextOf x.now w
+IsReady (Put x) = IsWhole (view x)
 IsReady (Take t) = ⊤
-IsReady (Insert t x) = (w : Json) × IsTextOf x.now w
+IsReady (Insert t x) = IsWhole (view x)
 
 -- ---- in an object or an array itself
 
@@ -88,11 +86,6 @@ pub record IsMemberPut (text : List ℕ) (j : Json) (t x new : List ℕ) : Type 
 abbrev pub PutsIn : List ℕ → Json → List ℕ → List ℕ → List ℕ → Bool → Type 0
 PutsIn text j t x new true = IsPutInto text j t x new ⊎ IsMemberPut text j t x new
 PutsIn text j t x new false = (new ≡ text) × ((w : Json) → add_child t w j ≡ None)
-
--- the same by the edit
-abbrev pub Changes : Edit → List ℕ → Json → List ℕ → Bool → Type 0
-Changes e text j new true = (out : List ℕ) → IsMade e text j [] new out
-Changes e text j new false = (new ≡ text) × Fails e j []
 
 -- it is no edit of the value as a whole
 abbrev pub IsInner : Edit → Type 0

@@ -9,3 +9,8 @@ pub mod Whole
 pub mod Lengths
 pub mod Exchanges
 pub mod Slots
+pub mod Held
+pub mod Backs
+pub mod Finer
+pub mod Logged
+pub mod Logs

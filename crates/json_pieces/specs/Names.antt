@@ -9,10 +9,11 @@ use Rattle.json_pieces.specs.Marks.{Fits}
 use Rattle.json_pieces.specs.declared.index.NameIndex.{NameIndex}
 use Rattle.json_pieces.specs.declared.seams.Seam.{Seam}
 use Rattle.json_pieces.specs.declared.text.Text.{Text}
-use Rattle.json_pieces.specs.declared.text.Text.TheVariants.{Kept, Made}
+use Rattle.json_pieces.specs.declared.text.Text.TheVariants.{Empty, Kept, Made}
 
 abbrev pub text_bytes : Text → List ℕ
-text_bytes (Kept s) = s.now
+text_bytes Empty = []
+text_bytes (Kept s) = s.text.now
 text_bytes (Made s) = string_bytes s
 
 -- the seams have these children's names

@@ -9,8 +9,7 @@ use Rattle.json_lexemes.specs.Spelled.{Says}
 use Rattle.long_vec.specs.Items.{items_of}
 pub use Rattle.json_pieces.specs.Names.{text_bytes, AreNames}
 use Rattle.json_pieces.specs.declared.node.Node.{Node}
-use Rattle.json_pieces.specs.declared.node.Node.TheOpen.{Node-F, Row-F}
-use Rattle.json_pieces.specs.declared.node.Node.TheFolds.{fold-Node}
+use Rattle.json_pieces.specs.Held.{Held, Helds, and_more, held, held_row, held_text, no_more}
 use Rattle.json_pieces.specs.declared.node.Row.{Row}
 use Rattle.json_pieces.specs.declared.seams.Seam.{Seam}
 
@@ -36,15 +35,17 @@ parts_of [] (t ∷ ts) = torn
 parts_of (s ∷ ss) [] = torn
 parts_of (s ∷ ss) (t ∷ ts) = part s t (parts_of ss ts)
 
-abbrev pub view_step : Node-F Tree Tree → Tree
-view_step (Node-F.Closed s) = shut (text_bytes s)
-view_step (Node-F.Open b) = b.value
+abbrev mutual
+  pub tree_of : Held → Tree
+  tree_of (held_text s) = shut (text_bytes s)
+  tree_of (held_row g ts) = wide g.named g.length (text_bytes g.hollow) (parts_of g.seams (trees_of ts))
 
-abbrev pub row_step : Row-F Tree Tree → Tree
-row_step r = wide r.named r.length (text_bytes r.hollow) (parts_of (items_of r.seams.all) (items_of r.values))
+  pub trees_of : Helds → List Tree
+  trees_of no_more = []
+  trees_of (and_more t ts) = tree_of t ∷ trees_of ts
 
 abbrev pub view : Node → Tree
-view = fold-Node Tree Tree view_step row_step
+view n = tree_of (held n)
 
 abbrev pub row_parts : Row → Parts
 row_parts r = parts_of (items_of r.seams.all) (map view (items_of r.values))

@@ -4,8 +4,8 @@ use Rattle.std.specs.List.{insert}
 use Rattle.long_vec.specs.Items.{items_of}
 use Rattle.json_pieces.specs.Exchanges.{HasTrail, HasWhitespace, with_trail, with_whitespace}
 use Rattle.json_pieces.specs.Lengths.{seam_length}
-use Rattle.json_pieces.specs.Nodes.{text_bytes}
-use Rattle.json_pieces.specs.declared.node.Node.TheVariants.{Closed}
+use Rattle.json_pieces.specs.Nodes.{tree_text, view}
+use Rattle.json_pieces.specs.declared.node.Node.{Node}
 use Rattle.json_pieces.specs.declared.node.Row.{Row}
 use Rattle.json_pieces.specs.declared.row.Slot.{Slot}
 use Rattle.json_pieces.specs.declared.row.Slot.TheVariants.{Hollow, Whitespace, Trail}
@@ -30,11 +30,11 @@ AreSwapped (Whitespace n) s hollow olds t hollow2 news = (t ≡ with_whitespace 
 AreSwapped (Trail n) s hollow olds t hollow2 news = (t ≡ with_trail t.trail s) × (hollow2 ≡ hollow) × HasTrail olds n s.trail t.trail news
 
 -- the row new is old with the part given, value at this number, and its whitespace from the slot
-pub record IsPut (slot : Slot) (number : ℕ) (old : Row) (given : Seam) (value : Text) (new : Row) : Type 0 where
+pub record IsPut (slot : Slot) (number : ℕ) (old : Row) (given : Seam) (value : Node) (new : Row) : Type 0 where
   pub seam : Seam
   pub seams : List Seam
   pub swapped : AreSwapped slot given old.hollow (items_of old.seams.all) seam new.hollow seams
   pub seams_are : items_of new.seams.all ≡ insert seams number seam
-  pub values_are : items_of new.values ≡ insert (items_of old.values) number (Closed value)
+  pub values_are : items_of new.values ≡ insert (items_of old.values) number value
   pub named : new.named ≡ old.named
-  pub grown : new.length ≡ old.length + (seam_length given + length (text_bytes value) + commas_of slot)
+  pub grown : new.length ≡ old.length + (seam_length given + length (tree_text (view value)) + commas_of slot)

@@ -15,8 +15,11 @@
 //! ```
 #![tactic(auto)]
 
+mod back;
 mod edit;
 mod index;
+mod lent;
+mod log;
 mod means;
 mod node;
 mod opening;
@@ -24,6 +27,9 @@ mod pieces;
 mod row;
 mod seams;
 mod shape;
+mod taken;
 mod text;
+mod work;
 
 pub use pieces::Pieces;
+pub use taken::Taken;

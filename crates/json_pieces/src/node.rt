@@ -170,3 +170,16 @@ pub(crate) fn written(alloc: Global, node: &Node<'_>) -> Result<String, AllocErr
     write(node, &mut out)?;
     Ok(out)
 }
+
+impl<'a> Node<'a> {
+    /// The value's text, in one string.
+    pub(crate) fn into_text(self, alloc: Global) -> Result<String, AllocError>
+        requires { IsSound (view self) }
+        ensures { IfOk result (λ text. string_bytes text ≡ tree_text (view self.entry)) }
+    {
+        match self {
+            Node::Closed(Text::Made(text)) => Ok(text),
+            node => written(alloc, &node),
+        }
+    }
+}

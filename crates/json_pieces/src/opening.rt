@@ -3,6 +3,10 @@
 ghost use Rattle.std.specs.Prelude.{◌≡◌, IfOk, MatchOption, OnOk, List, length, ℕ};
 ghost use Rattle.json.specs.Json.{Json};
 ghost use Rattle.json_pieces.specs.Nodes.{IsOpened, IsRowOf, IsSound, IsWhole, piece_with, row_view, text_bytes, tree_text, view};
+ghost use Rattle.json_pieces.specs.Finer.{IsOpenedFrom};
+ghost use Rattle.json_pieces.specs.Held.{held, row_held};
+ghost use Rattle.json_pieces.specs.declared.node.Node.TheVariants.{Closed};
+ghost use Rattle.json_pieces.specs.declared.text.Text.{Text};
 ghost use Rattle.json_text.specs.Cuts.{piece_of};
 ghost use Rattle.json_text.specs.Less.{IsLeaf};
 ghost use Rattle.json_text.specs.Listing.{IsTextOf};
@@ -27,14 +31,14 @@ fn row_of<'a>(alloc: Global, text: &'a str, named: bool) -> Result<Row<'a>, Allo
     let mut from = 1;
     while let Some(cut) = cut_at(text, from, named) {
         seams.push(seam_of(cut))?;
-        values.push(Node::Closed(Text::Kept(cut.value)))?;
+        values.push(Node::Closed(Text::kept(cut.value)))?;
         let Some(next) = cut.next else {
-            return Ok(row_with(text.len(), named, Text::Kept(""), (seams, values)));
+            return Ok(row_with(text.len(), named, Text::Empty, (seams, values)));
         };
         from = next;
     }
     let hollow = whitespace_at(text, from);
-    Ok(row_with(text.len(), named, Text::Kept(hollow), (seams, values)))
+    Ok(row_with(text.len(), named, Text::kept(hollow), (seams, values)))
 }
 
 /// What stands around a value in its text.
@@ -42,10 +46,10 @@ fn seam_of(cut: Cut<'_>) -> Seam<'_>
     ensures { piece_with result cut.entry.value.now ≡ piece_of cut.entry }
 {
     Seam {
-        whitespace: Text::Kept(cut.whitespace),
-        name: Text::Kept(cut.name),
-        colons: Text::Kept(cut.colons),
-        trail: Text::Kept(cut.trail),
+        whitespace: Text::kept(cut.whitespace),
+        name: Text::kept(cut.name),
+        colons: Text::kept(cut.colons),
+        trail: Text::kept(cut.trail),
     }
 }
 
@@ -122,7 +126,8 @@ fn row_for<'a>(alloc: Global, node: &Node<'a>) -> Result<Option<Row<'a>>, AllocE
 {
     match node {
         Node::Open(_) => Ok(None),
-        Node::Closed(Text::Kept(text)) => opened(alloc, text),
+        Node::Closed(Text::Empty) => opened(alloc, ""),
+        Node::Closed(Text::Kept(text)) => opened(alloc, text.as_str()),
         Node::Closed(Text::Made(text)) => match opened(alloc, text.as_str())? {
             Some(row) => Ok(Some(owned(alloc, &row)?)),
             None => Ok(None),
@@ -132,10 +137,24 @@ fn row_for<'a>(alloc: Global, node: &Node<'a>) -> Result<Option<Row<'a>>, AllocE
 
 /// Counts a question for a member.
 fn ask(alloc: Global, row: &mut Row<'_>) -> Result<(), AllocError>
-    ensures { row_view row.new ≡ row_view row.old }
+    ensures view { row_view row.new ≡ row_view row.old }
+    ensures held { row_held row.new ≡ row_held row.old }
 {
     if row.named {
         row.seams.ask(alloc)?;
+    }
+    Ok(())
+}
+
+/// Opens a value that is closed, if it is an object or an array.
+fn open_closed(alloc: Global, node: &mut Node<'_>) -> Result<(), AllocError>
+    requires whole { IsWhole (view node.old) }
+    requires closed { (s : Text) × (node.old ≡ Closed s) }
+    ensures opened { OnOk result (IsOpened (view node.new)) }
+    ensures finer { IsOpenedFrom (held node.old) (held node.new) }
+{
+    if let Some(row) = row_for(alloc, node)? {
+        *node = Node::Open(Box::new(alloc, row)?);
     }
     Ok(())
 }
@@ -147,12 +166,10 @@ pub(crate) fn open(alloc: Global, node: &mut Node<'_>) -> Result<(), AllocError>
     ensures whole { IsWhole (view node.new) }
     ensures text { tree_text (view node.new) ≡ tree_text (view node.old) }
     ensures opened { OnOk result (IsOpened (view node.new)) }
+    ensures finer { IsOpenedFrom (held node.old) (held node.new) }
 {
-    if let Node::Open(row) = node {
-        return ask(alloc, row);
+    match node {
+        Node::Open(row) => ask(alloc, row),
+        Node::Closed(_) => open_closed(alloc, node),
     }
-    if let Some(row) = row_for(alloc, node)? {
-        *node = Node::Open(Box::new(alloc, row)?);
-    }
-    Ok(())
 }

@@ -1,26 +1,32 @@
 //! A member or an element found in a row, taken out of it or put into it.
 
-ghost use Rattle.std.specs.Prelude.{◌≡◌, ◌<◌, ◌≤◌, ◌+◌, ◌^◌, [], false, length, List, ℕ, true, Some, None, IfNone, IfOk, IfSome, MatchOption, OnErr, OnOk};
+ghost use Rattle.std.specs.Prelude.{◌≡◌, ◌<◌, ◌≤◌, ◌+◌, ◌^◌, ◌∷◌, [], false, is_some, length, List, slice_index_or, true, Some, None, IfNone, IfOk, IfSome, MatchOption, OnErr, OnOk};
 ghost use Rattle.jsonptr.specs.Places.{place_of};
 ghost use Rattle.json.specs.Json.{Json};
+ghost use Rattle.json_pieces.specs.Backs.{IsBack, IsInRow, Moves, step_of};
+ghost use Rattle.json_pieces.specs.Finer.{IsOpenedFrom};
+ghost use Rattle.json_pieces.specs.Held.{row_held};
+ghost use Rattle.json_pieces.specs.Logged.{IsStep, IsStepped};
+ghost use Rattle.json_pieces.specs.declared.node.Node.{Node};
 ghost use Rattle.json_pieces.specs.Edits.{PutsIn, TakesOut};
-ghost use Rattle.json_pieces.specs.Nodes.{IsSound, row_pieces, row_view, text_bytes, tree_text};
+ghost use Rattle.json_pieces.specs.Nodes.{IsSound, IsWhole, row_pieces, row_view, text_bytes, tree_text, view};
 ghost use Rattle.json_pieces.specs.Lengths.{seam_length};
 ghost use Rattle.json_pieces.specs.Slots.{AreSwapped, IsPut, IsSlotOf, commas_of};
 ghost use Rattle.json_pieces.specs.PieceLists.{element_pushed, element_put, member_pushed, taken, with_value};
 ghost use Rattle.json.specs.Print.{quoted};
-ghost use Rattle.json_text.specs.Listing.{IsTextOf};
 ghost use Rattle.json_lexemes.specs.Spelled.{Says};
 ghost use Rattle.json_text.specs.Cuts.{AllSuit};
 ghost use Rattle.json_text.specs.Less.{IsNumberOf};
-ghost use Rattle.json_text.specs.Pointed.{child};
+ghost use Rattle.json_text.specs.Pointed.{child, IsWrittenAt};
 ghost use Rattle.json_text.specs.Rows.{Child, tree_in};
 ghost use Rattle.long_vec.specs.Items.{capacity_of, items_of};
 
+use crate::back::{Back, back_in_row};
 use crate::means::{Means, sum};
 use crate::node::{Node, Row};
 use crate::seams::Seam;
 use crate::text::Text;
+use crate::work::{Work, copied, moved};
 use json_text::quoted;
 use jsonptr::index::Index;
 use std::alloc::AllocError;
@@ -64,8 +70,9 @@ impl<'a> Seam<'a> {
     }
 }
 
-/// Takes out one that is not the last: its whitespace stays, before the next one.
-fn take_before(row: &mut Row<'_>, number: usize, name: &str)
+/// Takes out one that is not the last: its whitespace stays, before the next one. What takes that back
+/// has the value.
+fn take_before<'a>(row: &mut Row<'a>, number: usize, name: &str) -> Back<'a>
     requires sound { IsSound (row_view row.old) }
     requires within { number + 1 < length (items_of row.old.values) }
     ensures named { row.new.named ≡ row.old.named }
@@ -74,16 +81,20 @@ fn take_before(row: &mut Row<'_>, number: usize, name: &str)
     ensures some { taken number (row_pieces row.old) ≡ [] → text_bytes row.new.hollow ≡ [] }
     ensures sound { IsSound (row_view row.new) }
     ensures shorter { row.new.length ≤ row.old.length }
+    ensures value { (v : Node) × Moves result v × (v ≡ slice_index_or (items_of row.old.values) number v) }
+    ensures back { IsBack (step_of result) (row_held row.new) (row_held row.old) }
+    ensures inner { IsInRow (step_of result) }
 {
     let length = row.length;
     let mut seam = row.seams.remove(number, name);
     let value = row.values.remove(number);
     row.seams.swap_whitespace(number, &mut seam.whitespace);
     row.length = length - (seam.len() + value.len() + 1);
+    Back::In(number, seam, value, Slot::Whitespace(number), length)
 }
 
 /// Takes out the last of several: the whitespace behind it stays, behind the one before.
-fn take_last(row: &mut Row<'_>, number: usize, name: &str)
+fn take_last<'a>(row: &mut Row<'a>, number: usize, name: &str) -> Back<'a>
     requires sound { IsSound (row_view row.old) }
     requires first { 0 < number }
     requires last { number + 1 ≡ length (items_of row.old.values) }
@@ -93,16 +104,20 @@ fn take_last(row: &mut Row<'_>, number: usize, name: &str)
     ensures some { taken number (row_pieces row.old) ≡ [] → text_bytes row.new.hollow ≡ [] }
     ensures sound { IsSound (row_view row.new) }
     ensures shorter { row.new.length ≤ row.old.length }
+    ensures value { (v : Node) × Moves result v × (v ≡ slice_index_or (items_of row.old.values) number v) }
+    ensures back { IsBack (step_of result) (row_held row.new) (row_held row.old) }
+    ensures inner { IsInRow (step_of result) }
 {
     let length = row.length;
     let mut seam = row.seams.remove(number, name);
     let value = row.values.remove(number);
     row.seams.swap_trail(number - 1, &mut seam.trail);
     row.length = length - (seam.len() + value.len() + 1);
+    Back::In(number, seam, value, Slot::Trail(number - 1), length)
 }
 
 /// Takes out the only one.
-fn take_alone(row: &mut Row<'_>, name: &str)
+fn take_alone<'a>(row: &mut Row<'a>, name: &str) -> Back<'a>
     requires sound { IsSound (row_view row.old) }
     requires alone { length (items_of row.old.values) ≡ 1 }
     ensures named { row.new.named ≡ row.old.named }
@@ -111,16 +126,21 @@ fn take_alone(row: &mut Row<'_>, name: &str)
     ensures some { taken 0 (row_pieces row.old) ≡ [] → text_bytes row.new.hollow ≡ [] }
     ensures sound { IsSound (row_view row.new) }
     ensures shorter { row.new.length ≤ row.old.length }
+    ensures value { (v : Node) × Moves result v × (v ≡ slice_index_or (items_of row.old.values) 0 v) }
+    ensures back { IsBack (step_of result) (row_held row.new) (row_held row.old) }
+    ensures inner { IsInRow (step_of result) }
 {
-    row.seams.remove(0, name);
-    row.values.remove(0);
-    row.hollow = Text::Kept("");
+    let seam = row.seams.remove(0, name);
+    let value = row.values.remove(0);
+    let hollow = mem::replace(&mut row.hollow, Text::Empty);
+    let length = row.length;
     row.length = 2;
+    Back::Alone(seam, value, hollow, length)
 }
 
 /// Takes out the member or element of this number, the last of this name. Its whitespace stays before the
 /// next one; of the last one the whitespace behind it stays, behind the one before.
-fn take_part(row: &mut Row<'_>, number: usize, name: &str)
+fn take_part<'a>(row: &mut Row<'a>, number: usize, name: &str) -> Back<'a>
     requires sound { IsSound (row_view row.old) }
     requires within { number < length (items_of row.old.values) }
     ensures named { row.new.named ≡ row.old.named }
@@ -129,59 +149,84 @@ fn take_part(row: &mut Row<'_>, number: usize, name: &str)
     ensures some { taken number (row_pieces row.old) ≡ [] → text_bytes row.new.hollow ≡ [] }
     ensures sound { IsSound (row_view row.new) }
     ensures shorter { row.new.length ≤ row.old.length }
+    ensures value { (v : Node) × Moves result v × (v ≡ slice_index_or (items_of row.old.values) number v) }
+    ensures back { IsBack (step_of result) (row_held row.new) (row_held row.old) }
+    ensures inner { IsInRow (step_of result) }
 {
     if number < row.count() - 1 {
-        take_before(row, number, name);
+        take_before(row, number, name)
     } else if number > 0 {
-        take_last(row, number, name);
+        take_last(row, number, name)
     } else {
-        take_alone(row, name);
+        take_alone(row, name)
     }
 }
 
-/// Takes out all that a token names.
-pub(crate) fn take(row: &mut Row<'_>, name: &str) -> bool
-    requires { IsSound (row_view row.old) }
+/// Takes out all that a token names, and answers the value to which it leads: of several members of one
+/// name the last one's. That is the value itself, or a copy where it is kept for the way back.
+pub(crate) fn take<'a>(
+    work: &mut Work<'a>,
+    row: &mut Row<'a>,
+    name: &str,
+) -> Result<Option<Node<'a>>, AllocError>
+    requires sound { IsSound (row_view row.old) }
+    requires steps { work.old.steps.items ≡ [] }
     ensures sound { IsSound (row_view row.new) }
     ensures shorter { row.new.length ≤ row.old.length }
-    ensures taken { (j : Json) → Says (tree_text (row_view row.old)) j
-        → TakesOut (tree_text (row_view row.old)) j name.now (tree_text (row_view row.new)) result }
+    ensures unchanged { OnErr result (row_view row.new ≡ row_view row.old) }
+    ensures taken { IfOk result (λ found. (j : Json) → Says (tree_text (row_view row.old)) j
+        → TakesOut (tree_text (row_view row.old)) j name.now (tree_text (row_view row.new)) (is_some found)) }
+    ensures value { IfOk result (λ found. IfSome found (λ v. IsSound (view v))) }
+    ensures written { IfOk result (λ found. IfSome found (λ v. (j : Json) → Says (tree_text (row_view row.old)) j
+        → IsWrittenAt (tree_text (row_view row.old)) j (name.now ∷ []) (tree_text (view v)))) }
+    ensures led { work.old.logged ≡ true → IsStepped work.new.steps.items (row_held row.old) (row_held row.new) }
+    ensures place { work.new.place ≡ work.old.place }
 {
     let Some(number) = number_of(row, name) else {
-        return false;
+        return Ok(None);
     };
-    take_part(row, number, name);
+    let copy = copied(work, row.values.at(number))?;
+    work.ready()?;
+    let step = take_part(row, number, name);
+    let value = moved(work, step, copy);
     if !row.named {
-        return true;
+        return Ok(Some(value));
     }
     while let Some(number) = number_of(row, name) {
-        take_part(row, number, name);
+        if work.ready().is_err() {
+            back_in_row(row, &mut work.steps);
+            return Err(AllocError);
+        }
+        let step = take_part(row, number, name);
+        work.keep(step);
     }
-    true
+    Ok(Some(value))
 }
 
 /// Puts a value in place of that of this number.
-pub(crate) fn put_value(
+fn put_value<'a>(
     means: Means,
-    row: &mut Row<'_>,
+    row: &mut Row<'a>,
     number: usize,
-    value: &str,
-) -> Result<(), AllocError>
+    value: Node<'a>,
+) -> Result<Back<'a>, AllocError>
     requires sound { IsSound (row_view row.old) }
     requires within { number < length (items_of row.old.values) }
-    requires value { (w : Json) × IsTextOf value.now w }
+    requires value { IsWhole (view value) }
     ensures named { OnOk result (row.new.named ≡ row.old.named) }
-    ensures pieces { OnOk result (row_pieces row.new ≡ with_value number value.now (row_pieces row.old)) }
+    ensures pieces { OnOk result (row_pieces row.new ≡ with_value number (tree_text (view value.entry)) (row_pieces row.old)) }
     ensures hollow { OnOk result (row.new.hollow ≡ row.old.hollow) }
     ensures sound { OnOk result (IsSound (row_view row.new)) }
     ensures grown { row.new.length ≤ row.old.length + means.room }
     ensures unchanged { OnErr result (row_view row.new ≡ row_view row.old) }
+    ensures back { IfOk result (λ step. IsStep step (row_held row.old) (row_held row.new)) }
+    ensures opened { OnErr result (IsOpenedFrom (row_held row.old) (row_held row.new)) }
 {
     let length = means.resized(row.length, row.values.at(number).len(), value.len())?;
-    let made = Text::made(means.alloc, value)?;
-    row.values.exchange(number, Node::Closed(made));
+    let old = row.values.exchange(number, value);
+    let before = row.length;
     row.length = length;
-    Ok(())
+    Ok(Back::Value(number, old, before))
 }
 
 /// How many bytes a part and some commas have, or no memory.
@@ -220,13 +265,14 @@ impl Slot {
 }
 
 /// Exchanges the whitespace in the slot for that of the seam.
-fn swap_at<'a>(row: &mut Row<'a>, slot: Slot, seam: &mut Seam<'a>)
+pub(crate) fn swap_at<'a>(row: &mut Row<'a>, slot: Slot, seam: &mut Seam<'a>)
     requires { IsSlotOf slot (length (items_of row.old.seams.all)) }
     ensures swapped { AreSwapped slot seam.old row.old.hollow (items_of row.old.seams.all) seam.new row.new.hollow (items_of row.new.seams.all) }
     ensures named { row.new.named ≡ row.old.named }
     ensures length { row.new.length ≡ row.old.length }
     ensures values { row.new.values ≡ row.old.values }
     ensures room { capacity_of row.new.seams.all ≡ capacity_of row.old.seams.all }
+    ensures len { length (items_of row.new.seams.all) ≡ length (items_of row.old.seams.all) }
 {
     match slot {
         Slot::Hollow => mem::swap(&mut row.hollow, &mut seam.trail),
@@ -240,26 +286,30 @@ fn put_part<'a>(
     means: Means,
     row: &mut Row<'a>,
     number: usize,
-    part: (Seam<'a>, Text<'a>),
+    part: (Seam<'a>, Node<'a>),
     slot: Slot,
-) -> Result<(), AllocError>
+) -> Result<Back<'a>, AllocError>
     requires seams { number ≤ length (items_of row.old.seams.all) }
     requires values { number ≤ length (items_of row.old.values) }
     requires slot { IsSlotOf slot (length (items_of row.old.seams.all)) }
+    requires value { IsSound (view part.1) }
     ensures put { OnOk result (IsPut slot number row.old part.entry.0 part.entry.1 row.new) }
     ensures grown { row.new.length ≤ row.old.length + means.room }
     ensures unchanged { OnErr result (row_view row.new ≡ row_view row.old) }
+    ensures back { IfOk result (λ step. IsStep step (row_held row.old) (row_held row.new)) }
+    ensures opened { OnErr result (IsOpenedFrom (row_held row.old) (row_held row.new)) }
 {
     let (mut seam, value) = part;
+    let before = row.length;
     let more = part_length(&seam, value.len(), slot.commas())?;
-    let length = means.resized(row.length, 0, more)?;
+    let length = means.resized(before, 0, more)?;
     row.values.make_room(number)?;
     let index = row.seams.ready(number, &seam)?;
     swap_at(row, slot, &mut seam);
     row.seams.put(number, seam, index);
-    row.values.put(number, Node::Closed(value), usize::MAX);
+    row.values.put(number, value, usize::MAX);
     row.length = length;
-    Ok(())
+    Ok(Back::Out(number, slot, before))
 }
 
 /// A seam of an element.
@@ -271,9 +321,9 @@ fn around<'a>(whitespace: Text<'a>) -> Seam<'a>
 {
     Seam {
         whitespace,
-        name: Text::Kept(""),
-        colons: Text::Kept(""),
-        trail: Text::Kept(""),
+        name: Text::Empty,
+        colons: Text::Empty,
+        trail: Text::Empty,
     }
 }
 
@@ -288,7 +338,7 @@ fn labelled<'a>(whitespace: Text<'a>, name: Text<'a>, colons: Text<'a>) -> Seam<
         whitespace,
         name,
         colons,
-        trail: Text::Kept(""),
+        trail: Text::Empty,
     }
 }
 
@@ -297,20 +347,22 @@ fn first_member<'a>(
     means: Means,
     row: &mut Row<'a>,
     name: &str,
-    value: Text<'a>,
-) -> Result<(), AllocError>
+    value: Node<'a>,
+) -> Result<Back<'a>, AllocError>
     requires sound { IsSound (row_view row.old) }
     requires object { row.old.named ≡ true }
     requires empty { length (items_of row.old.values) ≡ 0 }
-    requires value { (w : Json) × IsTextOf (text_bytes value) w }
+    requires value { IsWhole (view value) }
     ensures named { OnOk result (row.new.named ≡ row.old.named) }
-    ensures pieces { OnOk result (row_pieces row.new ≡ member_pushed (text_bytes row.old.hollow) (quoted name.now) (text_bytes value.entry) (row_pieces row.old)) }
+    ensures pieces { OnOk result (row_pieces row.new ≡ member_pushed (text_bytes row.old.hollow) (quoted name.now) (tree_text (view value.entry)) (row_pieces row.old)) }
     ensures sound { OnOk result (IsSound (row_view row.new)) }
     ensures grown { row.new.length ≤ row.old.length + means.room }
     ensures unchanged { OnErr result (row_view row.new ≡ row_view row.old) }
+    ensures back { IfOk result (λ step. IsStep step (row_held row.old) (row_held row.new)) }
+    ensures opened { OnErr result (IsOpenedFrom (row_held row.old) (row_held row.new)) }
 {
     let name = Text::Made(quoted(means.alloc, name)?);
-    let seam = labelled(Text::Kept(""), name, Text::Kept(":"));
+    let seam = labelled(Text::Empty, name, Text::kept(":"));
     put_part(means, row, 0, (seam, value), Slot::Hollow)
 }
 
@@ -319,17 +371,19 @@ fn next_member<'a>(
     means: Means,
     row: &mut Row<'a>,
     name: &str,
-    value: Text<'a>,
-) -> Result<(), AllocError>
+    value: Node<'a>,
+) -> Result<Back<'a>, AllocError>
     requires sound { IsSound (row_view row.old) }
     requires object { row.old.named ≡ true }
     requires some { 0 < length (items_of row.old.values) }
-    requires value { (w : Json) × IsTextOf (text_bytes value) w }
+    requires value { IsWhole (view value) }
     ensures named { OnOk result (row.new.named ≡ row.old.named) }
-    ensures pieces { OnOk result (row_pieces row.new ≡ member_pushed (text_bytes row.old.hollow) (quoted name.now) (text_bytes value.entry) (row_pieces row.old)) }
+    ensures pieces { OnOk result (row_pieces row.new ≡ member_pushed (text_bytes row.old.hollow) (quoted name.now) (tree_text (view value.entry)) (row_pieces row.old)) }
     ensures sound { OnOk result (IsSound (row_view row.new)) }
     ensures grown { row.new.length ≤ row.old.length + means.room }
     ensures unchanged { OnErr result (row_view row.new ≡ row_view row.old) }
+    ensures back { IfOk result (λ step. IsStep step (row_held row.old) (row_held row.new)) }
+    ensures opened { OnErr result (IsOpenedFrom (row_held row.old) (row_held row.new)) }
 {
     let count = row.count();
     let last = count - 1;
@@ -346,32 +400,44 @@ fn next_member<'a>(
 }
 
 /// Puts an element into an empty row.
-fn first_element<'a>(means: Means, row: &mut Row<'a>, value: Text<'a>) -> Result<(), AllocError>
+fn first_element<'a>(
+    means: Means,
+    row: &mut Row<'a>,
+    value: Node<'a>,
+) -> Result<Back<'a>, AllocError>
     requires sound { IsSound (row_view row.old) }
     requires array { row.old.named ≡ false }
     requires empty { length (items_of row.old.values) ≡ 0 }
-    requires value { (w : Json) × IsTextOf (text_bytes value) w }
+    requires value { IsWhole (view value) }
     ensures named { OnOk result (row.new.named ≡ row.old.named) }
-    ensures pieces { OnOk result (row_pieces row.new ≡ element_pushed (text_bytes row.old.hollow) (text_bytes value.entry) (row_pieces row.old)) }
+    ensures pieces { OnOk result (row_pieces row.new ≡ element_pushed (text_bytes row.old.hollow) (tree_text (view value.entry)) (row_pieces row.old)) }
     ensures sound { OnOk result (IsSound (row_view row.new)) }
     ensures grown { row.new.length ≤ row.old.length + means.room }
     ensures unchanged { OnErr result (row_view row.new ≡ row_view row.old) }
+    ensures back { IfOk result (λ step. IsStep step (row_held row.old) (row_held row.new)) }
+    ensures opened { OnErr result (IsOpenedFrom (row_held row.old) (row_held row.new)) }
 {
-    let seam = around(Text::Kept(""));
+    let seam = around(Text::Empty);
     put_part(means, row, 0, (seam, value), Slot::Hollow)
 }
 
 /// Puts an element behind the last one.
-fn next_element<'a>(means: Means, row: &mut Row<'a>, value: Text<'a>) -> Result<(), AllocError>
+fn next_element<'a>(
+    means: Means,
+    row: &mut Row<'a>,
+    value: Node<'a>,
+) -> Result<Back<'a>, AllocError>
     requires sound { IsSound (row_view row.old) }
     requires array { row.old.named ≡ false }
     requires some { 0 < length (items_of row.old.values) }
-    requires value { (w : Json) × IsTextOf (text_bytes value) w }
+    requires value { IsWhole (view value) }
     ensures named { OnOk result (row.new.named ≡ row.old.named) }
-    ensures pieces { OnOk result (row_pieces row.new ≡ element_pushed (text_bytes row.old.hollow) (text_bytes value.entry) (row_pieces row.old)) }
+    ensures pieces { OnOk result (row_pieces row.new ≡ element_pushed (text_bytes row.old.hollow) (tree_text (view value.entry)) (row_pieces row.old)) }
     ensures sound { OnOk result (IsSound (row_view row.new)) }
     ensures grown { row.new.length ≤ row.old.length + means.room }
     ensures unchanged { OnErr result (row_view row.new ≡ row_view row.old) }
+    ensures back { IfOk result (λ step. IsStep step (row_held row.old) (row_held row.new)) }
+    ensures opened { OnErr result (IsOpenedFrom (row_held row.old) (row_held row.new)) }
 {
     let count = row.count();
     let last = count - 1;
@@ -402,17 +468,19 @@ fn element_before<'a>(
     means: Means,
     row: &mut Row<'a>,
     number: usize,
-    value: Text<'a>,
-) -> Result<(), AllocError>
+    value: Node<'a>,
+) -> Result<Back<'a>, AllocError>
     requires sound { IsSound (row_view row.old) }
     requires array { row.old.named ≡ false }
     requires within { number < length (items_of row.old.values) }
-    requires value { (w : Json) × IsTextOf (text_bytes value) w }
+    requires value { IsWhole (view value) }
     ensures named { OnOk result (row.new.named ≡ row.old.named) }
-    ensures pieces { OnOk result (row_pieces row.new ≡ element_put number (text_bytes value.entry) (row_pieces row.old)) }
+    ensures pieces { OnOk result (row_pieces row.new ≡ element_put number (tree_text (view value.entry)) (row_pieces row.old)) }
     ensures sound { OnOk result (IsSound (row_view row.new)) }
     ensures grown { row.new.length ≤ row.old.length + means.room }
     ensures unchanged { OnErr result (row_view row.new ≡ row_view row.old) }
+    ensures back { IfOk result (λ step. IsStep step (row_held row.old) (row_held row.new)) }
+    ensures opened { OnErr result (IsOpenedFrom (row_held row.old) (row_held row.new)) }
 {
     let like = like_number(number, row.count());
     let behind = row
@@ -426,82 +494,89 @@ fn element_before<'a>(
 }
 
 /// Puts a value in as a member of this name, in place of that of the last one of this name, or as a new one.
-fn put_member(means: Means, row: &mut Row<'_>, name: &str, value: &str) -> Result<(), AllocError>
+fn put_member<'a>(
+    means: Means,
+    row: &mut Row<'a>,
+    name: &str,
+    value: Node<'a>,
+) -> Result<Back<'a>, AllocError>
     requires sound { IsSound (row_view row.old) }
     requires object { row.old.named ≡ true }
-    requires value { (w : Json) × IsTextOf value.now w }
+    requires value { IsWhole (view value) }
     ensures sound { OnOk result (IsSound (row_view row.new)) }
     ensures grown { row.new.length ≤ row.old.length + means.room }
     ensures unchanged { OnErr result (row_view row.new ≡ row_view row.old) }
+    ensures back { IfOk result (λ step. IsStep step (row_held row.old) (row_held row.new)) }
+    ensures opened { OnErr result (IsOpenedFrom (row_held row.old) (row_held row.new)) }
     ensures put { IfOk result (λ done. (j : Json) → Says (tree_text (row_view row.old)) j
-        → PutsIn (tree_text (row_view row.old)) j name.now value.now
+        → PutsIn (tree_text (row_view row.old)) j name.now (tree_text (view value.entry))
         (tree_text (row_view row.new)) true) }
 {
     if let Some(number) = number_of(row, name) {
-        put_value(means, row, number, value)?;
-        return Ok(());
+        return Ok(put_value(means, row, number, value)?);
     }
-    let value = Text::made(means.alloc, value)?;
     let count = row.count();
     if count == 0 {
-        first_member(means, row, name, value)?;
-        return Ok(());
+        return Ok(first_member(means, row, name, value)?);
     }
-    next_member(means, row, name, value)?;
-    Ok(())
+    Ok(next_member(means, row, name, value)?)
 }
 
 /// Puts a value in as the element at a place, if an array of so many has it.
-fn put_element(means: Means, row: &mut Row<'_>, name: &str, value: &str) -> Result<bool, AllocError>
+fn put_element<'a>(
+    means: Means,
+    row: &mut Row<'a>,
+    name: &str,
+    value: Node<'a>,
+) -> Result<Option<Back<'a>>, AllocError>
     requires sound { IsSound (row_view row.old) }
     requires array { row.old.named ≡ false }
-    requires value { (w : Json) × IsTextOf value.now w }
+    requires value { IsWhole (view value) }
     ensures sound { OnOk result (IsSound (row_view row.new)) }
     ensures grown { row.new.length ≤ row.old.length + means.room }
     ensures unchanged { OnErr result (row_view row.new ≡ row_view row.old) }
-    ensures put { IfOk result (λ done. (j : Json) → Says (tree_text (row_view row.old)) j
-        → PutsIn (tree_text (row_view row.old)) j name.now value.now
-        (tree_text (row_view row.new)) done) }
+    ensures back { IfOk result (λ found. MatchOption found (IsOpenedFrom (row_held row.old) (row_held row.new)) (λ step. IsStep step (row_held row.old) (row_held row.new))) }
+    ensures opened { OnErr result (IsOpenedFrom (row_held row.old) (row_held row.new)) }
+    ensures put { IfOk result (λ found. (j : Json) → Says (tree_text (row_view row.old)) j
+        → PutsIn (tree_text (row_view row.old)) j name.now (tree_text (view value.entry))
+        (tree_text (row_view row.new)) (is_some found)) }
 {
     let count = row.count();
     let Ok(index) = Index::parse(name) else {
-        return Ok(false);
+        return Ok(None);
     };
     let Ok(number) = index.for_len_incl(count) else {
-        return Ok(false);
+        return Ok(None);
     };
-    let value = Text::made(means.alloc, value)?;
     if number < count {
-        element_before(means, row, number, value)?;
-        return Ok(true);
+        return Ok(Some(element_before(means, row, number, value)?));
     }
     if count == 0 {
-        first_element(means, row, value)?;
-        return Ok(true);
+        return Ok(Some(first_element(means, row, value)?));
     }
-    next_element(means, row, value)?;
-    Ok(true)
+    Ok(Some(next_element(means, row, value)?))
 }
 
 /// Puts a value in as what a token names.
-pub(crate) fn put(
+pub(crate) fn put<'a>(
     means: Means,
-    row: &mut Row<'_>,
+    row: &mut Row<'a>,
     name: &str,
-    value: &str,
-) -> Result<bool, AllocError>
+    value: Node<'a>,
+) -> Result<Option<Back<'a>>, AllocError>
     requires sound { IsSound (row_view row.old) }
-    requires value { (w : Json) × IsTextOf value.now w }
+    requires value { IsWhole (view value) }
     ensures sound { OnOk result (IsSound (row_view row.new)) }
     ensures grown { row.new.length ≤ row.old.length + means.room }
     ensures unchanged { OnErr result (row_view row.new ≡ row_view row.old) }
-    ensures put { IfOk result (λ done. (j : Json) → Says (tree_text (row_view row.old)) j
-        → PutsIn (tree_text (row_view row.old)) j name.now value.now
-        (tree_text (row_view row.new)) done) }
+    ensures back { IfOk result (λ found. MatchOption found (IsOpenedFrom (row_held row.old) (row_held row.new)) (λ step. IsStep step (row_held row.old) (row_held row.new))) }
+    ensures opened { OnErr result (IsOpenedFrom (row_held row.old) (row_held row.new)) }
+    ensures put { IfOk result (λ found. (j : Json) → Says (tree_text (row_view row.old)) j
+        → PutsIn (tree_text (row_view row.old)) j name.now (tree_text (view value.entry))
+        (tree_text (row_view row.new)) (is_some found)) }
 {
     if row.named {
-        put_member(means, row, name, value)?;
-        return Ok(true);
+        return Ok(Some(put_member(means, row, name, value)?));
     }
     put_element(means, row, name, value)
 }

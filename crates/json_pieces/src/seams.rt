@@ -43,10 +43,10 @@ impl<'a> Seam<'a> {
     /// One of nothing, for a while in the place of another.
     fn empty() -> Seam<'a> {
         Seam {
-            whitespace: Text::Kept(""),
-            name: Text::Kept(""),
-            colons: Text::Kept(""),
-            trail: Text::Kept(""),
+            whitespace: Text::Empty,
+            name: Text::Empty,
+            colons: Text::Empty,
+            trail: Text::Empty,
         }
     }
 }
@@ -236,6 +236,7 @@ impl<'a> Seams<'a> {
     ) -> Result<Option<NameIndex>, AllocError>
         requires { number ≤ length (items_of self.old.all) }
         ensures items { items_of self.new.all ≡ items_of self.old.all }
+        ensures capacity { capacity_of self.old.all ≤ capacity_of self.new.all }
         ensures room { OnOk result (length (items_of self.new.all) < capacity_of self.new.all) }
         ensures fits { OnOk result (length (items_of self.new.all) + 1 < 2 ^ 64) }
         ensures index { IfOk result (λ index. Agrees (insert (items_of self.old.all) number seam.now) index) }
@@ -256,7 +257,8 @@ impl<'a> Seams<'a> {
         requires room { length (items_of self.old.all) < capacity_of self.old.all }
         requires fits { length (items_of self.old.all) + 1 < 2 ^ 64 }
         requires index { Agrees (insert (items_of self.old.all) number seam) index }
-        ensures { items_of self.new.all ≡ insert (items_of self.old.all) number seam.entry }
+        ensures items { items_of self.new.all ≡ insert (items_of self.old.all) number seam.entry }
+        ensures room { capacity_of self.new.all ≡ capacity_of self.old.all }
     {
         self.all.put(number, seam, usize::MAX);
         self.count += 1;
@@ -269,9 +271,25 @@ impl<'a> Seams<'a> {
         ensures value { result ≡ slice_index_or (items_of self.old.all) number result }
         ensures items { items_of self.new.all ≡ remove (items_of self.old.all) number }
         ensures len { length (items_of self.new.all) + 1 ≡ length (items_of self.old.all) }
+        ensures capacity { capacity_of self.new.all ≡ capacity_of self.old.all }
+        ensures room { length (items_of self.new.all) < capacity_of self.new.all }
+        ensures fits { length (items_of self.new.all) + 1 < 2 ^ 64 }
     {
         let index = mem::replace(&mut self.index, None);
         self.index = index_without(index, name, number);
+        self.count -= 1;
+        self.all.remove(number)
+    }
+
+    /// Takes out the seam of this number, and lets the index go.
+    pub(crate) fn take(&mut self, number: usize) -> Seam<'a>
+        requires { number < length (items_of self.old.all) }
+        ensures value { result ≡ slice_index_or (items_of self.old.all) number result }
+        ensures items { items_of self.new.all ≡ remove (items_of self.old.all) number }
+        ensures len { length (items_of self.new.all) + 1 ≡ length (items_of self.old.all) }
+        ensures room { capacity_of self.new.all ≡ capacity_of self.old.all }
+    {
+        self.index = None;
         self.count -= 1;
         self.all.remove(number)
     }

@@ -3,6 +3,8 @@
 ghost use Rattle.std.specs.Prelude.{◌≡◌, ◌∷◌, IfOk};
 ghost use Rattle.json.specs.Json.{Json};
 ghost use Rattle.json_lexemes.specs.Spelled.{Says};
+ghost use Rattle.json_pieces.specs.Finer.{IsOpenedFrom};
+ghost use Rattle.json_pieces.specs.Held.{held, row_held};
 ghost use Rattle.json_pieces.specs.Looks.{Looks};
 ghost use Rattle.json_pieces.specs.Nodes.{IsSound, IsWhole, row_view, tree_text, view};
 ghost use Rattle.json_text.specs.Listing.{shape_of};
@@ -49,6 +51,7 @@ pub(crate) fn shape_at(
     requires whole { IsWhole (view node.old) }
     ensures whole { IsWhole (view node.new) }
     ensures text { tree_text (view node.new) ≡ tree_text (view node.old) }
+    ensures finer { IsOpenedFrom (held node.old) (held node.new) }
     ensures looks { IfOk result (λ found. (j : Json) → Says (tree_text (view node.old)) j
         → Looks j (tokens_left path.entry) found) }
 {
@@ -72,6 +75,7 @@ fn shape_in(
     requires sound { IsSound (row_view row.old) }
     ensures sound { IsSound (row_view row.new) }
     ensures text { tree_text (row_view row.new) ≡ tree_text (row_view row.old) }
+    ensures finer { IsOpenedFrom (row_held row.old) (row_held row.new) }
     ensures looks { IfOk result (λ found. (j : Json) → Says (tree_text (row_view row.old)) j
         → Looks j (token_of token.entry ∷ tokens_left rest.entry) found) }
 {
@@ -79,7 +83,7 @@ fn shape_in(
     let Some(number) = number_of(row, name.as_str()) else {
         return Ok(None);
     };
-    let mut value = row.values.exchange(number, Node::Closed(Text::Kept("")));
+    let mut value = row.values.exchange(number, Node::Closed(Text::Empty));
     let found = shape_at(alloc, &mut value, rest);
     // Also where memory ran out.
     row.values.exchange(number, value);

@@ -4,13 +4,16 @@ ghost use Rattle.std.specs.Prelude.{◌≡◌, IfOk, length};
 ghost use Rattle.json_pieces.specs.Nodes.{text_bytes};
 ghost use Rattle.json_text.specs.Styled.{colons_like, whitespace_like};
 
+use crate::lent::Lent;
 use json_text::{colons_like, whitespace_like};
 use std::alloc::{AllocError, Global};
 
 /// A stretch of the first text, or one that was made since.
 #[derive(Drop)]
 pub(crate) enum Text<'a> {
-    Kept(&'a str),
+    /// No bytes.
+    Empty,
+    Kept(Lent<'a>),
     Made(String),
 }
 
@@ -19,7 +22,8 @@ impl<'a> Text<'a> {
         ensures { result.now ≡ text_bytes self.now }
     {
         match self {
-            Text::Kept(text) => text,
+            Text::Empty => "",
+            Text::Kept(text) => text.as_str(),
             Text::Made(text) => text.as_str(),
         }
     }
@@ -30,12 +34,19 @@ impl<'a> Text<'a> {
         self.as_str().len()
     }
 
+    /// One of the first text.
+    pub(crate) fn kept(text: &'a str) -> Text<'a>
+        ensures { text_bytes result ≡ text.entry.now }
+    {
+        Text::Kept(Lent::new(text))
+    }
+
     /// One that is made anew.
     pub(crate) fn made(alloc: Global, text: &str) -> Result<Text<'a>, AllocError>
         ensures { IfOk result (λ made. text_bytes made ≡ text.now) }
     {
         if text.is_empty() {
-            return Ok(Text::Kept(""));
+            return Ok(Text::Empty);
         }
         Ok(Text::Made(String::from_str(alloc, text)?))
     }
@@ -45,7 +56,8 @@ impl<'a> Text<'a> {
         ensures { IfOk result (λ copy. text_bytes copy ≡ whitespace_like (text_bytes self.now)) }
     {
         match self {
-            Text::Kept(text) => Ok(Text::Kept(whitespace_like(text))),
+            Text::Empty => Ok(Text::Empty),
+            Text::Kept(text) => Ok(Text::kept(whitespace_like(text.as_str()))),
             Text::Made(text) => Text::made(alloc, whitespace_like(text.as_str())),
         }
     }
@@ -55,7 +67,8 @@ impl<'a> Text<'a> {
         ensures { IfOk result (λ copy. text_bytes copy ≡ colons_like (text_bytes self.now)) }
     {
         match self {
-            Text::Kept(text) => Ok(Text::Kept(colons_like(text))),
+            Text::Empty => Ok(Text::Empty),
+            Text::Kept(text) => Ok(Text::kept(colons_like(text.as_str()))),
             Text::Made(text) => Text::made(alloc, colons_like(text.as_str())),
         }
     }

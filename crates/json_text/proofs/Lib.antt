@@ -9,3 +9,4 @@ pub mod Readable
 pub mod Replacing
 pub mod Said
 pub mod Rows
+pub mod Ways

@@ -10,3 +10,4 @@ pub mod Styled
 pub mod Added
 pub mod Less
 pub mod Replaced
+pub mod Ways

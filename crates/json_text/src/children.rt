@@ -1,38 +1,125 @@
-//! The value that a token names, by its place in a text.
+//! Where tokens lead in a text. Each byte on the way is passed once, however deep it goes.
 
-ghost use Rattle.std.specs.Prelude.{◌≡◌, ◌-◌, [], Some, None, IfSome, MatchOption, take, drop};
+ghost use Rattle.std.specs.Prelude.{◌≡◌, ◌≢◌, ◌≤◌, ◌-◌, ◌++◌, List, [], IfOk, take, drop, length, get_or};
 ghost use Rattle.json.specs.Json.{Json};
-ghost use Rattle.json.specs.Lex.{between};
-ghost use Rattle.json_lexemes.specs.Found.{IsWithin};
-ghost use Rattle.json_lexemes.specs.Places.{left_at, mode_at};
-ghost use Rattle.json_lexemes.specs.Spelled.{Says};
-ghost use Rattle.json_text.specs.Pointed.{child, put_child, IsStretch};
+ghost use Rattle.json.specs.Lex.{Lexeme, between};
+ghost use Rattle.jsonptr.specs.Pointers.{token_of, tokens_left};
+ghost use Rattle.json_lexemes.specs.Found.{IsFront, IsReached, IsWithin};
+ghost use Rattle.json_lexemes.specs.Places.{left_at, mode_at, IsEnd};
+ghost use Rattle.json_lexemes.specs.Spelled.{spelled, Says};
+ghost use Rattle.json_text.specs.Pointed.{IsStretch};
+ghost use Rattle.json_text.specs.Ways.{AreOpen, IsOn, Leads, ReachesElement};
 
-use json_lexemes::{Span, byte_at, element, last_end, member, whitespace_end};
+use json_lexemes::{
+    Next, Span, array_end, byte_at, first_named, last_end, next_named, numbered, value_end,
+    value_from, whitespace_end,
+};
 use jsonptr::index::Index;
+use jsonptr::{Token, Tokens};
+use std::alloc::AllocError;
 
-/// The value that a token names in a text that is JSON.
-pub(crate) fn child(text: &[u8], name: &str) -> Option<Span>
-    ensures child { (j : Json) → Says text.now j → MatchOption result (child name.now j ≡ None)
-        (λ s. (v : Json) × (child name.now j ≡ Some v)
-        × IsStretch (take s.start text.now) (take (s.end - s.start) (drop s.start text.now))
-        (drop s.end text.now) v (λ w. put_child name.now w j)) }
-    ensures within { IfSome result (IsWithin text.now) }
+/// Where tokens lead, and how far the text is passed.
+#[derive(Clone, Copy, Debug, Drop)]
+pub(crate) struct Way {
+    /// The place of the value, where one is.
+    pub found: Option<Span>,
+    /// Behind the value from which they lead, or behind an element in it.
+    pub end: usize,
+    /// How many arrays are still open there.
+    pub arrays: usize,
+}
+
+/// The place behind so many arrays, of which the innermost has an element that ends at `from`.
+fn arrays_end(text: &[u8], from: usize, arrays: usize) -> usize
+    requires within { from ≤ length text.now }
+    requires ends { IsEnd text.now from }
+    ensures bounds { (from ≤ result) × (result ≤ length text.now) }
+    ensures left { (ls : List Lexeme) → AreOpen arrays (left_at text.now from) ls
+        → left_at text.now result ≡ ls }
+    ensures end { IsEnd text.now result }
 {
-    let open = whitespace_end(text, 0);
-    let first = byte_at(text, open);
-    if first == b'{' {
-        return member(text, open + 1, name.as_bytes());
+    let mut end = from;
+    let mut left = arrays;
+    while left > 0 {
+        end = array_end(text, end);
+        left -= 1;
     }
-    if first != b'[' {
-        return None;
+    end
+}
+
+/// The element that a token names in the value that begins at `start`, which is no object.
+fn element(text: &[u8], start: usize, token: Token) -> Next
+    requires front { IsFront text.now start }
+    requires other { get_or text.now start 32 ≢ 123 }
+    ensures reaches { (v : Json) (ls : List Lexeme) → left_at text.now start ≡ spelled v ++ ls
+        → ReachesElement text.now result (token_of token.entry) v ls }
+    ensures place { IsReached text.now start result }
+{
+    if byte_at(text, start) != b'[' {
+        return Next::End(value_end(text, start));
     }
     // The length of a text fits a `usize`, so a place that doesn't has no element.
     let _fits = text.len();
-    match Index::parse(name) {
-        Ok(Index::Num(number)) => element(text, open + 1, number),
-        Ok(Index::Next) => None,
-        Err(_) => None,
+    match token.to_index() {
+        Ok(Index::Num(number)) => numbered(text, start, number),
+        Ok(Index::Next) => Next::End(value_end(text, start)),
+        Err(_) => Next::End(value_end(text, start)),
+    }
+}
+
+/// Where tokens lead from the value that begins at `start`. `name` is there to be written over.
+///
+/// It goes into each member of the name, since the last one counts, and comes back with its end. Arrays
+/// are left open: nothing behind one counts unless an object holds it. It is recursive, no deeper than
+/// the text nests.
+pub(crate) fn follow(
+    text: &[u8],
+    start: usize,
+    tokens: Tokens,
+    name: &mut String,
+) -> Result<Way, AllocError>
+    requires { IsFront text.now start }
+    ensures leads { IfOk result (λ w. (v : Json) (ls : List Lexeme)
+        → left_at text.now start ≡ spelled v ++ ls
+        → Leads text.now w (tokens_left tokens.entry) v ls) }
+    ensures on { IfOk result (IsOn text.now start) }
+{
+    let mut rest = tokens;
+    let Some(token) = rest.next() else {
+        let value = value_from(text, start);
+        let (found, end, arrays) = (Some(value), value.end, 0);
+        return Ok(Way { found, end, arrays });
+    };
+    if byte_at(text, start) != b'{' {
+        return match element(text, start, token) {
+            Next::Value(value) => {
+                let inner = follow(text, value, rest, name)?;
+                let (found, end, arrays) = (inner.found, inner.end, inner.arrays + 1);
+                Ok(Way { found, end, arrays })
+            }
+            Next::End(end) => {
+                let (found, arrays) = (None, 0);
+                Ok(Way { found, end, arrays })
+            }
+        };
+    }
+    token.decode_into(name)?;
+    let mut found = None;
+    let mut next = first_named(text, start + 1, name.as_bytes());
+    'members: loop {
+        match next {
+            Next::Value(value) => {
+                let inner = follow(text, value, rest, name)?;
+                found = inner.found;
+                let end = arrays_end(text, inner.end, inner.arrays);
+                token.decode_into(name)?;
+                next = next_named(text, end, name.as_bytes());
+            }
+            Next::End(end) => {
+                let arrays = 0;
+                return Ok(Way { found, end, arrays });
+            }
+        }
     }
 }
 

@@ -10,14 +10,14 @@ ghost use Rattle.json_lexemes.specs.Found.{IsWithin};
 ghost use Rattle.json_text.specs.Pointed.{tree_at, IsWrittenAt, StandsBetween};
 ghost use Rattle.json_lexemes.specs.Spelled.{IsShallowText, Says};
 
-use crate::children::{child, whole};
+use crate::children::{follow, whole};
 use crate::{CheckedText, TextFault};
-use json_lexemes::Span;
+use json_lexemes::{Span, whitespace_end};
 use jsonptr::Pointer;
 use std::alloc::{AllocError, Global};
 
 /// Whether more than so many objects and arrays of the text are open at once. The text need not be
-/// JSON. No byte is passed over more than twice, nothing is recursive, and no memory is taken.
+/// JSON. No byte is passed over more than three times, nothing is recursive, and no memory is taken.
 ///
 /// ```rust
 /// is_deeper(r#"{"a": [1]}"#, 1)
@@ -38,17 +38,14 @@ pub(crate) fn find(alloc: Global, text: &str, pointer: Pointer) -> Result<Option
         (tokens_of pointer.entry))) }
     ensures within { IfOk result (λ found. IfSome found (IsWithin text.now)) }
 {
-    let mut place = whole(text.as_bytes());
-    let mut name = String::new(alloc);
-    for token in pointer.tokens() {
-        token.decode_into(&mut name)?;
-        let here = &text[place.start..place.end];
-        let Some(inner) = child(here.as_bytes(), name.as_str()) else {
-            return Ok(None);
-        };
-        place = inner.within(place.start);
+    let bytes = text.as_bytes();
+    if pointer.is_root() {
+        return Ok(Some(whole(bytes)));
     }
-    Ok(Some(place))
+    let mut name = String::new(alloc);
+    let start = whitespace_end(bytes, 0);
+    let way = follow(bytes, start, pointer.tokens(), &mut name)?;
+    Ok(way.found)
 }
 
 /// The text of the value where the pointer leads (RFC 6901, section 4), as it stands in `text`, with

@@ -3,7 +3,7 @@
 use crate::places::{found, shape_name};
 use crate::rows::told;
 use crate::{differences, keeps, merges, patches, records};
-use json_pieces::Pieces;
+use json_pieces::{Pieces, Taken};
 use json_text::{
     ChangeFault, CheckedText, TextFault, add, child_texts, is_deeper, remove, replace, string_of,
     value_text,
@@ -21,10 +21,14 @@ pub(crate) fn answer(alloc: Global, call: &str, place: Pointer) -> Result<String
         "is_deeper" => told(alloc, found(alloc, array_in_object().then_some("yes"))),
         "child_texts" => told(alloc, texts_in_object(alloc)),
         "string_of" => told(alloc, name_in_text(alloc)),
-        "patch_text" | "patch_text_within" => patches::shown(alloc, call),
+        "patch_text" | "patch_text_within" | "patch_pieces" => patches::shown(alloc, call),
         "record_text" | "record_text_within" => records::shown(alloc, call),
         "merge_text" | "merge_text_within" => merges::shown(alloc, call),
-        "diff_text" | "merge_diff_text" | "merge_both_text" => differences::shown(alloc, call),
+        "diff_text"
+        | "moving_diff_text"
+        | "guarded_diff_text"
+        | "merge_diff_text"
+        | "merge_both_text" => differences::shown(alloc, call),
         _ => of_checked(alloc, call, place),
     }
 }
@@ -41,6 +45,9 @@ fn of_checked(alloc: Global, call: &str, place: Pointer) -> Result<String, Alloc
         "Pieces::shape" => told(alloc, shape_in_pieces(alloc, place)),
         "Pieces::add" => told(alloc, added_to_pieces(alloc, place)),
         "Pieces::remove" => told(alloc, removed_from_pieces(alloc, place)),
+        "Pieces::take" => told(alloc, moved_in_pieces(alloc, place)),
+        "Pieces::take_back" => told(alloc, taken_back(alloc, place)),
+        "Taken" => told(alloc, text_of_taken(alloc)),
         "Pieces::replace" => told(alloc, replaced_in_pieces(alloc, place)),
         _ => keeps::shown(alloc, call, place),
     }
@@ -138,7 +145,7 @@ fn array_in_pieces(alloc: Global, place: Pointer) -> Result<String, TextFault> {
 
 fn shape_in_pieces(alloc: Global, place: Pointer) -> Result<String, TextFault> {
     let text = CheckedText::new(alloc, r#"{"list": [1.50, 2] }"#)?;
-    let mut pieces = Pieces::new(text);
+    let mut pieces = Pieces::owned(alloc, text)?;
     let shape = pieces.shape(alloc, place)?;
     Ok(String::from_str(alloc, shape_name(shape))?)
 }
@@ -167,6 +174,39 @@ fn added_to_pieces(alloc: Global, place: Pointer) -> Result<String, TextFault> {
     let done = pieces.add(alloc, place, value)?;
     let new = pieces.to_text(alloc)?;
     Ok(left(alloc, done.then_some(new))?)
+}
+
+fn moved_in_pieces(alloc: Global, place: Pointer) -> Result<String, TextFault> {
+    let text = CheckedText::new(alloc, r#"{"list": [1.50, 2] }"#)?;
+    let mut pieces = Pieces::new(text);
+    let Ok(from) = Pointer::parse("/list/0") else {
+        return Ok(left(alloc, None)?);
+    };
+    if let Some(taken) = pieces.take(alloc, from)? {
+        let done = pieces.put(alloc, place, taken)?;
+        let new = pieces.to_text(alloc)?;
+    }
+    let new = pieces.to_text(alloc)?;
+    Ok(left(alloc, Some(new))?)
+}
+
+/// What is changed since a mark is taken back.
+fn taken_back(alloc: Global, place: Pointer) -> Result<String, TextFault> {
+    let text = CheckedText::new(alloc, r#"{"list": [1.50, 2] }"#)?;
+    let mut pieces = Pieces::owned(alloc, text)?;
+    pieces.mark(alloc)?;
+    let done = pieces.remove(alloc, place)?;
+    pieces.take_back();
+    let old = pieces.to_text(alloc)?;
+    pieces.forget();
+    Ok(left(alloc, done.then_some(old))?)
+}
+
+fn text_of_taken(alloc: Global) -> Result<String, TextFault> {
+    let text = CheckedText::new(alloc, " [1.50, 2]\n")?;
+    let taken = Taken::new(alloc, text)?;
+    let value = taken.into_text(alloc)?;
+    Ok(value)
 }
 
 /// What stands there is read and then taken out: both texts, a line each.

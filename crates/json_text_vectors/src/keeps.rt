@@ -169,7 +169,7 @@ fn example_of_inverse(alloc: Global) -> Result<String, KeptFault> {
 
 fn example_of_value(alloc: Global, place: Pointer) -> Result<String, KeptFault> {
     let limits = usual();
-    let kept = KeptText::new(alloc, r#"{"list": [1.50, 2] }"#, limits)?;
+    let mut kept = KeptText::new(alloc, r#"{"list": [1.50, 2] }"#, limits)?;
     let array = kept.value(alloc, place)?;
     // [1.50, 2]
     match array {

@@ -1,7 +1,7 @@
 //! What a row asks for.
 
 use crate::{examples, keeps, merges, patches, pieces, places, records};
-use json_diff_text::{merge_both_text, merge_diff_text};
+use json_diff_text::{guarded_diff_text, merge_both_text, merge_diff_text};
 use json_patch_limits::limits::Limits;
 use json_text::{CheckedText, add, remove, replace};
 use jsonptr::Pointer;
@@ -72,6 +72,8 @@ fn on_two(alloc: Global, call: &str, text: &str, second: &str) -> Result<String,
             yes_or_no(alloc, checked.is_some())
         }
         "diff_text" => told(alloc, json_diff_text::diff_text(alloc, text, second)),
+        "moving_diff_text" => told(alloc, json_diff_text::moving_diff_text(alloc, text, second)),
+        "guarded_diff_text" => told(alloc, guarded_diff_text(alloc, text, second)),
         "is_deeper" => yes_or_no(alloc, json_text::is_deeper(text, number(second))),
         "merge_text" => told(alloc, json_merge_text::merge_text(alloc, text, second)),
         "merge_diff_text" => merges::if_made(alloc, merge_diff_text(alloc, text, second)),

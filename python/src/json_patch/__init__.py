@@ -57,7 +57,7 @@ keeps to Limits, those of `limits` or Limits(). OverLimit tells which operation 
 ...     apply_patch([], [{"op": "copy", "from": "", "path": "/-"}] * 9, limits=Limits(bytes=100))
 ... except OverLimit as error:
 ...     print(error)
-operation 7 at path '/-' is over the limits: it leaves too much
+operation 7 at path '/-' is over the limits: it takes too much
 
 A document is what json.dumps writes of an object, and what comes back is what json.loads reads: new lists and
 dicts, the members in their order, a key 1 as "1". `dumps` and `loads` name other functions, as for Decimals. Numbers

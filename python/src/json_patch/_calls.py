@@ -70,9 +70,9 @@ def fault(status: int, report: Report, path: Optional[str] = None, patch: bytes 
     return error(told, operation=report.operation, kind=kind)
 
 
-def called(call: Callable[..., int], document: bytes, patch: bytes, limits: Limits) -> bytes:
+def called(call: Callable[..., int], document: bytes, patch: bytes, limits: Limits, *flags: int) -> bytes:
     """The text that a call makes of two others, within limits."""
-    given = document, len(document), patch, len(patch), bounds(limits)
+    given = document, len(document), patch, len(patch), bounds(limits), *flags
     return written(lambda *out: call(*given, *out), len(document) + len(patch) + _SPARE, patch)
 
 

@@ -11,7 +11,7 @@ from typing import Any, Callable, Dict, Iterator, List, NoReturn, Optional, Type
 
 from . import _files
 from ._calls import applied, called, expect_patch, merged, recorded
-from ._library import LIBRARY
+from ._library import DIFF_GUARDED, DIFF_MOVES, LIBRARY
 from ._texts import indented
 from ._version import __version__
 from .errors import (
@@ -93,10 +93,15 @@ def _parser() -> argparse.ArgumentParser:
         changing.add_argument("-b", "--backup", action="store_true", help="with -i, keep the old one as DOCUMENT.orig")
         _add_output(changing)
         _add_limits(changing)
+        if name != "merge":
+            changing.add_argument("--limit-operations", type=_operations, metavar="N", help="refuse a patch of more than N operations")
     differing = command("diff", "write the patch that leads from a document to another, [] where they are equal")
     differing.add_argument("document", metavar="FROM", help="the file of the document that the patch is for, or -")
     differing.add_argument("goal", metavar="TO", nargs="?", default="-", help="the file of the one to which it leads, or - (the default)")
-    differing.add_argument("-m", "--merge", action="store_true", help="write a merge patch, {} where they are equal objects; none makes a member null")
+    form = differing.add_mutually_exclusive_group()
+    form.add_argument("-m", "--merge", action="store_true", help="write a merge patch, {} where they are equal objects; none makes a member null")
+    form.add_argument("--moves", action="store_true", help="move what stands elsewhere, where the patch is no longer by it")
+    form.add_argument("--guarded", action="store_true", help="test what is removed or replaced, so that a document is refused that has something else there")
     _add_output(differing)
     _add_levels(differing)
     getting = command("get", "write what stands where a pointer leads in a document")
@@ -136,8 +141,16 @@ def _levels(text: str) -> int:
 
 
 def _bytes(text: str) -> int:
+    return _count(text, "bytes")
+
+
+def _operations(text: str) -> int:
+    return _count(text, "operations")
+
+
+def _count(text: str, of: str) -> int:
     if not _is_number(text):
-        raise argparse.ArgumentTypeError(f"{text!r} is no number of bytes")
+        raise argparse.ArgumentTypeError(f"{text!r} is no number of {of}")
     return int(text)
 
 
@@ -203,7 +216,7 @@ def _line(text: bytes, asked: argparse.Namespace) -> bytes:
 
 def _limits(asked: argparse.Namespace) -> Limits:
     given = vars(asked)
-    return Limits(given.get("limit_depth", MOST_LEVELS), given.get("limit_bytes", MOST_BYTES))
+    return Limits(given.get("limit_depth", MOST_LEVELS), given.get("limit_bytes", MOST_BYTES), given.get("limit_operations"))
 
 
 def _put(text: bytes, asked: argparse.Namespace) -> None:
@@ -243,7 +256,11 @@ def _record(asked: argparse.Namespace) -> None:
 def _diff(asked: argparse.Namespace) -> None:
     text, goal = _read(asked.document), _read(asked.goal)
     with _at_fault(asked.goal, asked.document):
-        made = called(LIBRARY.json_patch_merge_diff if asked.merge else LIBRARY.json_patch_diff, text, goal, _limits(asked))
+        if asked.merge:
+            made = called(LIBRARY.json_patch_merge_diff, text, goal, _limits(asked))
+        else:
+            flags = DIFF_MOVES if asked.moves else DIFF_GUARDED if asked.guarded else 0
+            made = called(LIBRARY.json_patch_diff, text, goal, _limits(asked), flags)
     _show(_line(made, asked))
 
 

@@ -9,7 +9,7 @@ from ._calls import expect_patch, fault, operation_of
 from ._depth import CONTAINERS, is_deeper
 from ._library import OVER, REFUSED, Report
 from ._texts import as_bytes, exact, is_decimal, pointer_path, text_of, value_of
-from .errors import INSIDE_ITSELF, NOWHERE, NO_SOURCE, TEST_FAILED, TOO_DEEP, TOO_MUCH, JsonPointerException
+from .errors import INSIDE_ITSELF, NOWHERE, NO_SOURCE, TEST_FAILED, TOO_DEEP, TOO_MANY, TOO_MUCH, JsonPointerException
 from .limits import Limits
 from .pointer import JsonPointer, is_index
 
@@ -46,6 +46,9 @@ def changed(obj: Any, patch: Any, limits: Limits, dumps: Optional[Dumps] = None,
     """The object itself, changed by a patch within limits. Where the patch makes another document of it that
     it can't hold, it returns that."""
     run, operations = _Run(obj, limits), _operations(patch, dumps, loads)
+    most = limits.operations
+    if most is not None and len(operations) > most:
+        raise _fault(_Refused(TOO_MANY, OVER), most, text_of(patch, dumps))
     made = 0
     try:
         for operation in operations:

@@ -16,7 +16,8 @@ TYPE_CHECKING = False
 if TYPE_CHECKING:
     from typing import Any, Dict, List
 
-OK, REFUSED, NO_DOCUMENT, NO_PATCH, NO_MEMORY, NO_ROOM, CLOSED, NO_POINTER, NOTHING, OVER, BAD_LIMITS, IMPOSSIBLE = range(12)
+OK, REFUSED, NO_DOCUMENT, NO_PATCH, NO_MEMORY, NO_ROOM, CLOSED, NO_POINTER, NOTHING, OVER, BAD_LIMITS, IMPOSSIBLE, BAD_FLAGS = range(13)
+DIFF_MOVES, DIFF_GUARDED = 1, 2
 
 
 class Report(ctypes.Structure):
@@ -40,26 +41,30 @@ class Handle(ctypes.Structure):
 class Bounds(ctypes.Structure):
     """Limits, as the library takes them."""
 
-    _fields_ = [("size", ctypes.c_size_t), ("depth", ctypes.c_size_t), ("bytes", ctypes.c_size_t)]
+    _fields_ = [
+        ("size", ctypes.c_size_t), ("depth", ctypes.c_size_t), ("bytes", ctypes.c_size_t), ("operations", ctypes.c_size_t),
+    ]
 
 
-# nothing takes so many
-_MOST_BYTES: int = ctypes.c_size_t(-1).value
+# nothing takes or has so many
+_MOST: int = ctypes.c_size_t(-1).value
 
 
 def bounds(limits: Limits) -> Bounds:
-    return Bounds(ctypes.sizeof(Bounds), limits.depth, min(limits.bytes, _MOST_BYTES))
+    operations = _MOST if limits.operations is None else min(limits.operations, _MOST)
+    return Bounds(ctypes.sizeof(Bounds), limits.depth, min(limits.bytes, _MOST), operations)
 
 
 _TEXT: List[Any] = [ctypes.c_char_p, ctypes.c_size_t]
 _HANDLE: List[Any] = [ctypes.POINTER(Handle)]
 _BOUNDS: List[Any] = [ctypes.POINTER(Bounds)]
+_FLAGS: List[Any] = [ctypes.c_uint]
 # what each call is handed before its report
 _CALLS: Dict[str, List[Any]] = {
     "apply": [*_TEXT, *_TEXT, *_BOUNDS, *_TEXT],
     "record": [*_TEXT, *_TEXT, *_BOUNDS, *_TEXT, *_TEXT],
     "merge": [*_TEXT, *_TEXT, *_BOUNDS, *_TEXT],
-    "diff": [*_TEXT, *_TEXT, *_BOUNDS, *_TEXT],
+    "diff": [*_TEXT, *_TEXT, *_BOUNDS, *_FLAGS, *_TEXT],
     "merge_diff": [*_TEXT, *_TEXT, *_BOUNDS, *_TEXT],
     "merge_join": [*_TEXT, *_TEXT, *_BOUNDS, *_TEXT],
     "check": _TEXT,

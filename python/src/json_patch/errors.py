@@ -52,8 +52,9 @@ class TooDeep(JsonPatchException, ValueError):
 
 class OverLimit(JsonPatchException):
     """An operation of a patch is over the limits, and nothing is changed: it would put a value too deep
-    (`kind` is TooDeep), or leave too long a text or inverse (TooMuch), or copy too much, with what was
-    copied before. A merge that would leave too long a text has no operation."""
+    (`kind` is TooDeep), or leave too long a text or inverse (TooMuch), or copy or test too much, with
+    what was before, or is the first too many (TooMany). A merge that would leave too long a text has no
+    operation."""
 
 
 class NoMergePatch(JsonPatchException, ValueError):
@@ -107,6 +108,7 @@ KINDS: Dict[int, Tuple[str, Type[_Told]]] = {
     7: ("TooDeep", _PatchTooDeep),
     8: ("TooMuch", OverLimit),
     9: ("UnpairedSurrogate", _NoPatchText),
+    10: ("TooMany", OverLimit),
     11: ("NotAList", InvalidJsonPatch),
     12: ("NotAnObject", InvalidJsonPatch),
     13: ("MissingOp", InvalidJsonPatch),
@@ -122,6 +124,7 @@ KINDS: Dict[int, Tuple[str, Type[_Told]]] = {
 }
 # the kinds of an operation that isn't made
 TEST_FAILED, NO_SOURCE, NOWHERE, INSIDE_ITSELF, TOO_DEEP, TOO_MUCH = range(3, 9)
+TOO_MANY = 10
 # that of an object whose text would be no JSON, which the library isn't handed
 NOT_JSON = 1
 # up to this kind a patch is at fault as a whole, and after it by one of its operations

@@ -4,7 +4,7 @@ from __future__ import annotations
 from ._calls import applied, difference, expect_patch, joined, merged, recorded
 from ._in_place import changed
 from ._depth import shown
-from ._library import LIBRARY, bounds
+from ._library import DIFF_GUARDED, DIFF_MOVES, LIBRARY, bounds
 from ._texts import (
     as_bytes, by_callers_code, document_text, expect_patch_depth, key_of, patch_text, pointer_path, text_of, text_to_check,
     value_of,
@@ -52,18 +52,29 @@ class JsonPatch:
     @classmethod
     def from_diff(
         cls: Type[_Made], src: Any, dst: Any, optimization: bool = True, dumps: Optional[Dumps] = None,
-        pointer_cls: Type[JsonPointer] = JsonPointer, *, loads: Optional[Loads] = None, limits: Limits = DEFAULT,
+        pointer_cls: Type[JsonPointer] = JsonPointer, *, moves: bool = False, guarded: bool = False,
+        loads: Optional[Loads] = None, limits: Limits = DEFAULT,
     ) -> _Made:
         """The patch that leads from one document to another: applied to the one, within the same depth, it
-        leaves the other. It adds, removes and replaces alone, and has no operation exactly where the documents
-        are equal. Both have at most the levels of the limits. `dumps` writes the documents, and `loads` reads
-        the patch. The library compares and writes the paths: `optimization` and `pointer_cls` change nothing.
+        leaves the other. It adds, removes and replaces, with `moves` it moves what stands elsewhere, too, and it
+        has no operation exactly where the documents are equal. Both have at most the levels of the limits. Where
+        it is `guarded`, a test of what is removed or replaced stands before, so that it is refused on a document
+        that has something else there; it has no moves then, and ValueError is raised where both are asked for.
+        `dumps` writes the documents, and `loads` reads the patch. The library compares and writes the paths:
+        `optimization` and `pointer_cls` change nothing.
 
         >>> JsonPatch.from_diff({"a": [1, 2], "b": "long enough"}, {"a": [2], "b": "long enough"})
         JsonPatch([{'op': 'remove', 'path': '/a/0'}])
+        >>> JsonPatch.from_diff({"draft": [1, 2]}, {"title": [1, 2]}, moves=True)
+        JsonPatch([{'from': '/draft', 'op': 'move', 'path': '/title'}])
+        >>> JsonPatch.from_diff([1, "long enough"], ["long enough"], guarded=True)
+        JsonPatch([{'op': 'test', 'path': '/0', 'value': 1}, {'op': 'remove', 'path': '/0'}])
         """
+        if moves and guarded:
+            raise ValueError("a guarded patch has no moves")
+        flags = DIFF_MOVES if moves else DIFF_GUARDED if guarded else 0
         texts = document_text(src, dumps), document_text(dst, dumps)
-        given = texts[0], len(texts[0]), texts[1], len(texts[1]), bounds(limits)
+        given = texts[0], len(texts[0]), texts[1], len(texts[1]), bounds(limits), flags
         made = difference(lambda *out: LIBRARY.json_patch_diff(*given, *out), texts[1])
         return cls._of_library(value_of(made, loads))
 
@@ -195,8 +206,8 @@ def record_patch(
 
 
 def make_patch(
-    src: Any, dst: Any, pointer_cls: Type[JsonPointer] = JsonPointer, *, dumps: Optional[Dumps] = None,
-    loads: Optional[Loads] = None, limits: Limits = DEFAULT,
+    src: Any, dst: Any, pointer_cls: Type[JsonPointer] = JsonPointer, *, moves: bool = False, guarded: bool = False,
+    dumps: Optional[Dumps] = None, loads: Optional[Loads] = None, limits: Limits = DEFAULT,
 ) -> JsonPatch:
     """The JsonPatch that leads from one document to another, as JsonPatch.from_diff makes it.
 
@@ -206,7 +217,9 @@ def make_patch(
     >>> make_patch(src, dst).apply(src) == dst
     True
     """
-    return JsonPatch.from_diff(src, dst, pointer_cls=pointer_cls, dumps=dumps, loads=loads, limits=limits)
+    return JsonPatch.from_diff(
+        src, dst, pointer_cls=pointer_cls, moves=moves, guarded=guarded, dumps=dumps, loads=loads, limits=limits,
+    )
 
 
 def merge_patch(

@@ -33,6 +33,7 @@ fn on_words(alloc: Global, call: &str, words: &[String]) -> Result<String, Fault
         ("Guarded" | "Settings" | "SharedDocument" | "Store", words) => {
             uses::in_turn(alloc, call, words)
         }
+        ("TextEditor", words) => Ok(uses::edited(alloc, words)?),
         (_, []) => on_none(alloc, call),
         (_, [text]) => on_one(alloc, call, text.as_str()),
         (_, [first, second]) => on_two(alloc, call, first.as_str(), second.as_str()),

@@ -1,19 +1,17 @@
 -- What a part leaves that is put into a row with whitespace from a slot.
 use Rattle.std.proofs.Common.{◌≡◌, ℕ, ◌+◌, ◌-◌, ◌<◌, ◌≤◌, true, false, List, [], ◌∷◌, length, get_or, refl, sym, ap, ◌∙◌, subst, arith}
-use Rattle.json.specs.Json.{Json}
 use Rattle.json.specs.Print.{quoted}
 use Rattle.json_text.specs.Cuts.{IsWhitespace}
-use Rattle.json_text.specs.Listing.{IsTextOf}
 use Rattle.json_text.specs.Styled.{colons_like, whitespace_like}
 use Rattle.long_vec.specs.Items.{items_of}
 use Rattle.json_pieces.specs.Lengths.{HasGained, HasLost, seam_length}
-use Rattle.json_pieces.specs.Nodes.{IsSound, piece_with, row_pieces, row_view, text_bytes}
+use Rattle.json_pieces.specs.Nodes.{IsSound, IsWhole, piece_with, row_pieces, row_view, text_bytes, tree_text, view}
 use Rattle.json_pieces.specs.PieceLists.{element_between, element_pushed, element_put, member_like, member_pushed}
 use Rattle.json_pieces.specs.Slots.{IsPut}
+use Rattle.json_pieces.specs.declared.node.Node.{Node}
 use Rattle.json_pieces.specs.declared.node.Row.{Row}
 use Rattle.json_pieces.specs.declared.row.Slot.TheVariants.{Hollow, Whitespace, Trail}
 use Rattle.json_pieces.specs.declared.seams.Seam.{Seam}
-use Rattle.json_pieces.specs.declared.text.Text.{Text}
 use Rattle.json_pieces.proofs.Rows.Lengths.{hollow_fits, its_whitespace_fits, last_trail_fits}
 use Rattle.json_pieces.proofs.Rows.Puts.{IsLike, element_before_kept, element_before_put, first_element_kept, first_element_put, first_member_kept, first_member_put, like_member, next_element_kept, next_element_put, next_member_kept, next_member_put, same_piece, same_seam}
 use Rattle.json_pieces.proofs.Rows.Stands.{whitespace_nil}
@@ -25,7 +23,7 @@ pub record HasTexts (s : Seam) (whitespace name colons : List ℕ) : Type 0 wher
   pub colons_is : text_bytes s.colons ≡ colons
   pub trail_is : text_bytes s.trail ≡ []
 
-module _ (r p : Row) (given : Seam) (v : Text) (sound : IsSound (row_view r)) (value : (w : Json) × IsTextOf (text_bytes v) w) where
+module _ (r p : Row) (given : Seam) (v : Node) (sound : IsSound (row_view r)) (value : IsWhole (view v)) where
   -- ---- in an empty row
 
   module _ (put : IsPut Hollow 0 r given v p) (empty : length (items_of r.values) ≡ 0) where
@@ -41,21 +39,21 @@ module _ (r p : Row) (given : Seam) (v : Text) (sound : IsSound (row_view r)) (v
     long : text_bytes given.trail ≡ [] → seam_length put.seam ≡ seam_length given + length (text_bytes r.hollow)
     long e = omega (arith, ap seam_length put.swapped.0, ap length e)
 
-    pub first_member_pieces : (name : List ℕ) → HasTexts given [] name (58 ∷ []) → row_pieces p ≡ member_pushed (text_bytes r.hollow) name (text_bytes v) (row_pieces r)
+    pub first_member_pieces : (name : List ℕ) → HasTexts given [] name (58 ∷ []) → row_pieces p ≡ member_pushed (text_bytes r.hollow) name (tree_text (view v)) (row_pieces r)
     first_member_pieces name t =
-        first_member_put r.named p.named r.length 0 p.length (text_bytes r.hollow) (text_bytes p.hollow) (items_of r.seams.all) put.seams (items_of p.seams.all) (items_of r.values) (items_of r.values) (items_of p.values) put.seam v name sound empty put.swapped.2 refl put.seams_are put.values_are (alone name (58 ∷ []) t)
+        first_member_put r.named p.named r.length 0 p.length (text_bytes r.hollow) (text_bytes p.hollow) (items_of r.seams.all) put.seams (items_of p.seams.all) (items_of r.values) (items_of r.values) (items_of p.values) put.seam v value.0 name sound empty put.swapped.2 refl put.seams_are put.values_are (alone name (58 ∷ []) t)
 
     pub first_member_sound : (name : List ℕ) → r.named ≡ true → HasTexts given [] (quoted name) (58 ∷ []) → IsSound (row_view p)
     first_member_sound name object t =
-        first_member_kept r.named p.named r.length (r.length - length (text_bytes r.hollow)) p.length (text_bytes r.hollow) (text_bytes p.hollow) (items_of r.seams.all) put.seams (items_of p.seams.all) (items_of r.values) (items_of r.values) (items_of p.values) put.seam v name value.0 object put.named sound empty put.swapped.2 refl put.seams_are put.values_are (alone (quoted name) (58 ∷ []) t) (bare t.trail_is) value.1 (omega (arith, fits)) (omega (arith, fits, long t.trail_is, put.grown))
+        first_member_kept r.named p.named r.length (r.length - length (text_bytes r.hollow)) p.length (text_bytes r.hollow) (text_bytes p.hollow) (items_of r.seams.all) put.seams (items_of p.seams.all) (items_of r.values) (items_of r.values) (items_of p.values) put.seam v value.0 name value.1.0 object put.named sound empty put.swapped.2 refl put.seams_are put.values_are (alone (quoted name) (58 ∷ []) t) (bare t.trail_is) value.1.1 (omega (arith, fits)) (omega (arith, fits, long t.trail_is, put.grown))
 
-    pub first_element_pieces : HasTexts given [] [] [] → row_pieces p ≡ element_pushed (text_bytes r.hollow) (text_bytes v) (row_pieces r)
+    pub first_element_pieces : HasTexts given [] [] [] → row_pieces p ≡ element_pushed (text_bytes r.hollow) (tree_text (view v)) (row_pieces r)
     first_element_pieces t =
-        first_element_put r.named p.named r.length 0 p.length (text_bytes r.hollow) (text_bytes p.hollow) (items_of r.seams.all) put.seams (items_of p.seams.all) (items_of r.values) (items_of r.values) (items_of p.values) put.seam v sound empty put.swapped.2 refl put.seams_are put.values_are (alone [] [] t)
+        first_element_put r.named p.named r.length 0 p.length (text_bytes r.hollow) (text_bytes p.hollow) (items_of r.seams.all) put.seams (items_of p.seams.all) (items_of r.values) (items_of r.values) (items_of p.values) put.seam v value.0 sound empty put.swapped.2 refl put.seams_are put.values_are (alone [] [] t)
 
     pub first_element_sound : r.named ≡ false → HasTexts given [] [] [] → IsSound (row_view p)
     first_element_sound array t =
-        first_element_kept r.named p.named r.length (r.length - length (text_bytes r.hollow)) p.length (text_bytes r.hollow) (text_bytes p.hollow) (items_of r.seams.all) put.seams (items_of p.seams.all) (items_of r.values) (items_of r.values) (items_of p.values) put.seam v value.0 array put.named sound empty put.swapped.2 refl put.seams_are put.values_are (alone [] [] t) (bare t.trail_is) value.1 (omega (arith, fits)) (omega (arith, fits, long t.trail_is, put.grown))
+        first_element_kept r.named p.named r.length (r.length - length (text_bytes r.hollow)) p.length (text_bytes r.hollow) (text_bytes p.hollow) (items_of r.seams.all) put.seams (items_of p.seams.all) (items_of r.values) (items_of r.values) (items_of p.values) put.seam v value.0 value.1.0 array put.named sound empty put.swapped.2 refl put.seams_are put.values_are (alone [] [] t) (bare t.trail_is) value.1.1 (omega (arith, fits)) (omega (arith, fits, long t.trail_is, put.grown))
 
   -- ---- behind the last, of number n
 
@@ -79,26 +77,26 @@ module _ (r p : Row) (given : Seam) (v : Text) (sound : IsSound (row_view r)) (v
     next_seam name colons t y u e =
         like_member put.seam lost.seam x x name same same (ap (λ s. text_bytes s.whitespace) put.swapped.0 ∙ t.whitespace_is) (ap (λ s. text_bytes s.name) put.swapped.0 ∙ t.name_is) (ap (λ s. text_bytes s.colons) put.swapped.0 ∙ t.colons_is ∙ e) lost.trail_is y u
 
-    pub next_member_pieces : (name : List ℕ) → HasTexts given (whitespace_like (text_bytes x.whitespace)) name (colons_like (text_bytes x.colons)) → row_pieces p ≡ member_pushed (text_bytes r.hollow) name (text_bytes v) (row_pieces r)
+    pub next_member_pieces : (name : List ℕ) → HasTexts given (whitespace_like (text_bytes x.whitespace)) name (colons_like (text_bytes x.colons)) → row_pieces p ≡ member_pushed (text_bytes r.hollow) name (tree_text (view v)) (row_pieces r)
     next_member_pieces name t =
-        next_member_put r.named p.named r.length 0 p.length (text_bytes r.hollow) (text_bytes p.hollow) (items_of r.seams.all) put.seams (items_of p.seams.all) (items_of r.values) (items_of r.values) (items_of p.values) put.seam v n at put.seam.trail name is sound count lost refl put.seams_are put.values_are (λ y u. next_seam name _ t y u refl)
+        next_member_put r.named p.named r.length 0 p.length (text_bytes r.hollow) (text_bytes p.hollow) (items_of r.seams.all) put.seams (items_of p.seams.all) (items_of r.values) (items_of r.values) (items_of p.values) put.seam v value.0 n at put.seam.trail name is sound count lost refl put.seams_are put.values_are (λ y u. next_seam name _ t y u refl)
 
     pub next_member_sound : (name : List ℕ) → r.named ≡ true → HasTexts given (whitespace_like (text_bytes x.whitespace)) (quoted name) (colons_like (text_bytes x.colons)) → IsSound (row_view p)
     next_member_sound name object t =
-        next_member_kept r.named p.named r.length (r.length - length (text_bytes put.seam.trail)) p.length (text_bytes r.hollow) (text_bytes p.hollow) (items_of r.seams.all) put.seams (items_of p.seams.all) (items_of r.values) (items_of r.values) (items_of p.values) put.seam v n at put.seam.trail name value.0 object put.named is sound count lost refl put.seams_are put.values_are (λ y u. next_seam (quoted name) _ t y u refl) behind_hollow value.1 (omega (arith, trail_low)) (omega (arith, trail_low, longer, put.grown))
+        next_member_kept r.named p.named r.length (r.length - length (text_bytes put.seam.trail)) p.length (text_bytes r.hollow) (text_bytes p.hollow) (items_of r.seams.all) put.seams (items_of p.seams.all) (items_of r.values) (items_of r.values) (items_of p.values) put.seam v value.0 n at put.seam.trail name value.1.0 object put.named is sound count lost refl put.seams_are put.values_are (λ y u. next_seam (quoted name) _ t y u refl) behind_hollow value.1.1 (omega (arith, trail_low)) (omega (arith, trail_low, longer, put.grown))
 
     next_between : HasTexts given (whitespace_like (text_bytes x.whitespace)) [] [] → (u : List ℕ) → piece_with put.seam u ≡ element_between (whitespace_like (text_bytes lost.seam.whitespace)) u (text_bytes lost.seam.trail)
     next_between t u =
         same_piece (text_bytes put.seam.whitespace) (whitespace_like (text_bytes lost.seam.whitespace)) (text_bytes put.seam.name) [] (text_bytes put.seam.colons) [] (text_bytes put.seam.trail) (text_bytes lost.seam.trail) u
         (ap (λ s. text_bytes s.whitespace) put.swapped.0 ∙ t.whitespace_is ∙ ap (λ s. whitespace_like (text_bytes s.whitespace)) same) (ap (λ s. text_bytes s.name) put.swapped.0 ∙ t.name_is) (ap (λ s. text_bytes s.colons) put.swapped.0 ∙ t.colons_is) (ap text_bytes lost.trail_is)
 
-    pub next_element_pieces : HasTexts given (whitespace_like (text_bytes x.whitespace)) [] [] → row_pieces p ≡ element_pushed (text_bytes r.hollow) (text_bytes v) (row_pieces r)
+    pub next_element_pieces : HasTexts given (whitespace_like (text_bytes x.whitespace)) [] [] → row_pieces p ≡ element_pushed (text_bytes r.hollow) (tree_text (view v)) (row_pieces r)
     next_element_pieces t =
-        next_element_put r.named p.named r.length 0 p.length (text_bytes r.hollow) (text_bytes p.hollow) (items_of r.seams.all) put.seams (items_of p.seams.all) (items_of r.values) (items_of r.values) (items_of p.values) put.seam v n at put.seam.trail is sound count lost refl put.seams_are put.values_are (next_between t)
+        next_element_put r.named p.named r.length 0 p.length (text_bytes r.hollow) (text_bytes p.hollow) (items_of r.seams.all) put.seams (items_of p.seams.all) (items_of r.values) (items_of r.values) (items_of p.values) put.seam v value.0 n at put.seam.trail is sound count lost refl put.seams_are put.values_are (next_between t)
 
     pub next_element_sound : r.named ≡ false → HasTexts given (whitespace_like (text_bytes x.whitespace)) [] [] → IsSound (row_view p)
     next_element_sound array t =
-        next_element_kept r.named p.named r.length (r.length - length (text_bytes put.seam.trail)) p.length (text_bytes r.hollow) (text_bytes p.hollow) (items_of r.seams.all) put.seams (items_of p.seams.all) (items_of r.values) (items_of r.values) (items_of p.values) put.seam v n at put.seam.trail value.0 array put.named is sound count lost refl put.seams_are put.values_are (next_between t) behind_hollow value.1 (omega (arith, trail_low)) (omega (arith, trail_low, longer, put.grown))
+        next_element_kept r.named p.named r.length (r.length - length (text_bytes put.seam.trail)) p.length (text_bytes r.hollow) (text_bytes p.hollow) (items_of r.seams.all) put.seams (items_of p.seams.all) (items_of r.values) (items_of r.values) (items_of p.values) put.seam v value.0 n at put.seam.trail value.1.0 array put.named is sound count lost refl put.seams_are put.values_are (next_between t) behind_hollow value.1.1 (omega (arith, trail_low)) (omega (arith, trail_low, longer, put.grown))
 
   -- ---- before the element of number n
 
@@ -120,11 +118,11 @@ module _ (r p : Row) (given : Seam) (v : Text) (sound : IsSound (row_view r)) (v
         same_piece (text_bytes put.seam.whitespace) (text_bytes gained.seam.whitespace) (text_bytes put.seam.name) [] (text_bytes put.seam.colons) [] (text_bytes put.seam.trail) [] u
         (ap text_bytes gained.whitespace_is) (ap (λ s. text_bytes s.name) put.swapped.0 ∙ t.name_is) (ap (λ s. text_bytes s.colons) put.swapped.0 ∙ t.colons_is) (ap (λ s. text_bytes s.trail) put.swapped.0 ∙ t.trail_is)
 
-    pub element_before_pieces : row_pieces p ≡ element_put n (text_bytes v) (row_pieces r)
+    pub element_before_pieces : row_pieces p ≡ element_put n (tree_text (view v)) (row_pieces r)
     element_before_pieces =
-        element_before_put r.named p.named r.length 0 p.length (text_bytes r.hollow) (text_bytes p.hollow) (items_of r.seams.all) put.seams (items_of p.seams.all) (items_of r.values) (items_of r.values) (items_of p.values) put.seam v n like x put.seam.whitespace sound within z gained refl put.seams_are put.values_are between
+        element_before_put r.named p.named r.length 0 p.length (text_bytes r.hollow) (text_bytes p.hollow) (items_of r.seams.all) put.seams (items_of p.seams.all) (items_of r.values) (items_of r.values) (items_of p.values) put.seam v value.0 n like x put.seam.whitespace sound within z gained refl put.seams_are put.values_are between
 
     pub element_before_sound : r.named ≡ false → IsSound (row_view p)
     element_before_sound array =
         let y = whitespace_like (text_bytes x.whitespace) in
-        element_before_kept r.named p.named r.length (r.length + length y - length (text_bytes put.seam.whitespace)) p.length (text_bytes r.hollow) (text_bytes p.hollow) (items_of r.seams.all) put.seams (items_of p.seams.all) (items_of r.values) (items_of r.values) (items_of p.values) put.seam v n like x put.seam.whitespace value.0 array put.named sound within z gained refl put.seams_are put.values_are between before_hollow value.1 (omega (arith, before_low)) (omega (arith, before_low, other, put.grown))
+        element_before_kept r.named p.named r.length (r.length + length y - length (text_bytes put.seam.whitespace)) p.length (text_bytes r.hollow) (text_bytes p.hollow) (items_of r.seams.all) put.seams (items_of p.seams.all) (items_of r.values) (items_of r.values) (items_of p.values) put.seam v value.0 n like x put.seam.whitespace value.1.0 array put.named sound within z gained refl put.seams_are put.values_are between before_hollow value.1.1 (omega (arith, before_low)) (omega (arith, before_low, other, put.grown))

@@ -1,17 +1,23 @@
 -- All that a token names taken out of a row, step by step.
-use Rattle.std.proofs.Common.{◌≡◌, ℕ, ◌<◌, Bool, true, false, List, [], length, Some, None, Option, refl, sym, subst}
+use Rattle.std.proofs.Common.{◌≡◌, ℕ, ◌<◌, Bool, true, false, List, [], ◌∷◌, ◌++◌, length, get_or, option_and_then, Some, None, Option, refl, sym, ap, subst, arith}
 use Rattle.std.specs.Prelude.{MatchOption}
 use Rattle.json.specs.Json.{Json}
-use Rattle.json_text.specs.Cuts.{AllSuit, Piece, row_text}
+use Rattle.json_text.specs.Cuts.{AllSuit, IsWhitespace, Piece, row_text}
 use Rattle.json_text.specs.Less.{IsNumberOf, IsObject, IsWithout}
-use Rattle.json_text.specs.Pointed.{child}
+use Rattle.json_text.specs.Pointed.{child, tree_at, IsWrittenAt}
 use Rattle.json_text.specs.Rows.{Child, tree_in}
 use Rattle.json_lexemes.specs.Spelled.{Says}
 use Rattle.json_lexemes.proofs.Nests.{one_tree}
+use Rattle.json_text.proofs.Along.{put_step}
+use Rattle.long_vec.specs.Items.{items_of}
 use Rattle.json_pieces.specs.Edits.{TakesOut}
-use Rattle.json_pieces.specs.Nodes.{IsRow}
+use Rattle.json_pieces.specs.Nodes.{IsRow, IsSound, row_pieces, row_view, text_bytes, tree_text, view}
+use Rattle.json_pieces.specs.declared.node.Node.{Node}
+use Rattle.json_pieces.specs.declared.node.Row.{Row}
 use Rattle.json_pieces.specs.PieceLists.{taken}
 use Rattle.json_pieces.proofs.Rows.Answers.{element_gone, first_less_row, members_gone, next_less_row, row_object}
+use Rattle.json_pieces.proofs.Lists.{pieces_are, value_there}
+use Rattle.json_pieces.proofs.Rows.Numbers.{Stands, stands, value_at}
 use Rattle.json_pieces.proofs.Rows.Says.{row_says}
 use Rattle.json_pieces.proofs.Rows.Taken.{IsLessRow}
 
@@ -66,3 +72,29 @@ all_steps true false m hollow hollow2 ps qs t y z r less none = cc
 all_steps true true m hollow hollow2 ps qs t y z r less none = λ j says.
     let a = less j says in
     members_gone (row_text true hollow ps) j t hollow2 qs (row_object hollow r.cs ps r.suit r.whitespace j says) a (none a.children a.suits)
+
+-- ---- the value
+
+part_written : (b : Bool) (hollow t : List ℕ) (n : ℕ) (cs : List Child) (ps : List Piece) → AllSuit b cs ps → IsWhitespace hollow → n < length ps → IsNumberOf b cs t n → (j : Json) → Says (row_text b hollow ps) j → IsWrittenAt (row_text b hollow ps) j (t ∷ []) (value_at n ps)
+part_written b hollow t n cs ps h k l number j says =
+    let s : Stands b t n cs ps = stands b t n cs ps h l number in
+    subst (λ i. IsWrittenAt (row_text b hollow ps) i (t ∷ []) (value_at n ps)) (one_tree (row_text b hollow ps) (tree_in b cs) j (row_says b hollow cs ps h k) says) (
+      s.split.before,
+      s.split.behind,
+      s.split.whole hollow,
+      (
+        s.child_tree,
+        ap (option_and_then (tree_at [])) s.is,
+        record {
+          says = s.stretch.says;
+          tight = s.stretch.tight;
+          alone = λ new w e. subst (Says (s.split.before ++ (new ++ s.split.behind))) (sym (put_step t [] w (tree_in b cs) s.child_tree s.is)) (s.stretch.alone new w e);
+        },
+      ),
+    )
+
+-- that of the number that t names is written where t leads
+pub value_written : (r : Row) (n : ℕ) (t : List ℕ) (v : Node) → IsSound (row_view r) → Names r.named (row_pieces r) t n → n < length (items_of r.values) → v ≡ get_or (items_of r.values) n v → (j : Json) → Says (tree_text (row_view r)) j → IsWrittenAt (tree_text (row_view r)) j (t ∷ []) (tree_text (view v))
+value_written r n t v h names l e j says =
+    subst (IsWrittenAt (tree_text (row_view r)) j (t ∷ [])) (value_there (items_of r.seams.all) (items_of r.values) n v h.1 l e)
+    (part_written r.named (text_bytes r.hollow) t n h.0.cs (row_pieces r) h.0.suit h.0.whitespace (omega (arith, l, pieces_are (items_of r.seams.all) (items_of r.values) h.1)) (names h.0.cs h.0.suit) j says)

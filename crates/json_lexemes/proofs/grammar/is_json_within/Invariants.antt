@@ -3,7 +3,7 @@ use Rattle.json.specs.Json.{Json}
 use Rattle.json.specs.Tree.{depth}
 use Rattle.json_lexemes.specs.Places.{left_at}
 use Rattle.json_lexemes.specs.Spelled.{Says}
-use Rattle.json_lexemes.specs.Grammar.{Begins, innermost}
+use Rattle.json_lexemes.specs.Grammar.{AreStops, Begins, innermost}
 use Rattle.json_lexemes.proofs.grammar.is_json_within.Given as goal
 
 abbrev pub invariant-loop-next : goal.invariant-loop-next
@@ -13,6 +13,7 @@ invariant-loop-next l = record {
   room : l.depth ≤ l.most;
   most : l.most ≤ 128;
   levels : l.most ≤ l.levels;
+  stops : AreStops l.text l.stops.base l.stops.bits;
   follows : Begins (l.most - l.depth) (innermost l.objects l.depth) (left_at l.text l.i) → (j : Json) × Says l.text j × (depth j ≤ l.levels);
 }
 

@@ -15,5 +15,6 @@ loop-nested-preserved c =
       low = omega (arith, c.loop-nested.invariant.low, c.in_ok-next.ensures.bounds);
       high = c.in_ok-next.ensures.bounds.1;
       fewer = omega (arith, c.loop-nested.invariant.fewer);
+      stops = c.in_ok-next.ensures.stops;
       follows = λ n b. c.loop-nested.invariant.follows n (closing_on c.args.text.now c.args.objects.now n c.args.depth m c.loop-nested.i c.in_ok-next.next c.loop-nested-test.true c.loop-nested.invariant.fewer (c.in_ok-next.ensures.closes c.if-more.false) b);
     }

@@ -9,7 +9,7 @@ use Rattle.json_lexemes.proofs.Ascii.{operator_ascii}
 use Rattle.json_lexemes.proofs.Steps.{skip_nothing, skip_step, operator_first, operator_has_end, operator_no_space, ends_by_end, ends_by_operator}
 use Rattle.json_lexemes.proofs.Trimmed.{end_left}
 use Rattle.json_lexemes.proofs.Runs.{still_open, bracket_operator, run_left, run_end}
-use Rattle.json_lexemes.proofs.Passed.{opening_operator, closing_operator, closing_depth, carried_run, carried_here}
+use Rattle.json_lexemes.proofs.Passed.{closing_operator, closing_depth, carried_run, carried_here}
 use Rattle.json_lexemes.proofs.lexemes.container_end.Goals as goal
 
 pub returns-in_default-clause-left : goal.returns-in_default-clause-left
@@ -25,7 +25,7 @@ returns-in_default-clause-end c = λ e.
     let k = c.last_lexeme_end.result in
     let f = c.last_lexeme_end.ensures.end (inl e) in
     let ended : HasEnd t k = elim f.1 [
-      | inl same ↦ subst (HasEnd t) (sym same) (inl (operator_no_space (get_or t (c.args.from - 1) 0) (opening_operator (get_or t (c.args.from - 1) 0) c.requires.begins)))
+      | inl same ↦ subst (HasEnd t) (sym same) (inl (operator_no_space (get_or t (c.args.from - 1) 0) c.requires.begins))
       | inr has ↦ has
     ] in
     (f.0, ended)

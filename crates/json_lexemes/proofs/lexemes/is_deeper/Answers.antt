@@ -1,40 +1,20 @@
-use Rattle.std.proofs.Common.{◌≡◌, ◌+◌, get_or, ap, ◌∙◌, refl, sym, arith}
-use Rattle.std.proofs.lemmas.Bool.{false≢true}
+use Rattle.std.proofs.Common.{◌≡◌, ◌+◌, true, get_or, ap, ◌∙◌, sym, arith}
+use Rattle.json_lexemes.specs.Blocks.{is_opening}
+use Rattle.json_lexemes.specs.Places.{left_at}
 use Rattle.json_lexemes.specs.Skipped.{most_open}
-use Rattle.json_lexemes.specs.Places.{left_at, depth_by}
-use Rattle.json_lexemes.proofs.Steps.{most_nothing, most_step, most_least, operator_first}
-use Rattle.json_lexemes.proofs.Runs.{bracket_operator}
+use Rattle.json_lexemes.proofs.Passed.{opening_depth, opening_operator}
+use Rattle.json_lexemes.proofs.Steps.{most_step, operator_first}
 use Rattle.json_lexemes.proofs.lexemes.is_deeper.Goals as goal
-
-pub returns-then-depth-most : goal.returns-then-depth-most
-returns-then-depth-most c =
-    let t = c.args.text.now in
-    let i = c.loop-i.i in
-    let h = c.loop-i-test.true in
-    let s = most_step t i (i + 1) c.loop-i.depth (operator_first t i h (bracket_operator (get_or t i 0) (c.loop-i.invariant.stops h))) in
-    let d = c.open_after_bracket-depth.ensures.value in
-    let l = most_least (depth_by c.loop-i.depth (get_or t i 0)) (left_at t (i + 1)) in
-    (λ e. c.loop-i.invariant.forth (omega (arith, s, d, l)), λ m. refl)
-
-pub loop-i-preserved : goal.loop-i-preserved
-loop-i-preserved c =
-    let t = c.args.text.now in
-    let i = c.loop-i.i in
-    let h = c.loop-i-test.true in
-    let b = c.bracket_from-i-in-loop-i.ensures.bounds in
-    let s = most_step t i (i + 1) c.loop-i.depth (operator_first t i h (bracket_operator (get_or t i 0) (c.loop-i.invariant.stops h))) in
-    let n : most_open c.open_after_bracket-depth.result (left_at t c.bracket_from-i-in-loop-i.result) ≡ most_open (depth_by c.loop-i.depth (get_or t i 0)) (left_at t (i + 1)) =
-    sym (c.bracket_from-i-in-loop-i.ensures.passes.most c.open_after_bracket-depth.result) ∙ ap (λ d. most_open d (left_at t (i + 1))) c.open_after_bracket-depth.ensures.value in
-    record {
-      high = b.1;
-      depth = omega (arith, c.open_after_bracket-depth.ensures.bound, b);
-      under = omega arith;
-      stops = c.bracket_from-i-in-loop-i.ensures.stops;
-      forth = λ m. c.loop-i.invariant.forth (omega (arith, s, n));
-      back = λ m. let f = c.loop-i.invariant.back m in omega (arith, s, n, f);
-    }
 
 pub returns : goal.returns
 returns c =
-    let e = most_nothing c.loop-i.depth c.args.text.now c.loop-i.i (omega arith) in
-    (λ f. absurd (false≢true f), λ h. let b = c.loop-i.invariant.back h in absurd (omega (arith, e, b)))
+    let t = c.args.text.now in
+    let i = c.bracket_from-first.result in
+    let x = get_or t i 0 in
+    let o : is_opening x ≡ true = sym c.is_opening.ensures ∙ c.if-not-is_opening.false in
+    let p = c.bracket_from-first.ensures.passes.most 0 in
+    let s = most_step t i (i + 1) 0 (operator_first t i (omega (arith, c.bracket_from-first.ensures.bounds)) (opening_operator x o)) in
+    let d = ap (λ k. most_open k (left_at t (i + 1))) (opening_depth x o) in
+    let m = c.shallow_end-at.ensures.most in
+    let r = c.is_deeper_from-2.ensures in
+    (λ e. let f = r.0 e in omega (arith, f, m, d, s, p), λ h. r.1 (omega (arith, h, m, d, s, p)))

@@ -1,4 +1,4 @@
-use Rattle.std.proofs.Common.{◌≡◌, ◌<◌, ◌+◌, true, length, get_or, inr, sym, ap, ◌∙◌, arith}
+use Rattle.std.proofs.Common.{◌≡◌, ◌<◌, ◌+◌, ◌-◌, true, length, get_or, inr, sym, ap, ◌∙◌, arith}
 use Rattle.std.proofs.lemmas.Str.{IsCharBoundary-after_ascii}
 use Rattle.json.specs.Word.{is_operator}
 use Rattle.json_lexemes.specs.Skipped.{if_open, skip}
@@ -13,6 +13,13 @@ pub returns-then-start-text-clause-left : goal.returns-then-start-text-clause-le
 returns-then-start-text-clause-left c =
     let same = c.whitespace_end-start.ensures.left in
     sym same ∙ skip_nothing 0 0 c.args.text.now c.whitespace_end-start.result (omega arith) ∙ ap (skip 0) same
+
+pub container_end-requires-clause-begins : goal.container_end-requires-clause-begins
+container_end-requires-clause-begins c =
+    let t = c.args.text.now in
+    let i = c.whitespace_end-start.result in
+    let same : i + 1 - 1 ≡ i = omega arith in
+    ap (λ k. is_operator (get_or t k 0)) same ∙ opening_operator (get_or t i 0) (sym c.is_opening.ensures ∙ c.if-is_opening.true)
 
 pub returns-then-is_opening-clause-left : goal.returns-then-is_opening-clause-left
 returns-then-is_opening-clause-left c =

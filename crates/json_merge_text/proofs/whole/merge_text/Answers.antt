@@ -11,3 +11,9 @@ returns-clause-unchanged c = nothing_changed c.args.text.now c.args.patch.now (s
 
 pub returns-clause-depth : goal.returns-clause-depth
 returns-clause-depth c = as_deep c.args.text.now c.args.patch.now (string_bytes c.in_ok-to_text.field-0) (search rules)
+
+pub returns-clause-kept : goal.returns-clause-kept
+returns-clause-kept c = search rules
+
+pub returns-in_err-text-clause-fault : goal.returns-in_err-text-clause-fault
+returns-in_err-text-clause-fault c = let fault = c.in_err-text.ensures.fault c.args.patch.now in search (rules, fault)

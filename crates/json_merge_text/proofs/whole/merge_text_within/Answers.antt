@@ -1,13 +1,16 @@
-use Rattle.std.proofs.Common.{rules, string_bytes}
-use Rattle.json_merge_text.proofs.Merges.{as_deep, says_merged}
-use Rattle.json_merge_text.proofs.Unchanged.{nothing_changed}
+-- What is promised of the text that was checked is promised of the one that was handed in.
+use Rattle.std.proofs.Common.{◌≡◌, rules, subst}
+use Rattle.std.specs.Prelude.{IfOk, IfSome, string_bytes}
+use Rattle.json_merge_text.specs.Merged.{IsMergedAlready, IsMergedText}
 use Rattle.json_merge_text.proofs.whole.merge_text_within.Goals as goal
 
-pub returns-clause-merged : goal.returns-clause-merged
-returns-clause-merged c = says_merged c.args.text.now c.args.patch.now (string_bytes c.in_ok-to_text.field-0) (search rules)
-
 pub returns-clause-unchanged : goal.returns-clause-unchanged
-returns-clause-unchanged c = nothing_changed c.args.text.now c.args.patch.now (string_bytes c.in_ok-to_text.field-0) (search rules)
+returns-clause-unchanged c =
+    subst (λ t. IfOk c.merge_checked_within.result (λ found. IfSome found (λ new. IsMergedAlready t c.args.patch.now → string_bytes new ≡ t))) c.in_ok-text.ensures.text c.merge_checked_within.ensures.unchanged
 
-pub returns-clause-depth : goal.returns-clause-depth
-returns-clause-depth c = as_deep c.args.text.now c.args.patch.now (string_bytes c.in_ok-to_text.field-0) (search rules)
+pub returns-clause-kept : goal.returns-clause-kept
+returns-clause-kept c =
+    subst (λ t. IfOk c.merge_checked_within.result (λ found. IfSome found (λ new. IsMergedText t c.args.patch.now (string_bytes new)))) c.in_ok-text.ensures.text c.merge_checked_within.ensures.kept
+
+pub returns-in_err-text-clause-fault : goal.returns-in_err-text-clause-fault
+returns-in_err-text-clause-fault c = let fault = c.in_err-text.ensures.fault c.args.patch.now in search (rules, fault)

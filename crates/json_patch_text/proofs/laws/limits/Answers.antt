@@ -2,6 +2,7 @@ use Rattle.std.proofs.Common.{arith}
 use Rattle.json_patch_text.proofs.Bounded.{last_within, within_made}
 use Rattle.json_patch_text.proofs.Limits.{deep_last, one_kind, over_accepted, over_alone, within_or_over}
 use Rattle.json_patch_text.proofs.Shallow.{never_too_deep}
+use Rattle.json_patch_text.proofs.Tried.{never_tried}
 use Rattle.json_patch_text.proofs.laws.limits.Goals as goal
 
 pub returns-clause-within_or_over : goal.returns-clause-within_or_over
@@ -27,3 +28,6 @@ returns-clause-readable c l text patch k shallow h = let deep = h.0 in absurd (o
 
 pub returns-clause-never : goal.returns-clause-never
 returns-clause-never c = never_too_deep
+
+pub returns-clause-tried : goal.returns-clause-tried
+returns-clause-tried c = never_tried

@@ -1,75 +1,8 @@
-use Rattle.std.proofs.Common.{◌≡◌, ◌∙◌, length, refl, sym, subst, arith}
-use Rattle.json_patch_text.specs.Run.{AcceptsText}
-use Rattle.json_patch_text.proofs.Bounded.{deep_under, first_shallow, logged_first, logged_last, logged_more, not_over, over_reached, reached_last, reached_shallow, reached_under_first, reached_under_more, reported_under, step_shallow, written_here}
-use Rattle.json_patch_text.proofs.Reached.{all_accepted, reached_first}
+use Rattle.std.proofs.Common.{subst, sym}
+use Rattle.json.specs.Json.{Json}
 use Rattle.json_lexemes.proofs.Nests.{accepted}
-use Rattle.json_patch_text.specs.Drafts.{draft_text}
+use Rattle.json_lexemes.specs.Spelled.{IsShallowText}
 use Rattle.json_patch_text.proofs.run.run.Goals as goal
 
-pub loop-number-init : goal.loop-number-init
-loop-number-init c =
-    let here : draft_text c.new-draft.result ≡ c.args.text.text.now = c.new-draft.ensures.text in
-    record {
-      draft = c.new-draft.ensures.draft;
-      reached = reached_under_first c.args.bounds c.args.text.text.now (draft_text c.new-draft.result) c.args.operations.now c.args.log.now.copied here (reached_first c.args.text.text.now (draft_text c.new-draft.result) c.args.operations.now here) c.requires.under.0 c.requires.empty.1;
-      deep = first_shallow c.args.text.text.now (draft_text c.new-draft.result) here (accepted c.args.text.text.now c.args.text.read);
-      kept = refl;
-      logged = logged_first c.args.bounds c.args.text.text.now (draft_text c.new-draft.result) c.args.operations.now c.args.log.now here c.requires.empty c.requires.under.0 c.requires.under.1;
-    }
-
-pub returns-then-deep-clause-fault : goal.returns-then-deep-clause-fault
-returns-then-deep-clause-fault c ops w =
-    deep_under c.args.log.now.kept c.args.bounds c.args.text.text.now (draft_text c.loop-number.draft) c.args.operations.now ops c.loop-number.number c.loop-number.log
-    c.loop-number-test.true c.loop-number.invariant.kept c.loop-number.invariant.reached c.loop-number.invariant.logged (c.loop-number.invariant.deep.0 c.if-deep.true)
-
-pub step-requires-clause-shallow : goal.step-requires-clause-shallow
-step-requires-clause-shallow c =
-    reached_shallow c.args.bounds c.args.text.text.now (draft_text c.loop-number.draft) c.args.operations.now c.loop-number.number c.loop-number.log.copied c.loop-number.deep
-    (accepted c.args.text.text.now c.args.text.read) c.requires.written c.loop-number.invariant.reached c.loop-number.invariant.deep c.if-deep.false
-
-pub step-requires-clause-written : goal.step-requires-clause-written
-step-requires-clause-written c = written_here c.args.operations.now c.loop-number.number c.index-operations-number.result c.loop-number-test.true c.index-operations-number.is c.requires.written
-
-pub returns-in-Err-clause-fault : goal.returns-in-Err-clause-fault
-returns-in-Err-clause-fault c ops w =
-    reported_under c.args.log.now.kept c.args.bounds c.args.text.text.now (draft_text c.loop-number.draft) c.args.operations.now ops c.loop-number.number c.index-operations-number.result c.in-Err.fault c.reported-fault.result c.loop-number.log
-    (accepted c.args.text.text.now c.args.text.read) c.loop-number-test.true c.index-operations-number.is c.loop-number.invariant.kept c.loop-number.invariant.reached c.loop-number.invariant.logged c.in-Err.ensures.tree c.reported-fault.ensures w
-
-pub over-requires-clause-depth : goal.over-requires-clause-depth
-over-requires-clause-depth c = λ e.
-    step_shallow c.args.bounds c.args.text.text.now (draft_text c.loop-number.draft) (draft_text c.step.new.draft) c.args.operations.now c.loop-number.number c.loop-number.log.copied c.levels-levels.result c.loop-number.deep c.in-Ok.deeper
-    c.levels-levels.ensures c.loop-number.invariant.reached c.loop-number.invariant.deep c.if-deep.false c.in-Ok.ensures.depth e
-
-pub returns-in-Some-clause-fault : goal.returns-in-Some-clause-fault
-returns-in-Some-clause-fault c ops w =
-    over_reached c.args.log.now.kept c.args.bounds c.args.text.text.now (draft_text c.loop-number.draft) (draft_text c.step.new.draft) c.args.operations.now ops c.loop-number.number c.index-operations-number.result c.loop-number.log c.step.new.log c.in-Some.kind
-    (accepted c.args.text.text.now c.args.text.read) c.loop-number-test.true c.index-operations-number.is c.loop-number.invariant.kept c.loop-number.invariant.reached c.loop-number.invariant.logged c.in-Ok.ensures.made c.in-Ok.ensures.tree c.in-Ok.ensures.logs c.in-Ok.ensures.counted (rw c.in-Some.is at c.in_ok-kind.ensures) w
-
-pub loop-number-preserved : goal.loop-number-preserved
-loop-number-preserved c =
-    let (under, short) = not_over _ _ c.in_ok-kind.field-0 c.in_default.not-Some c.in_ok-kind.ensures in
-    record {
-      draft = c.in-Ok.ensures.draft;
-      reached = reached_under_more c.args.bounds c.args.text.text.now (draft_text c.loop-number.draft) (draft_text c.step.new.draft) c.args.operations.now c.loop-number.number c.index-operations-number.result c.loop-number.log c.step.new.log
-          c.loop-number-test.true c.index-operations-number.is c.loop-number.invariant.reached c.in-Ok.ensures.made c.in-Ok.ensures.counted c.in-Ok.ensures.tree under short;
-      deep = c.in_ok-deep.ensures;
-      kept = c.in-Ok.ensures.logs.0 ∙ c.loop-number.invariant.kept;
-      logged = logged_more c.args.bounds c.args.text.text.now (draft_text c.loop-number.draft) (draft_text c.step.new.draft) c.args.operations.now c.loop-number.number c.index-operations-number.result c.loop-number.log c.step.new.log c.loop-number.deep
-          c.loop-number-test.true c.index-operations-number.is c.loop-number.invariant.logged c.loop-number.invariant.deep c.if-deep.false c.in-Ok.ensures.made c.in-Ok.ensures.logs c.in-Ok.ensures.counted under short;
-    }
-
-pub returns-clause-logged : goal.returns-clause-logged
-returns-clause-logged c =
-    let end : length c.args.operations.now ≡ c.loop-number.number = omega arith in
-    (c.loop-number.invariant.kept, logged_last c.args.bounds c.args.text.text.now (draft_text c.loop-number.draft) _ c.args.operations.now c.loop-number.number c.loop-number.log end c.in_ok-into_text.ensures c.loop-number.invariant.logged)
-
-pub returns-clause-made : goal.returns-clause-made
-returns-clause-made c =
-    let end : length c.args.operations.now ≡ c.loop-number.number = omega arith in
-    reached_last c.args.bounds c.args.text.text.now (draft_text c.loop-number.draft) _ c.args.operations.now c.loop-number.number c.loop-number.log.copied end c.in_ok-into_text.ensures c.loop-number.invariant.reached
-
-pub returns-clause-accepted : goal.returns-clause-accepted
-returns-clause-accepted c ops w =
-    let end : length c.args.operations.now ≡ c.loop-number.number = omega arith in
-    subst (AcceptsText c.args.text.text.now ops) (sym c.in_ok-into_text.ensures)
-    (all_accepted c.args.text.text.now (draft_text c.loop-number.draft) c.args.operations.now ops c.loop-number.number end (accepted c.args.text.text.now c.args.text.read) c.loop-number.invariant.reached.0 w)
+pub run_in-requires-clause-shallow : goal.run_in-requires-clause-shallow
+run_in-requires-clause-shallow c = subst (λ t. (j : Json) × IsShallowText t j) (sym c.new-draft.ensures.text) (accepted c.args.text.text.now c.args.text.read)

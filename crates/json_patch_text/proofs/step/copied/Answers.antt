@@ -1,3 +1,4 @@
+use Rattle.json_patch_text.proofs.Kept.{kept_more}
 use Rattle.std.specs.String.{string_bytes}
 use Rattle.jsonptr.specs.Pointers.{tokens_of}
 use Rattle.json_patch_text.proofs.Made.{copied_stopped, copied_tree, copy_none, part_known}
@@ -24,3 +25,6 @@ returns-clause-stopped c =
 
 pub returns-clause-logs : goal.returns-clause-logs
 returns-clause-logs c = rw c.in_ok-copy.ensures.kept at c.added.ensures.logs
+
+pub returns-clause-back : goal.returns-clause-back
+returns-clause-back c = kept_more _ _ _ c.value.ensures.back c.added.ensures.back

@@ -1,10 +1,9 @@
 use Rattle.std.proofs.Common.{refl, subst, sym}
 use Rattle.jsonptr.specs.Pointers.{tokens_of}
-use Rattle.json_patch_text.proofs.Nested.{removed_no_deeper}
-use Rattle.json_patch_text.proofs.Stepped.{add_stepped, copies_none, copies_some, copy_stepped, move_stepped, remove_stepped, replace_stepped, taken_add, taken_copy, taken_move, taken_remove, taken_replace, test_left}
+use Rattle.json_patch_text.proofs.Stepped.{add_stepped, costs_none, copy_costs, copy_stepped, move_stepped, remove_stepped, replace_stepped, taken_add, taken_copy, taken_move, taken_remove, taken_replace, test_costs, test_left}
 use Rattle.json_patch_text.proofs.Logged.{logs_as}
 use Rattle.json_patch_text.specs.Drafts.{draft_text}
-use Rattle.json_patch_text.specs.Made.{Copies}
+use Rattle.json_patch_text.specs.Made.{Costs}
 use Rattle.json_text.specs.Checked.{text_in}
 use Rattle.json_patch_text.proofs.step.step.Goals as goal
 
@@ -17,9 +16,6 @@ pub returns-in-Remove-clause-tree : goal.returns-in-Remove-clause-tree
 returns-in-Remove-clause-tree c i op said h =
     remove_stepped (draft_text c.args.draft.now) (draft_text c.removed.new.draft) (tokens_of c.as_pointer-in-Remove.result) c.in-Remove.path c.args.operation.now i op c.removed.result
     c.in-Remove.is c.as_pointer-in-Remove.ensures c.removed.ensures.made c.removed.ensures.stopped said h
-
-pub returns-in-Remove-clause-depth : goal.returns-in-Remove-clause-depth
-returns-in-Remove-clause-depth c = removed_no_deeper c.args.levels (draft_text c.args.draft.now) (draft_text c.removed.new.draft) (tokens_of c.as_pointer-in-Remove.result) c.removed.result c.removed.ensures.made
 
 pub returns-in-Replace-clause-tree : goal.returns-in-Replace-clause-tree
 returns-in-Replace-clause-tree c i op said h =
@@ -61,16 +57,21 @@ returns-in-Copy-clause-logs c =
     logs_as c.args.log.now c.copied.new.log c.copied.result _ _ (λ us back. taken_copy (draft_text c.args.draft.now) c.args.operation.now c.in-Copy.from (tokens_of c.as_pointer-in-Copy-2.result) c.in-Copy.path us c.in-Copy.is c.as_pointer-in-Copy-2.ensures back) c.copied.ensures.logs
 
 pub returns-in-Add-clause-counted : goal.returns-in-Add-clause-counted
-returns-in-Add-clause-counted c = copies_none (draft_text c.args.draft.now) c.args.operation.now c.args.log.now c.added.new.log c.added.result (subst (λ o. Copies (draft_text c.args.draft.now) o 0) (sym c.in-Add.is) refl) c.added.ensures.counted
+returns-in-Add-clause-counted c = costs_none (draft_text c.args.draft.now) c.args.operation.now c.args.log.now c.added.new.log c.added.result (subst (λ o. Costs (draft_text c.args.draft.now) o 0) (sym c.in-Add.is) refl) c.added.ensures.counted
 
 pub returns-in-Remove-clause-counted : goal.returns-in-Remove-clause-counted
-returns-in-Remove-clause-counted c = copies_none (draft_text c.args.draft.now) c.args.operation.now c.args.log.now c.removed.new.log c.removed.result (subst (λ o. Copies (draft_text c.args.draft.now) o 0) (sym c.in-Remove.is) refl) c.removed.ensures.counted
+returns-in-Remove-clause-counted c = costs_none (draft_text c.args.draft.now) c.args.operation.now c.args.log.now c.removed.new.log c.removed.result (subst (λ o. Costs (draft_text c.args.draft.now) o 0) (sym c.in-Remove.is) refl) c.removed.ensures.counted
 
 pub returns-in-Replace-clause-counted : goal.returns-in-Replace-clause-counted
-returns-in-Replace-clause-counted c = copies_none (draft_text c.args.draft.now) c.args.operation.now c.args.log.now c.replaced.new.log c.replaced.result (subst (λ o. Copies (draft_text c.args.draft.now) o 0) (sym c.in-Replace.is) refl) c.replaced.ensures.counted
+returns-in-Replace-clause-counted c = costs_none (draft_text c.args.draft.now) c.args.operation.now c.args.log.now c.replaced.new.log c.replaced.result (subst (λ o. Costs (draft_text c.args.draft.now) o 0) (sym c.in-Replace.is) refl) c.replaced.ensures.counted
 
 pub returns-in-Move-clause-counted : goal.returns-in-Move-clause-counted
-returns-in-Move-clause-counted c = copies_none (draft_text c.args.draft.now) c.args.operation.now c.args.log.now c.moved.new.log c.moved.result (subst (λ o. Copies (draft_text c.args.draft.now) o 0) (sym c.in-Move.is) refl) c.moved.ensures.counted
+returns-in-Move-clause-counted c = costs_none (draft_text c.args.draft.now) c.args.operation.now c.args.log.now c.moved.new.log c.moved.result (subst (λ o. Costs (draft_text c.args.draft.now) o 0) (sym c.in-Move.is) refl) c.moved.ensures.counted
 
 pub returns-in-Copy-clause-counted : goal.returns-in-Copy-clause-counted
-returns-in-Copy-clause-counted c = copies_some (draft_text c.args.draft.now) c.args.operation.now c.in-Copy.from (tokens_of c.as_pointer-in-Copy.result) c.in-Copy.path c.args.log.now c.copied.new.log c.copied.result c.in-Copy.is c.as_pointer-in-Copy.ensures c.copied.ensures.counted
+returns-in-Copy-clause-counted c = copy_costs (draft_text c.args.draft.now) c.args.operation.now c.in-Copy.from (tokens_of c.as_pointer-in-Copy.result) c.in-Copy.path c.args.log.now c.copied.new.log c.copied.result c.in-Copy.is c.as_pointer-in-Copy.ensures c.copied.ensures.counted
+
+pub returns-in_ok-tested-in-Test-clause-counted : goal.returns-in_ok-tested-in-Test-clause-counted
+returns-in_ok-tested-in-Test-clause-counted c =
+    test_costs (draft_text c.args.draft.now) (text_in c.known-value-in-Test.result) (tokens_of c.as_pointer-in-Test.result) c.in-Test.path c.in-Test.value c.args.operation.now c.args.log.now c.tested.new.log
+    c.in-Test.is c.as_pointer-in-Test.ensures c.known-value-in-Test.ensures c.in_ok-tested-in-Test.ensures.counted

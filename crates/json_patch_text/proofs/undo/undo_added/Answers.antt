@@ -1,3 +1,4 @@
+use Rattle.json_patch_text.proofs.Kept.{kept_more}
 use Rattle.std.proofs.Common.{◌∙◌, subst, sym}
 use Rattle.json_lexemes.specs.Spelled.{Says}
 use Rattle.json_patch_text.specs.Drafts.{draft_text}
@@ -19,3 +20,24 @@ pub returns-in_ok-to_buf-in-None-clause-undo : goal.returns-in_ok-to_buf-in-None
 returns-in_ok-to_buf-in-None-clause-undo c i said =
     let (j, shallow, none) = rw (c.in-None.is, c.in_ok-in_array.ensures.kept) at c.in_ok-old.ensures.value in
     taken_out (draft_text c.args.draft.now) i j (tokens_of c.args.path) c.in_ok-to_buf-in-None.field-0 said shallow (sym (c.in_ok-in_array.ensures.array i said) ∙ c.if-branch.false) c.in_ok-to_buf-in-None.ensures none
+
+pub returns-in_err-settled-clause-back : goal.returns-in_err-settled-clause-back
+returns-in_err-settled-clause-back c = kept_more _ _ _ c.in_array.ensures.back c.settled.ensures.back
+
+pub returns-then-branch-clause-back : goal.returns-then-branch-clause-back
+returns-then-branch-clause-back c = kept_more _ _ _ c.in_array.ensures.back c.settled.ensures.back
+
+pub returns-in_err-old-clause-back : goal.returns-in_err-old-clause-back
+returns-in_err-old-clause-back c = kept_more _ _ _ c.in_array.ensures.back c.value.ensures.back
+
+pub returns-in_err-to_buf-in-Some-clause-back : goal.returns-in_err-to_buf-in-Some-clause-back
+returns-in_err-to_buf-in-Some-clause-back c = kept_more _ _ _ c.in_array.ensures.back c.value.ensures.back
+
+pub returns-in_err-to_buf-in-None-clause-back : goal.returns-in_err-to_buf-in-None-clause-back
+returns-in_err-to_buf-in-None-clause-back c = kept_more _ _ _ c.in_array.ensures.back c.value.ensures.back
+
+pub returns-in_ok-to_buf-in-Some-clause-back : goal.returns-in_ok-to_buf-in-Some-clause-back
+returns-in_ok-to_buf-in-Some-clause-back c = kept_more _ _ _ c.in_array.ensures.back c.value.ensures.back
+
+pub returns-in_ok-to_buf-in-None-clause-back : goal.returns-in_ok-to_buf-in-None-clause-back
+returns-in_ok-to_buf-in-None-clause-back c = kept_more _ _ _ c.in_array.ensures.back c.value.ensures.back

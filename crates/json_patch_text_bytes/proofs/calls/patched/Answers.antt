@@ -12,5 +12,5 @@ returns-in-Ok-clause-text c =
 pub returns-in-Err-clause-failure : goal.returns-in-Err-clause-failure
 returns-in-Err-clause-failure c =
     let two = c.in_ok-text.ensures in let failed = c.in-Err in
-    is_failure c.args.limits c.args.document.now c.args.patch.now c.in_ok-text.text.now c.in_ok-text.flat.now failed.fault c.of_run-failure.result c.told.result
-    two.document.0 two.patch.0 c.requires two.patch.1 two.patch.2 failed.ensures.fault c.of_run-failure.ensures c.told.ensures
+    is_failure c.args.most c.args.limits c.args.document.now c.args.patch.now c.in_ok-text.text.now c.in_ok-text.flat.now failed.fault c.of_run-failure.result c.told.result
+    two.document.0 two.patch.0 two.few c.requires two.patch.1 two.patch.2 failed.ensures.fault c.of_run-failure.ensures c.told.ensures

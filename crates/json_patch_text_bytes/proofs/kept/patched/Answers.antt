@@ -12,5 +12,5 @@ returns-in-Ok-patch-clause-text c =
 pub returns-in-Err-patch-clause-failure : goal.returns-in-Err-patch-clause-failure
 returns-in-Err-patch-clause-failure c =
     let flat = c.in-Ok.ensures.text in let failed = c.in-Err-patch in let k = c.args.kept.now in
-    kept_patch_failure k.limits k.text c.args.patch.now c.in-Ok.flat.now failed.fault c.of_run.result c.named-in-Err-patch.result flat.0 c.requires flat.1 flat.2
+    kept_patch_failure c.args.most k.limits k.text c.args.patch.now c.in-Ok.flat.now failed.fault c.of_run.result c.named-in-Err-patch.result flat.0 c.in-Ok.ensures.few c.requires flat.1 flat.2
     c.limits.ensures.readable failed.ensures.fault c.of_run.ensures c.named-in-Err-patch.ensures

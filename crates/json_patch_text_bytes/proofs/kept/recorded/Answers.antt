@@ -10,5 +10,5 @@ returns-in-Ok-patch_recorded-clause-text c =
 pub returns-in-Err-patch_recorded-clause-failure : goal.returns-in-Err-patch_recorded-clause-failure
 returns-in-Err-patch_recorded-clause-failure c =
     let flat = c.in-Ok.ensures.text in let failed = c.in-Err-patch_recorded in let k = c.args.kept.now in
-    kept_record_failure k.limits k.text c.args.patch.now c.in-Ok.flat.now failed.fault c.of_run.result c.named-in-Err-patch_recorded.result flat.0 c.requires flat.1 flat.2
+    kept_record_failure c.args.most k.limits k.text c.args.patch.now c.in-Ok.flat.now failed.fault c.of_run.result c.named-in-Err-patch_recorded.result flat.0 c.in-Ok.ensures.few c.requires flat.1 flat.2
     c.limits.ensures.readable failed.ensures.fault c.of_run.ensures c.named-in-Err-patch_recorded.ensures

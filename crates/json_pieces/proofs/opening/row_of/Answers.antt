@@ -1,4 +1,5 @@
-use Rattle.std.proofs.Common.{[], sym, subst}
+use Rattle.std.proofs.Common.{[], sym, subst, ap, ◌∙◌}
+use Rattle.json_pieces.specs.Nodes.{shut}
 use Rattle.json_text.specs.Cuts.{IsBehindMark}
 use Rattle.long_vec.specs.Items.{items_of}
 use Rattle.json_pieces.proofs.Levels.{view_closed}
@@ -23,7 +24,7 @@ loop-cut-preserved c =
     let inv = c.loop-cut.invariant in
     let cut = c.in-Some.cut in
     let next = rw c.in-Some-next.is at c.in-Some.ensures.next in
-    let more = pushed (items_of c.loop-cut.seams.all) (items_of c.push.new.self.all) (items_of c.loop-cut.values) (items_of c.push-in-Some.new.self) c.seam_of.result _ cut c.in_ok-push.ensures c.in_ok-push-2.ensures.items inv.sound (view_closed _) c.seam_of.ensures in
+    let more = pushed (items_of c.loop-cut.seams.all) (items_of c.push.new.self.all) (items_of c.loop-cut.values) (items_of c.push-in-Some.new.self) c.seam_of.result _ cut c.in_ok-push.ensures c.in_ok-push-2.ensures.items inv.sound (view_closed _ ∙ ap shut c.kept.ensures) c.seam_of.ensures in
     record {
       low = next.1;
       boundary = next.2;
@@ -39,7 +40,7 @@ returns-in_default-next c =
     let t = c.args.text.now in
     let inv = c.loop-cut.invariant in
     let cut = c.in-Some.cut in
-    let more = pushed (items_of c.loop-cut.seams.all) (items_of c.push.new.self.all) (items_of c.loop-cut.values) (items_of c.push-in-Some.new.self) c.seam_of.result _ cut c.in_ok-push.ensures c.in_ok-push-2.ensures.items inv.sound (view_closed _) c.seam_of.ensures in
+    let more = pushed (items_of c.loop-cut.seams.all) (items_of c.push.new.self.all) (items_of c.loop-cut.values) (items_of c.push-in-Some.new.self) c.seam_of.result _ cut c.in_ok-push.ensures c.in_ok-push-2.ensures.items inv.sound (view_closed _ ∙ ap shut c.kept.ensures) c.seam_of.ensures in
     let (cs, h) = c.requires in
     let s = inv.so_far cs h in
     let f = c.in-Some.ensures.cut s.more (behind_mark t c.args.named cs _ c.loop-cut.from h s) in
@@ -54,4 +55,4 @@ returns c =
     let s = inv.so_far cs h in
     let none = c.in_default.ensures.cut s.more (behind_mark t c.args.named cs _ c.loop-cut.from h s) in
     let p = none_there t c.args.named cs _ _ c.loop-cut.from s none (c.whitespace_at-hollow.ensures c.args.named (subst (λ m. IsBehindMark t c.args.named m c.loop-cut.from) none (behind_mark t c.args.named cs _ c.loop-cut.from h s))) in
-    row_made t c.args.named cs _ (items_of c.loop-cut.seams.all) (items_of c.loop-cut.values) c.row_with-2.result p inv.sound c.row_with-2.ensures.named c.row_with-2.ensures.length c.row_with-2.ensures.hollow c.row_with-2.ensures.seams c.row_with-2.ensures.values
+    row_made t c.args.named cs _ (items_of c.loop-cut.seams.all) (items_of c.loop-cut.values) c.row_with-2.result p inv.sound c.row_with-2.ensures.named c.row_with-2.ensures.length (c.row_with-2.ensures.hollow ∙ c.kept-2.ensures) c.row_with-2.ensures.seams c.row_with-2.ensures.values

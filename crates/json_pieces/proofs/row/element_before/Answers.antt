@@ -5,6 +5,9 @@ use Rattle.json_pieces.specs.Nodes.{text_bytes}
 use Rattle.json_pieces.proofs.Lists.{seams_are}
 use Rattle.json_pieces.proofs.Rows.Parted.{element_before_pieces, element_before_sound}
 use Rattle.json_pieces.proofs.Rows.Puts.{IsLike}
+use Rattle.json_pieces.specs.Held.{row_held}
+use Rattle.json_pieces.proofs.Opened.{opened_itself}
+use Rattle.json_pieces.proofs.Stepped.{on_err}
 use Rattle.json_pieces.proofs.row.element_before.Goals as goal
 
 pub at-requires : goal.at-requires
@@ -54,3 +57,6 @@ returns-clause-sound c =
     } in
     on_ok_weaker c.put_part.result (λ g. element_before_sound r c.put_part.new.row c.around-seam.result c.args.value c.requires.sound c.requires.value n c.like_number-like.result x g (omega (arith, c.requires.within)) z
     (record { whitespace_is = ap text_bytes c.around-seam.ensures.whitespace ∙ c.in_ok-behind.ensures; name_is = c.around-seam.ensures.name; colons_is = c.around-seam.ensures.colons; trail_is = c.around-seam.ensures.trail }) c.requires.array) c.put_part.ensures.put
+
+pub returns-in_err-behind-clause-opened : goal.returns-in_err-behind-clause-opened
+returns-in_err-behind-clause-opened c = on_err c.from_residual.result (opened_itself (row_held c.args.row.now))

@@ -11,9 +11,9 @@ returns-clause-named c = on_ok_weaker c.put_part.result (λ g. g.named) c.put_pa
 pub returns-clause-pieces : goal.returns-clause-pieces
 returns-clause-pieces c =
     on_ok_weaker c.put_part.result (λ g. first_member_pieces c.args.row.now c.put_part.new.row c.labelled-seam.result c.args.value c.requires.sound c.requires.value g c.requires.empty (quoted c.args.name.now)
-    (record { whitespace_is = ap text_bytes c.labelled-seam.ensures.whitespace; name_is = ap text_bytes c.labelled-seam.ensures.name ∙ c.in_ok-quoted.ensures; colons_is = ap text_bytes c.labelled-seam.ensures.colons; trail_is = c.labelled-seam.ensures.trail })) c.put_part.ensures.put
+    (record { whitespace_is = ap text_bytes c.labelled-seam.ensures.whitespace; name_is = ap text_bytes c.labelled-seam.ensures.name ∙ c.in_ok-quoted.ensures; colons_is = ap text_bytes c.labelled-seam.ensures.colons ∙ c.kept.ensures; trail_is = c.labelled-seam.ensures.trail })) c.put_part.ensures.put
 
 pub returns-clause-sound : goal.returns-clause-sound
 returns-clause-sound c =
     on_ok_weaker c.put_part.result (λ g. first_member_sound c.args.row.now c.put_part.new.row c.labelled-seam.result c.args.value c.requires.sound c.requires.value g c.requires.empty c.args.name.now c.requires.object
-    (record { whitespace_is = ap text_bytes c.labelled-seam.ensures.whitespace; name_is = ap text_bytes c.labelled-seam.ensures.name ∙ c.in_ok-quoted.ensures; colons_is = ap text_bytes c.labelled-seam.ensures.colons; trail_is = c.labelled-seam.ensures.trail })) c.put_part.ensures.put
+    (record { whitespace_is = ap text_bytes c.labelled-seam.ensures.whitespace; name_is = ap text_bytes c.labelled-seam.ensures.name ∙ c.in_ok-quoted.ensures; colons_is = ap text_bytes c.labelled-seam.ensures.colons ∙ c.kept.ensures; trail_is = c.labelled-seam.ensures.trail })) c.put_part.ensures.put

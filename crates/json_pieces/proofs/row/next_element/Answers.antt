@@ -4,6 +4,9 @@ use Rattle.long_vec.specs.Items.{items_of}
 use Rattle.json_pieces.specs.Nodes.{text_bytes}
 use Rattle.json_pieces.proofs.Lists.{seams_are}
 use Rattle.json_pieces.proofs.Rows.Parted.{next_element_pieces, next_element_sound}
+use Rattle.json_pieces.specs.Held.{row_held}
+use Rattle.json_pieces.proofs.Opened.{opened_itself}
+use Rattle.json_pieces.proofs.Stepped.{on_err}
 use Rattle.json_pieces.proofs.row.next_element.Goals as goal
 
 pub at-requires : goal.at-requires
@@ -39,3 +42,6 @@ returns-clause-sound c =
     let there : n < length (items_of r.seams.all) = omega (arith, seams_are (items_of r.seams.all) (items_of r.values) c.requires.sound.1, c.requires.some, c.count-count.ensures) in
     on_ok_weaker c.put_part.result (λ g. next_element_sound r c.put_part.new.row c.around-seam.result c.args.value c.requires.sound c.requires.value n c.count-count.result g (omega (arith, c.requires.some, c.count-count.ensures)) (omega (arith, c.count-count.ensures)) c.at.result.now c.at.ensures there c.around-seam.ensures.trail c.requires.array
     (record { whitespace_is = ap text_bytes c.around-seam.ensures.whitespace ∙ c.in_ok-whitespace.ensures; name_is = c.around-seam.ensures.name; colons_is = c.around-seam.ensures.colons; trail_is = c.around-seam.ensures.trail })) c.put_part.ensures.put
+
+pub returns-in_err-whitespace-clause-opened : goal.returns-in_err-whitespace-clause-opened
+returns-in_err-whitespace-clause-opened c = on_err c.from_residual.result (opened_itself (row_held c.args.row.now))

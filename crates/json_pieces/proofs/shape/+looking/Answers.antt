@@ -4,11 +4,14 @@ use Rattle.json_pieces.specs.Nodes.{IsSound, parts_of, row_view, text_bytes, vie
 use Rattle.json_pieces.proofs.Lists.{pieces_in}
 use Rattle.std.specs.Box.{with_value}
 use Rattle.jsonptr.specs.Pointers.{token_of, tokens_left}
-use Rattle.long_vec.specs.Items.{items_of}
+use Rattle.long_vec.specs.Items.{capacity_of, items_of}
+use Rattle.json_pieces.specs.Held.{held, row_held}
 use Rattle.json_pieces.specs.Looks.{Looks}
 use Rattle.json_pieces.specs.declared.node.Node.{the_lemmas}
 use Rattle.json_pieces.specs.declared.node.Node.TheVariants.{Open}
 use Rattle.json_pieces.proofs.Looks.{looked_below, none_looked, still_sound}
+use Rattle.json_pieces.proofs.Opened.{opened_itself, opened_through, opened_trans}
+use Rattle.json_pieces.proofs.Stepped.{value_opened}
 use Rattle.json_pieces.proofs.Walks.{open_sound, open_text, open_whole, put_back, row_made_at, set_same, value_whole}
 use Rattle.json_pieces.proofs.shape.+looking.Goals as goal
 
@@ -52,3 +55,25 @@ shape_at-returns-in-Open-clause-text t c =
 pub shape_at-returns-in-Open-clause-looks : goal.shape_at-returns-in-Open-clause-looks
 shape_at-returns-in-Open-clause-looks t c =
     row_made_at c.shape_in.result (λ P found text j new. Looks j P found) c.args.node.now c.open.new.node (Open (with_value c.in-Open.row c.shape_in.new.row)) c.deref_mut.result.now c.in-Open.row (with_value c.in-Open.row c.shape_in.new.row) _ _ c.in-Some.ensures.steps c.in_ok-open.ensures.text (c.deref_mut.ensures.value ∙ ap (λ b. b.value) c.in-Open.row-is) c.in-Open.is refl c.shape_in.ensures.looks
+
+pub shape_at-returns-in_default-clause-finer : goal.shape_at-returns-in_default-clause-finer
+shape_at-returns-in_default-clause-finer t c = opened_itself (held c.args.node.now)
+
+pub shape_at-returns-in-Open-clause-finer : goal.shape_at-returns-in-Open-clause-finer
+shape_at-returns-in-Open-clause-finer t c =
+    opened_trans (held c.args.node.now) (held c.open.new.node) _ c.in_ok-open.ensures.finer
+    (opened_through c.open.new.node _ c.in-Open.row (with_value c.in-Open.row c.shape_in.new.row) c.deref_mut.result.now c.in-Open.is (search (rules, the_lemmas)) (c.deref_mut.ensures.value ∙ ap (λ b. b.value) c.in-Open.row-is) c.shape_in.ensures.finer)
+
+pub shape_in-returns-in_err-name-clause-finer : goal.shape_in-returns-in_err-name-clause-finer
+shape_in-returns-in_err-name-clause-finer t c = opened_itself (row_held c.args.row.now)
+
+pub shape_in-returns-in_default-clause-finer : goal.shape_in-returns-in_default-clause-finer
+shape_in-returns-in_default-clause-finer t c = opened_itself (row_held c.args.row.now)
+
+pub shape_in-returns-clause-finer : goal.shape_in-returns-clause-finer
+shape_in-returns-clause-finer t c =
+    let r = c.args.row.now in
+    let n = c.in-Some.number in
+    let w = c.shape_at-found.new.node in
+    let left = put_back (items_of r.values) _ _ n _ w c.exchange-value.ensures.items c.exchange.ensures.items in
+    value_opened r n c.exchange-value.result w c.in-Some.ensures.within c.exchange-value.ensures.value (items_of c.exchange.new.self) r.length (capacity_of c.exchange.new.self) left (c.exchange.ensures.capacity ∙ c.exchange-value.ensures.capacity) refl c.shape_at-found.ensures.finer

@@ -1,15 +1,29 @@
-use Rattle.std.proofs.Common.{◌∙◌}
-use Rattle.json_text.proofs.Along.{turn, within}
+use Rattle.std.proofs.Common.{◌≡◌, ◌-◌, [], None, take, drop, refl, sym, subst, ◌∙◌, append-nil}
+use Rattle.std.proofs.lemmas.Str.{IsCharBoundary-start}
+use Rattle.std.specs.Prelude.{MatchOption}
+use Rattle.jsonptr.specs.Pointers.{tokens_of}
+use Rattle.json_lexemes.specs.Found.{Stands}
+use Rattle.json_lexemes.specs.Spelled.{Says, spelled}
+use Rattle.json_text.specs.Pointed.{tree_at, StandsBetween}
+use Rattle.json_text.specs.Ways.{placed}
+use Rattle.json_text.proofs.Ways.{stands_between}
 use Rattle.json_text.proofs.reading.find.Goals as goal
 
-pub loop-token-preserved : goal.loop-token-preserved
-loop-token-preserved c =
-    let t = c.args.text.now in
-    let here = c.as_bytes-in-loop-token.ensures.value ∙ c.range-here.ensures.value in
-    let start = c.within-place.ensures.start in
-    let end = c.within-place.ensures.end in
-    record {
-      within = within t _ c.loop-token.place c.in-Some-child.inner c.within-place.result c.loop-token.invariant.within c.in-Some-child.ensures.within c.as_bytes-in-loop-token.ensures.utf8 here start end;
-      at = λ j says. turn t _ _ c.loop-token.place c.in-Some-child.inner c.within-place.result j _ _ _ _ c.loop-token.invariant.within c.in-Some-child.ensures.within start end here (c.as_str.ensures.value ∙ c.in_ok-decode_into.ensures.text) c.in-Some.ensures.steps (c.loop-token.invariant.at j says) c.in-Some-child.ensures.child;
-      goes = _;
-    }
+pub follow-requires : goal.follow-requires
+follow-requires c = record {
+  fits = c.whitespace_end-start.ensures.bounds.1;
+  begins = c.whitespace_end-start.ensures.between refl;
+  solid = c.whitespace_end-start.ensures.stops;
+  boundary = λ u. c.whitespace_end-start.ensures.boundary u (IsCharBoundary-start c.as_bytes-bytes.result.now u);
+}
+
+pub returns-clause-found : goal.returns-clause-found
+returns-clause-found c = λ j says.
+    let t = c.as_bytes-bytes.result.now in
+    let e = c.as_bytes-bytes.ensures.value in
+    let P = tokens_of c.args.pointer in
+    let found = c.in_ok-way.way.found in
+    let there : Says t j = subst (λ u. Says u j) (sym e) says in
+    let led = c.in_ok-way.ensures.leads j [] (c.whitespace_end-start.ensures.left ∙ there ∙ sym (append-nil (spelled j))) in
+    let stands : Stands t found (placed P j []) = subst (λ Q. Stands t found (placed Q j [])) c.tokens.ensures.value led.0 in
+    subst (λ u. MatchOption found (tree_at P j ≡ None) (λ s. StandsBetween (take s.start u) (take (s.end - s.start) (drop s.start u)) (drop s.end u) j P)) e (stands_between t j P found there stands c.in_ok-way.ensures.on.place)

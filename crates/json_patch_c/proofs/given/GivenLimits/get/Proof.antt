@@ -47,8 +47,8 @@ use Rattle.std.proofs.raw_atomic.Walks.{proved}
 use Rattle.std.proofs.alloc.Shapes.{after}
 use Rattle.json_patch_c.specs.Given.{Given, readable, word_count}
 use Rattle.json_patch_c.specs.Limits.{named_limits}
-use Rattle.json_patch_limits.specs.contracts.limits.Limits.{the_row as Limits}
-use Rattle.json_patch_limits.proofs.limits.Limits.TheLaws.{the_row_laws as limits_laws}
+use Rattle.json_patch_c.specs.contracts.given.CallLimits.{the_row as CallLimits}
+use Rattle.json_patch_c.proofs.given.CallLimits.TheLaws.{the_row_laws as limits_laws}
 use Rattle.json_patch_c.specs.contracts.given.WrongSize.{the_row as WrongSize}
 use Rattle.json_patch_c.proofs.given.WrongSize.TheLaws.{the_row_laws as wrong_laws}
 use Rattle.json_patch_c.specs.contracts.given.GivenLimits.{the_row as G}
@@ -66,7 +66,7 @@ stayed = (stay_dropped (plain (λ _. G)) yes, tt)
 
 -- what `named` returns
 abbrev X : RattleType
-X = RE.the_row Limits WrongSize
+X = RE.the_row CallLimits WrongSize
 
 pub get_spec : {M : Type 1} → statement M
 get_spec 𝓤 𝓛 𝓜 𝓡 wired =
@@ -116,7 +116,7 @@ get_spec 𝓤 𝓛 𝓜 𝓡 wired =
     calls_at ! fr Of (of_thm.met 𝓤 𝓛 𝓜 𝓡 (code.calls-json_patch_c::given::named 𝓡.env wired)) zo (and_then ! (get ! refl) (and_then ! (get ! refl) (no_more !))) (λ w.
     use1 𝓛 (later (some (λ (x : X.Denot). ((‵ (flft κ full_share) ⊛ ‵ ftrue) ⊛ ‵ (X.own_val x (w ∷ []))) ⊛ some (λ (us : Unit {0} × (Unit {0} × Unit {0})). ‵ (lasts of.ended (κ, tt) (n, (sl, tt)) us) ⊛ raw (fact 𝓤 (x ≡ named_limits n ws)))))) (id⊢ 𝓤 _) $
     await ! tt $ pick ! (λ x. split ! $ move ! (1 ∷ []) $ pick ! (λ us. split ! $ drop ! $ heard ! _ (λ named_is. split ! $ drop ! $
-    peeks ! X (Is X) (shows 𝓛 X) x (w ∷ []) (λ is. let ok : Good (layout X) w = (((result_laws Limits WrongSize limits_laws wrong_laws).lawful 𝓛).typed x (w ∷ []) is).0 in
+    peeks ! X (Is X) (shows 𝓛 X) x (w ∷ []) (λ is. let ok : Good (layout X) w = (((result_laws CallLimits WrongSize limits_laws wrong_laws).lawful 𝓛).typed x (w ∷ []) is).0 in
     lands_as ! refl refl ok $ let out : Val = live 1 (of_list (w ∷ [])) in let some_ok : Good (layout (OP.the_row X)) out = (and_tt _ ok.0, (record { fits = lit< tt }, (ok.1, tt))) in
     use1 𝓛 (‵ ((OP.the_row X).own_val (Some x) (out ∷ []))) (Some-of 𝓛 X x w) $
     sets_last ! (agg ! (and_then ! (lit ! tt) (and_then ! (get ! refl) (no_more !)))) refl some_ok $

@@ -1,0 +1,123 @@
+/* A kept document of some rows, from C: what it takes to open, change, look at and close it, beside one call of
+ * json_patch_apply on its text.
+ *
+ *     cc -O2 -Ic/out/include -o /tmp/kept bench/kept.c c/out/lib/libjson_patch.a && /tmp/kept [ROWS]
+ *
+ * Of changes the mean of 1,000 is told, at random rows. Times are the processor's, memory is what the process has
+ * beyond the text. */
+#define _POSIX_C_SOURCE 200809L
+#include <json_patch.h>
+#include <stdio.h>
+#include <stdlib.h>
+#include <string.h>
+#include <time.h>
+
+enum { TIMES = 1000 };
+
+static char *text, *room, out[1000];
+static size_t size, capacity;
+static int rows;
+static json_patch_document kept = JSON_PATCH_DOCUMENT;
+static json_patch_report report;
+
+static double now(void) {
+    struct timespec time;
+    clock_gettime(CLOCK_PROCESS_CPUTIME_ID, &time);
+    return (double)time.tv_sec * 1e6 + (double)time.tv_nsec / 1e3;
+}
+
+static long kilobytes(void) {
+    long all = 0, resident = 0;
+    FILE *file = fopen("/proc/self/statm", "r");
+    if (!file || fscanf(file, "%ld %ld", &all, &resident) != 2)
+        exit(1);
+    fclose(file);
+    return resident * 4;
+}
+
+static void make_text(void) {
+    capacity = (size_t)rows * 100 + 100;
+    text = malloc(capacity);
+    room = malloc(capacity);
+    size = (size_t)sprintf(text, "{\"rows\": [");
+    for (int i = 0; i < rows; i++)
+        size += (size_t)sprintf(text + size, "%s{\"id\": %d, \"name\": \"row %d\", \"price\": %d.50, \"tags\": [1, 2]}",
+                                i ? ", " : "", i, i, i % 1000);
+    size += (size_t)sprintf(text + size, "]}");
+}
+
+/* The patch, with a number of a row for each %d. */
+static const char *patch(const char *form) {
+    static char made[400];
+    sprintf(made, form, rand() % (rows - 1), rand() % (rows - 1));
+    return made;
+}
+
+static void wants(json_patch_status status, json_patch_status wanted) {
+    if (status != wanted) {
+        printf("status %d, not %d\n", (int)status, (int)wanted);
+        exit(1);
+    }
+}
+
+static void change(const char *form, json_patch_status wanted) {
+    const char *made = patch(form);
+    wants(json_patch_update(&kept, made, strlen(made), out, sizeof out, &report), wanted);
+}
+
+static void tell(const char *what, double begun, int times) {
+    printf("%-40s %10.1f us\n", what, (now() - begun) / times);
+}
+
+static void changes(const char *what, const char *form, json_patch_status wanted) {
+    double begun = now();
+    for (int i = 0; i < TIMES; i++)
+        change(form, wanted);
+    tell(what, begun, TIMES);
+}
+
+static void undone(void) {
+    double begun = now();
+    for (int i = 0; i < TIMES; i++) {
+        const char *made = patch("[{\"op\":\"replace\",\"path\":\"/rows/%d/price\",\"value\":%d}]");
+        wants(json_patch_update_recorded(&kept, made, strlen(made), out, sizeof out, &report), JSON_PATCH_OK);
+        wants(json_patch_undo(&kept, &report), JSON_PATCH_OK);
+    }
+    tell("a replace recorded, and undone", begun, TIMES);
+}
+
+int main(int count, char **words) {
+    const char *replace = "[{\"op\":\"replace\",\"path\":\"/rows/%d/price\",\"value\":%d}]";
+    rows = count > 1 ? atoi(words[1]) : 145000;
+    make_text();
+    long before = kilobytes();
+    double begun = now();
+    wants(json_patch_open(&kept, text, size, NULL, &report), JSON_PATCH_OK);
+    tell("open", begun, 1);
+    printf("%zu bytes of text, %ld kB\n", size, kilobytes() - before);
+    begun = now();
+    change(replace, JSON_PATCH_OK);
+    tell("the first replace", begun, 1);
+    changes("a replace", replace, JSON_PATCH_OK);
+    undone();
+    changes("a remove and an add, refused by a test",
+            "[{\"op\":\"remove\",\"path\":\"/rows/%d\"},{\"op\":\"add\",\"path\":\"/rows/%d\",\"value\":7},"
+            "{\"op\":\"test\",\"path\":\"/rows/0\",\"value\":8}]", JSON_PATCH_REFUSED);
+    changes("a remove and an add", "[{\"op\":\"remove\",\"path\":\"/rows/%d\"},{\"op\":\"add\",\"path\":\"/rows/%d\",\"value\":7}]",
+            JSON_PATCH_OK);
+    printf("%ld kB\n", kilobytes() - before);
+    begun = now();
+    wants(json_patch_value_at(&kept, "/rows/7", 7, out, sizeof out, &report), JSON_PATCH_OK);
+    tell("a value", begun, 1);
+    begun = now();
+    wants(json_patch_text(&kept, room, capacity, &report), JSON_PATCH_OK);
+    tell("the text", begun, 1);
+    begun = now();
+    json_patch_close(&kept);
+    tell("close", begun, 1);
+    const char *made = patch(replace);
+    begun = now();
+    wants(json_patch_apply(text, size, made, strlen(made), NULL, room, capacity, &report), JSON_PATCH_OK);
+    tell("json_patch_apply of one replace", begun, 1);
+    return 0;
+}

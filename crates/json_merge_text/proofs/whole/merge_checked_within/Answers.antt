@@ -1,0 +1,13 @@
+use Rattle.std.proofs.Common.{rules, string_bytes}
+use Rattle.json_merge_text.proofs.Merges.{as_deep, says_merged}
+use Rattle.json_merge_text.proofs.Unchanged.{nothing_changed}
+use Rattle.json_merge_text.proofs.whole.merge_checked_within.Goals as goal
+
+pub returns-clause-merged : goal.returns-clause-merged
+returns-clause-merged c = says_merged c.args.text.text.now c.args.patch.now (string_bytes c.in_ok-to_text.field-0) (search rules)
+
+pub returns-clause-unchanged : goal.returns-clause-unchanged
+returns-clause-unchanged c = nothing_changed c.args.text.text.now c.args.patch.now (string_bytes c.in_ok-to_text.field-0) (search rules)
+
+pub returns-clause-depth : goal.returns-clause-depth
+returns-clause-depth c = as_deep c.args.text.text.now c.args.patch.now (string_bytes c.in_ok-to_text.field-0) (search rules)
