@@ -144,11 +144,7 @@ pub fn differing(alloc: Global, kept: &KeptText, to: &[u8]) -> Result<String, Fa
 /// The text of the value where the pointer leads in the text (RFC 6901), as it is written there.
 ///
 /// `NoPointer` where the pointer's bytes are none; `Document` where memory runs out.
-pub fn value_at(
-    alloc: Global,
-    kept: &mut KeptText,
-    pointer: &[u8],
-) -> Result<String, LookupFault>
+pub fn value_at(alloc: Global, kept: &mut KeptText, pointer: &[u8]) -> Result<String, LookupFault>
     ensures value { IfOk result
         (λ s. IsValueAt kept.old.limits.depth kept.old.text pointer.now (string_bytes s)) }
     ensures fault { IfErr result

@@ -184,9 +184,7 @@ fn back_below<'a>(row: &mut Row<'a>, place: &[Level], steps: Vec<Back<'a>>)
     ensures { (p : Held) → IsBackAt place.now steps.entry.items (row_held row.old) p → row_held row.new ≡ p }
 {
     let level = place[0];
-    let mut value = row
-        .values
-        .exchange(level.number, Node::Closed(Text::Empty));
+    let mut value = row.values.exchange(level.number, Node::Closed(Text::Empty));
     back_at(&mut value, &place[1..], steps);
     row.values.exchange(level.number, value);
     row.length = level.length;

@@ -46,11 +46,11 @@ returns-clause-back c =
     let work = c.edit_at-found.new.work in
     let led : is_on c.ready.new.self ≡ true → IsLed work.steps.items [] work.place.items old new = λ on. subst (λ l. IsLed work.steps.items l work.place.items old new) c.new-work.ensures.place (c.edit_at-found.ensures.led (c.new-work.ensures.logged ∙ c.is_on.ensures ∙ on)) in (
       λ t b.
-      let q = more_leads c.ready.new.self c.keep.new.self work.place.items work.steps.items old new b.then led c.keep.ensures (same_leads s.log c.ready.new.self old b.then c.ready.ensures.same b.leads) in
-      record { then = q.0; leads = q.1; text_is = b.text_is ∙ text_stays (text_bytes s.before) (text_bytes s.behind) b.then q.0 q.2 },
+          let q = more_leads c.ready.new.self c.keep.new.self work.place.items work.steps.items old new b.then led c.keep.ensures (same_leads s.log c.ready.new.self old b.then c.ready.ensures.same b.leads) in
+          record { then = q.0; leads = q.1; text_is = b.text_is ∙ text_stays (text_bytes s.before) (text_bytes s.behind) b.then q.0 q.2 },
       λ t b.
-      let q = more_twice c.ready.new.self c.keep.new.self work.place.items work.steps.items old new b.then led c.keep.ensures (same_twice s.log c.ready.new.self old b.then c.ready.ensures.same b.leads) in
-      record { then = q.0; leads = q.1; text_is = b.text_is ∙ text_stays (text_bytes s.before) (text_bytes s.behind) b.then q.0 q.2 },
+          let q = more_twice c.ready.new.self c.keep.new.self work.place.items work.steps.items old new b.then led c.keep.ensures (same_twice s.log c.ready.new.self old b.then c.ready.ensures.same b.leads) in
+          record { then = q.0; leads = q.1; text_is = b.text_is ∙ text_stays (text_bytes s.before) (text_bytes s.behind) b.then q.0 q.2 },
     )
 
 pub returns-clause-makes : goal.returns-clause-makes

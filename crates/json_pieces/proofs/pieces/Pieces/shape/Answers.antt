@@ -21,11 +21,11 @@ pub returns-clause-back : goal.returns-clause-back
 returns-clause-back c =
     let s = c.args.self.now in (
       λ t b.
-      let q = finer_leads s.log (held s.root) (held c.shape_at.new.node) b.then c.shape_at.ensures.finer b.leads in
-      record { then = q.0; leads = q.1; text_is = b.text_is ∙ text_stays (text_bytes s.before) (text_bytes s.behind) b.then q.0 q.2 },
+          let q = finer_leads s.log (held s.root) (held c.shape_at.new.node) b.then c.shape_at.ensures.finer b.leads in
+          record { then = q.0; leads = q.1; text_is = b.text_is ∙ text_stays (text_bytes s.before) (text_bytes s.behind) b.then q.0 q.2 },
       λ t b.
-      let q = finer_twice s.log (held s.root) (held c.shape_at.new.node) b.then c.shape_at.ensures.finer b.leads in
-      record { then = q.0; leads = q.1; text_is = b.text_is ∙ text_stays (text_bytes s.before) (text_bytes s.behind) b.then q.0 q.2 },
+          let q = finer_twice s.log (held s.root) (held c.shape_at.new.node) b.then c.shape_at.ensures.finer b.leads in
+          record { then = q.0; leads = q.1; text_is = b.text_is ∙ text_stays (text_bytes s.before) (text_bytes s.behind) b.then q.0 q.2 },
     )
 
 pub returns-clause-shape : goal.returns-clause-shape
