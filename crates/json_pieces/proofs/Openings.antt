@@ -231,22 +231,3 @@ as_array (array js) s e f = (elements_children js, ap array (sym (elements_back 
 
 pub row_text_of : (t : List ℕ) (b : Bool) (j : Json) → IsTextOf t j → (cs : List Child) × (j ≡ tree_in b cs) → (cs : List Child) × IsTextOf t (tree_in b cs)
 row_text_of t b j h (cs, e) = (cs, subst (IsTextOf t) e h)
-
--- ---- a row of texts of its own
-
-pub one_owned : (ss rest own_seams new_seams : List Seam) (vs behind own_values new_values : List Node) (s own : Seam) (v w : Node) (text : List ℕ) (whole : List Piece) → IsFirstPart ss vs s v rest behind
-    → AreSoundIn own_seams own_values → pieces_in own_seams own_values ++ pieces_in ss vs ≡ whole → new_seams ≡ own_seams ++ (own ∷ []) → new_values ≡ own_values ++ (w ∷ []) → view w ≡ shut text → text ≡ tree_text (view v) → ((x : List ℕ) → piece_with own x ≡ piece_with s x)
-    → AreSoundIn new_seams new_values × (pieces_in new_seams new_values ++ pieces_in rest behind ≡ whole)
-one_owned ss rest own_seams new_seams vs behind own_values new_values s own v w text whole f g same p q seen is alike =
-    let sound : AreSoundIn (own_seams ++ (own ∷ [])) (own_values ++ (w ∷ [])) = push_sound own_seams own_values own w g (subst IsSound (sym seen) tt) in
-    let so_far = pieces_in own_seams own_values in (
-      subst (λ x. AreSoundIn x new_values) (sym p) (subst (λ x. AreSoundIn (own_seams ++ (own ∷ [])) x) (sym q) sound),
-      ap (λ l. l ++ pieces_in rest behind) (ap₂ pieces_in p q ∙ push_pieces own_seams own_values own w g ∙ ap (λ x. so_far ++ (x ∷ [])) (ap (λ x. piece_with own (tree_text x)) seen ∙ alike text ∙ ap (piece_with s) is))
-          ∙ append_assoc so_far (piece_with s (tree_text (view v)) ∷ []) (pieces_in rest behind) ∙ ap (λ ps. so_far ++ ps) (sym (ap₂ pieces_in f.seam f.value)) ∙ same,
-    )
-
-pub row_same : (r new : Row) (ss left : List Seam) (vs behind : List Node) → IsSound (row_view r) → AreSoundIn ss vs → pieces_in ss vs ++ pieces_in left behind ≡ pieces_in (items_of r.seams.all) (items_of r.values) → behind ≡ [] → new.named ≡ r.named → new.length ≡ r.length → text_bytes new.hollow ≡ text_bytes r.hollow → items_of new.seams.all ≡ ss → items_of new.values ≡ vs → IsRowOf (tree_text (row_view r)) new
-row_same r new ss left vs behind h g same none named size whitespace seams values =
-    let all : pieces_in ss vs ≡ pieces_in (items_of r.seams.all) (items_of r.values) = sym (append-nil (pieces_in ss vs)) ∙ ap (λ ps. pieces_in ss vs ++ ps) (sym (no_pieces left behind (ap length none))) ∙ same in
-    row_made (tree_text (row_view r)) r.named h.0.cs (text_bytes r.hollow) ss vs new
-    (record { is = ap (row_text r.named (text_bytes r.hollow)) all; suit = subst (AllSuit r.named h.0.cs) (sym all) h.0.suit; whitespace = h.0.whitespace }) g named (size ∙ h.0.size) whitespace seams values

@@ -2,7 +2,7 @@
 
 ghost use Rattle.std.specs.Prelude.{◌≡◌, IfOk, MatchOption, OnOk, List, length, ℕ};
 ghost use Rattle.json.specs.Json.{Json};
-ghost use Rattle.json_pieces.specs.Nodes.{IsOpened, IsRowOf, IsSound, IsWhole, piece_with, row_view, text_bytes, tree_text, view};
+ghost use Rattle.json_pieces.specs.Nodes.{IsOpened, IsRowOf, IsWhole, piece_with, row_view, text_bytes, tree_text, view};
 ghost use Rattle.json_pieces.specs.Finer.{IsOpenedFrom};
 ghost use Rattle.json_pieces.specs.Held.{held, row_held};
 ghost use Rattle.json_pieces.specs.declared.node.Node.TheVariants.{Closed};
@@ -14,7 +14,7 @@ ghost use Rattle.json_text.specs.Rows.{Child, tree_in};
 ghost use Rattle.json_lexemes.specs.Spelled.{Says};
 ghost use Rattle.long_vec.specs.Items.{items_of};
 
-use crate::node::{Node, Row, written};
+use crate::node::{Node, Row};
 use crate::seams::{Seam, Seams};
 use crate::text::Text;
 use json_text::{Cut, Shape, cut_at, whitespace_at};
@@ -76,46 +76,49 @@ fn row_with<'a>(
     }
 }
 
-/// The row of a text; `None` where that is neither an object nor an array.
-fn opened<'a>(alloc: Global, text: &'a str) -> Result<Option<Row<'a>>, AllocError>
-    requires { (j : Json) × IsTextOf text.now j }
-    ensures { IfOk result (λ found. MatchOption found ((j : Json) → Says text.now j → IsLeaf j)
-        (IsRowOf text.now)) }
-{
-    match Shape::of(text) {
-        Shape::Object => Ok(Some(row_of(alloc, text, true)?)),
-        Shape::Array => Ok(Some(row_of(alloc, text, false)?)),
-        _ => Ok(None),
-    }
-}
-
-/// The same, of texts of its own.
-fn owned_seam<'a>(alloc: Global, seam: &Seam<'_>) -> Result<Seam<'a>, AllocError>
-    ensures { IfOk result (λ own. (x : List ℕ) → piece_with own x ≡ piece_with seam.now x) }
+/// What stands around a value in its text, copied.
+fn copied_seam<'a>(alloc: Global, cut: &Cut<'_>) -> Result<Seam<'a>, AllocError>
+    ensures { IfOk result (λ seam. piece_with seam cut.now.value.now ≡ piece_of cut.now) }
 {
     Ok(Seam {
-        whitespace: Text::made(alloc, seam.whitespace.as_str())?,
-        name: Text::made(alloc, seam.name.as_str())?,
-        colons: Text::made(alloc, seam.colons.as_str())?,
-        trail: Text::made(alloc, seam.trail.as_str())?,
+        whitespace: Text::made(alloc, cut.whitespace)?,
+        name: Text::made(alloc, cut.name)?,
+        colons: Text::made(alloc, cut.colons)?,
+        trail: Text::made(alloc, cut.trail)?,
     })
 }
 
-/// The same row, of texts of its own.
-fn owned<'a>(alloc: Global, row: &Row<'_>) -> Result<Row<'a>, AllocError>
-    requires { IsSound (row_view row.now) }
-    ensures { IfOk result (IsRowOf (tree_text (row_view row.now))) }
+/// As `row_of`, but of copies, since the text goes.
+fn copied<'a>(alloc: Global, text: &str, named: bool) -> Result<Row<'a>, AllocError>
+    requires { (cs : List Child) × IsTextOf text.now (tree_in named cs) }
+    ensures { IfOk result (IsRowOf text.now) }
 {
     let mut seams = Seams::new(alloc);
     let mut values = LongVec::new(alloc);
-    let mut parts = row.parts();
-    while let Some((seam, value)) = parts.next() {
-        let text = written(alloc, value)?;
-        seams.push(owned_seam(alloc, seam)?)?;
-        values.push(Node::Closed(Text::Made(text)))?;
+    let mut from = 1;
+    while let Some(cut) = cut_at(text, from, named) {
+        seams.push(copied_seam(alloc, &cut)?)?;
+        values.push(Node::Closed(Text::made(alloc, cut.value)?))?;
+        let Some(next) = cut.next else {
+            return Ok(row_with(text.len(), named, Text::Empty, (seams, values)));
+        };
+        from = next;
     }
-    let hollow = Text::made(alloc, row.hollow.as_str())?;
-    Ok(row_with(row.length, row.named, hollow, (seams, values)))
+    let hollow = Text::made(alloc, whitespace_at(text, from))?;
+    Ok(row_with(text.len(), named, hollow, (seams, values)))
+}
+
+/// Whether a text is an object, with names, or an array; `None` where it is neither.
+fn has_names(text: &str) -> Option<bool>
+    requires { (j : Json) × IsTextOf text.now j }
+    ensures { MatchOption result ((j : Json) → Says text.now j → IsLeaf j)
+        (λ named. (cs : List Child) × IsTextOf text.now (tree_in named cs)) }
+{
+    match Shape::of(text) {
+        Shape::Object => Some(true),
+        Shape::Array => Some(false),
+        _ => None,
+    }
 }
 
 /// The row of a value that is closed, if it is an object or an array.
@@ -124,14 +127,15 @@ fn row_for<'a>(alloc: Global, node: &Node<'a>) -> Result<Option<Row<'a>>, AllocE
     ensures { IfOk result (λ found. MatchOption found (IsOpened (view node.now))
         (IsRowOf (tree_text (view node.now)))) }
 {
-    match node {
-        Node::Open(_) => Ok(None),
-        Node::Closed(Text::Empty) => opened(alloc, ""),
-        Node::Closed(Text::Kept(text)) => opened(alloc, text.as_str()),
-        Node::Closed(Text::Made(text)) => match opened(alloc, text.as_str())? {
-            Some(row) => Ok(Some(owned(alloc, &row)?)),
-            None => Ok(None),
-        },
+    let Node::Closed(text) = node else {
+        return Ok(None);
+    };
+    let Some(named) = has_names(text.as_str()) else {
+        return Ok(None);
+    };
+    match text {
+        Text::Kept(text) => Ok(Some(row_of(alloc, text.as_str(), named)?)),
+        _ => Ok(Some(copied(alloc, text.as_str(), named)?)),
     }
 }
 
