@@ -1,8 +1,8 @@
 -- The marks of an index: what they say of a name, and what stays of them when a seam comes behind the last or is taken out.
-use Rattle.std.proofs.Common.{◌≡◌, ℕ, zero, suc, ◌+◌, ◌<◌, ◌≤◌, ◌^◌, ◌⊎◌, inl, inr, Bool, true, false, cond, List, [], ◌∷◌, ◌++◌, length, get_or, Option, Some, None, eqb, eqb-true, ltb, ltb-false, ltb-true, not, refl, sym, ap, ap₂, ◌∙◌, subst, arith}
+use Rattle.std.proofs.Common.{◌≡◌, ℕ, zero, suc, ◌+◌, ◌<◌, ◌≤◌, ◌^◌, ◌⊎◌, inl, inr, Bool, true, false, cond, List, [], ◌∷◌, ◌++◌, length, get_or, slice_index_or, Option, Some, None, eqb, eqb-true, ltb, ltb-false, ltb-true, not, refl, sym, ap, ap₂, ◌∙◌, subst, arith}
 use Rattle.std.specs.Prelude.{IfSome, OnOk, Result, Ok, Err, is_ok, option_map}
 use Rattle.std.specs.Option.{option_eq}
-use Rattle.std.specs.List.{remove}
+use Rattle.std.specs.List.{insert, remove}
 use Rattle.std.specs.List.Sorted.{IsNonDecreasingBy, IsPartitionPoint, IsPartitionedBy}
 use Rattle.std.specs.BTreeMap.{get_by_text}
 use Rattle.std.specs.Str.{bytes_eq}
@@ -14,7 +14,7 @@ use Rattle.std.proofs.lemmas.Slice.Eq.{bytes_eq-Decides}
 use Rattle.json_lexemes.specs.Found.{or_else}
 use Rattle.json_text.specs.Rows.{Child, last_named}
 use Rattle.long_vec.specs.Items.{items_of}
-use Rattle.json_pieces.specs.Marks.{AreMarks, Fits, Keys, names_of, with_key}
+use Rattle.json_pieces.specs.Marks.{AreMarks, Fits, IsKeyFor, Keys, key_of, names_of, with_key}
 use Rattle.json_pieces.specs.declared.index.Mark.{Mark}
 use Rattle.json_pieces.specs.declared.index.NameIndex.{NameIndex}
 use Rattle.json_pieces.proofs.Naming.{bytes_same, named_within}
@@ -219,25 +219,118 @@ at_latest cs ms g top k i key is bound point a =
       | inr over ↦ let same : x ≡ y = omega (arith, l, over) in omega (arith, ap (key_at ms) same)
     ]
 
+-- ---- a seam comes back
+
+-- the last key of a name is not below one that was known
+later_known : (f : Keys) (low : ℕ) (ns : List (List ℕ)) (ms : List Mark) (g : Keys) (top : ℕ) (n : List ℕ) (key : ℕ) → f n ≡ Some key → key ≤ low → AreMarks f low ns ms g top → (b : ℕ) × (g n ≡ Some b) × (key ≤ b)
+later_known f low [] [] g top n key e l a = (key, a.1 n ∙ e, omega arith)
+later_known f low [] (m ∷ ms) g top n key e l a = absurd a
+later_known f low (x ∷ ns) [] g top n key e l a = absurd a
+later_known f low (x ∷ ns) (m ∷ ms) g top n key e l a =
+    elim (same_or x n) [
+      | inl s ↦ let (b, is, more) = later_known (with_key f x m.key) (suc m.key) ns ms g top n m.key (at_it f x n m.key s) (omega arith) a.2 in (b, is, omega (arith, l, a.0, more))
+      | inr d ↦ later_known (with_key f x m.key) (suc m.key) ns ms g top n key (elsewhere f x n m.key d ∙ e) (omega (arith, l, a.0)) a.2
+    ]
+
+-- of a name whose last one stands before these marks, that one is known
+remembered : (f e : Keys) (lo : ℕ) (ns : List (List ℕ)) (ms : List Mark) (g : Keys) (top : ℕ) (h : Keys) (n : List ℕ) (key : ℕ) → ((k : List ℕ) → e k ≡ with_key f n key k) → key < lo → ((b : ℕ) → g n ≡ Some b → b < key) → ((k : List ℕ) → h k ≡ with_key g n key k)
+    → AreMarks f lo ns ms g top → AreMarks e lo ns ms h top
+remembered f e lo [] [] g top h n key is below gone new a = (a.0, λ k. new k ∙ ap (λ o. cond (bytes_eq n k) (Some key) o) (a.1 k) ∙ sym (is k))
+remembered f e lo [] (m ∷ ms) g top h n key is below gone new a = absurd a
+remembered f e lo (x ∷ ns) [] g top h n key is below gone new a = absurd a
+remembered f e lo (x ∷ ns) (m ∷ ms) g top h n key is below gone new a =
+    (a.0, a.1 ∙ sym (is x ∙ elsewhere f n x key other), remembered (with_key f x m.key) (with_key e x m.key) (suc m.key) ns ms g top h n key (λ k. swapped f e n x k key m.key other (is k)) (omega (arith, below, a.0)) gone new a.2)
+  where
+    by : (n ≡ x) ⊎ (bytes_eq n x ≡ false) → bytes_eq n x ≡ false
+    by (inl s) =
+        let (b, last, more) = later_known (with_key f x m.key) (suc m.key) ns ms g top n m.key (at_it f x n m.key (sym s)) (omega arith) a.2 in
+        absurd (omega (arith, below, a.0, more, gone b last))
+    by (inr d) = d
+
+    other : bytes_eq n x ≡ false
+    other = by (same_or n x)
+
+-- behind the mark before it
+abbrev IsBehind : ℕ → List Mark → ℕ → ℕ → Type 0
+IsBehind low ms zero key = low ≤ key
+IsBehind low ms (suc j) key = key_at ms j < key
+
+behind_next : (low : ℕ) (m : Mark) (ms : List Mark) (i key : ℕ) → IsBehind low (m ∷ ms) (suc i) key → IsBehind (suc m.key) ms i key
+behind_next low m ms zero key h = h
+behind_next low m ms (suc i) key h = h
+
+-- what is known before a mark to come, of its name, is what is known behind the others
+known_there : (f : Keys) (low : ℕ) (ns : List (List ℕ)) (ms : List Mark) (g : Keys) (top : ℕ) (n : List ℕ) (key : ℕ) → AreBelow f low → ((b : ℕ) → g n ≡ Some b → b < key) → key ≤ low → AreMarks f low ns ms g top → g n ≡ f n
+known_there f low ns ms g top n key b gone l a = by (g n) refl (f n) refl
+  where
+    by : (o : Option ℕ) → g n ≡ o → (r : Option ℕ) → f n ≡ r → o ≡ r
+    by None e None d = refl
+    by None e (Some x) d = let (y, is, more) = later_known f low ns ms g top n x d (let z = b n x d in omega (arith, z)) a in absurd (none-some y (sym e ∙ is))
+    by (Some y) e r d = sym (known_before f low ns ms g top n y e (omega (arith, gone y e, l)) a) ∙ d
+
+-- marks with keys from a higher one on
+raised : (f : Keys) (low lo : ℕ) (ns : List (List ℕ)) (ms : List Mark) (g : Keys) (top : ℕ) → (0 < length ms → lo ≤ key_at ms 0) → (0 ≡ length ms → lo ≤ top) → AreMarks f low ns ms g top → AreMarks f lo ns ms g top
+raised f low lo [] [] g top l u a = (u refl, a.1)
+raised f low lo [] (m ∷ ms) g top l u a = absurd a
+raised f low lo (x ∷ ns) [] g top l u a = absurd a
+raised f low lo (x ∷ ns) (m ∷ ms) g top l u a = (l (omega arith), a.1, a.2)
+
+-- a seam that is the last of its name comes to number i
+pub marks_put : (f : Keys) (low : ℕ) (ns : List (List ℕ)) (ms : List Mark) (g : Keys) (top : ℕ) (h : Keys) (n : List ℕ) (i : ℕ) (m : Mark) → AreBelow f low → i ≤ length ms → IsBehind low ms i m.key → (i < length ms → m.key < key_at ms i) → (i ≡ length ms → m.key < top) → m.earlier ≡ g n
+    → ((b : ℕ) → g n ≡ Some b → b < m.key) → ((k : List ℕ) → h k ≡ with_key g n m.key k) → AreMarks f low ns ms g top → AreMarks f low (insert ns i n) (insert ms i m) h top
+marks_put f low ns ms g top h n zero m b l low_is ahead last earlier gone new a =
+    let up : AreMarks f (suc m.key) ns ms g top = raised f low (suc m.key) ns ms g top (λ some. ahead some) (λ none. last none) a in
+    let below : AreBelow f (suc m.key) = λ k key e. let z = b k key e in omega (arith, z, low_is) in
+    (low_is, earlier ∙ known_there f (suc m.key) ns ms g top n m.key below gone (omega arith) up, remembered f (with_key f n m.key) (suc m.key) ns ms g top h n m.key (λ k. refl) (omega arith) gone new up)
+marks_put f low [] [] g top h n (suc i) m b l behind ahead last earlier gone new a = absurd (omega (arith, l))
+marks_put f low [] (y ∷ ms) g top h n (suc i) m b l behind ahead last earlier gone new a = absurd a
+marks_put f low (x ∷ ns) [] g top h n (suc i) m b l behind ahead last earlier gone new a = absurd a
+marks_put f low (x ∷ ns) (y ∷ ms) g top h n (suc i) m b l behind ahead last earlier gone new a =
+    (a.0, a.1, marks_put (with_key f x y.key) (suc y.key) ns ms g top h n i m (learnt_below f low x y.key b a.0) (omega (arith, l)) (behind_next low y ms i m.key behind) (λ some. ahead (omega (arith, some))) (λ none. last (omega (arith, none))) earlier gone new a.2)
+
 -- ---- what is written to an index
 
-pub index_learnt : (x y : NameIndex) (n : List ℕ) (earlier : Option ℕ) → items_of y.marks ≡ items_of x.marks ++ record { key = x.next; earlier = earlier } ∷ [] → earlier ≡ get_by_text x.latest n → ((k : List ℕ) → get_by_text y.latest k ≡ with_key (get_by_text x.latest) n x.next k) → x.next < y.next
+abbrev pub known : NameIndex → Keys
+known x k = key_of (get_by_text x.latest k)
+
+-- a name is given this key, or none
+pub is_set : (o p : Option (Option ℕ)) (b : Bool) (q : Option ℕ) → p ≡ cond b (Some q) o → key_of p ≡ cond b q (key_of o)
+is_set o p true q e = ap key_of e
+is_set o p false q e = ap key_of e
+
+pub index_learnt : (x y : NameIndex) (n : List ℕ) (earlier : Option ℕ) → items_of y.marks ≡ items_of x.marks ++ record { key = x.next; earlier = earlier } ∷ [] → earlier ≡ known x n → ((k : List ℕ) → known y k ≡ with_key (known x) n x.next k) → x.next < y.next
     → (ns : List (List ℕ)) → Fits x ns → Fits y (ns ++ n ∷ [])
 index_learnt x y n earlier marks is learns up ns h =
-    subst (λ ms. AreMarks (λ k. None) 0 (ns ++ n ∷ []) ms (get_by_text y.latest) y.next) (sym marks)
-    (marks_pushed (λ k. None) 0 ns (items_of x.marks) (get_by_text x.latest) x.next n (record { key = x.next; earlier = earlier }) (get_by_text y.latest) y.next refl is learns up h)
+    subst (λ ms. AreMarks (λ k. None) 0 (ns ++ n ∷ []) ms (known y) y.next) (sym marks)
+    (marks_pushed (λ k. None) 0 ns (items_of x.marks) (known x) x.next n (record { key = x.next; earlier = earlier }) (known y) y.next refl is learns up h)
 
-pub index_without : (x y : NameIndex) (n : List ℕ) (i : ℕ) (m : Mark) (earlier : Option ℕ) → i < length (items_of x.marks) → m ≡ get_or (items_of x.marks) i m → items_of y.marks ≡ remove (items_of x.marks) i → get_by_text x.latest n ≡ Some m.key → m.earlier ≡ earlier → ((k : List ℕ) → get_by_text y.latest k ≡ cond (bytes_eq n k) earlier (get_by_text x.latest k)) → y.next ≡ x.next
+pub index_without : (x y : NameIndex) (n : List ℕ) (i : ℕ) (m : Mark) → i < length (items_of x.marks) → m ≡ get_or (items_of x.marks) i m → items_of y.marks ≡ remove (items_of x.marks) i → known x n ≡ Some m.key → ((k : List ℕ) → known y k ≡ cond (bytes_eq n k) m.earlier (known x k)) → y.next ≡ x.next
     → (ns : List (List ℕ)) → Fits x ns → Fits y (remove ns i)
-index_without x y n i m earlier l at marks last is gone next ns h =
-    subst (λ ms. AreMarks (λ k. None) 0 (remove ns i) ms (get_by_text y.latest) y.next) (sym marks)
-    (subst (AreMarks (λ k. None) 0 (remove ns i) (remove (items_of x.marks) i) (get_by_text y.latest)) (sym next)
-    (marks_taken (λ k. None) 0 ns (items_of x.marks) (get_by_text x.latest) x.next (get_by_text y.latest) n i m (λ k key e. absurd (none-some key e)) l at last (λ k. gone k ∙ ap (λ o. cond (bytes_eq n k) o (get_by_text x.latest k)) (sym is)) h))
+index_without x y n i m l at marks last gone next ns h =
+    subst (λ ms. AreMarks (λ k. None) 0 (remove ns i) ms (known y) y.next) (sym marks)
+    (subst (AreMarks (λ k. None) 0 (remove ns i) (remove (items_of x.marks) i) (known y)) (sym next)
+    (marks_taken (λ k. None) 0 ns (items_of x.marks) (known x) x.next (known y) n i m (λ k key e. absurd (none-some key e)) l at last gone h))
+
+pub index_with : (x y : NameIndex) (n : List ℕ) (i : ℕ) (m : Mark) → i ≤ length (items_of x.marks) → IsKeyFor (items_of x.marks) x.next i m.key → items_of y.marks ≡ insert (items_of x.marks) i m → m.earlier ≡ known x n → ((b : ℕ) → known x n ≡ Some b → b < m.key) → ((k : List ℕ) → known y k ≡ with_key (known x) n m.key k) → y.next ≡ x.next
+    → (ns : List (List ℕ)) → Fits x ns → Fits y (insert ns i n)
+index_with x y n i m l key marks earlier gone new next ns h =
+    subst (λ ms. AreMarks (λ k. None) 0 (insert ns i n) ms (known y) y.next) (sym marks)
+    (subst (AreMarks (λ k. None) 0 (insert ns i n) (insert (items_of x.marks) i m) (known y)) (sym next)
+    (marks_put (λ k. None) 0 ns (items_of x.marks) (known x) x.next (known y) n i m (λ k a e. absurd (none-some a e)) l (behind i l key.behind) (λ some. key.before (get_or (items_of x.marks) i no_mark) some (there (items_of x.marks) i some)) key.last earlier gone new h))
+  where
+    there : (ms : List Mark) (j : ℕ) → j < length ms → get_or ms j no_mark ≡ slice_index_or ms j (get_or ms j no_mark)
+    there [] j u = absurd (omega (arith, u))
+    there (m ∷ ms) zero u = refl
+    there (m ∷ ms) (suc j) u = there ms j (omega (arith, u))
+
+    behind : (i : ℕ) → i ≤ length (items_of x.marks) → ((j : ℕ) (a : Mark) → i ≡ suc j → a ≡ slice_index_or (items_of x.marks) j a → a.key < m.key) → IsBehind 0 (items_of x.marks) i m.key
+    behind zero u p = omega arith
+    behind (suc j) u p = p j (get_or (items_of x.marks) j no_mark) refl (there (items_of x.marks) j (omega (arith, u)))
 
 -- ---- what is read of it
 
-pub named_none : (x : NameIndex) (k : List ℕ) (r : Option ℕ) → get_by_text x.latest k ≡ None → r ≡ None → (cs : List Child) → Fits x (names_of cs) → r ≡ last_named k cs
-named_none x k r none e cs h = none_latest cs (items_of x.marks) (get_by_text x.latest) x.next k r none e h
+pub named_none : (x : NameIndex) (k : List ℕ) (r : Option ℕ) → known x k ≡ None → r ≡ None → (cs : List Child) → Fits x (names_of cs) → r ≡ last_named k cs
+named_none x k r none e cs h = none_latest cs (items_of x.marks) (known x) x.next k r none e h
 
 -- no more marks than keys
 marks_fit : (f : Keys) (low : ℕ) (ns : List (List ℕ)) (ms : List Mark) (g : Keys) (top : ℕ) → AreMarks f low ns ms g top → low + length ms ≤ top
@@ -246,11 +339,11 @@ marks_fit f low [] (m ∷ ms) g top h = absurd h
 marks_fit f low (n ∷ ns) [] g top h = absurd h
 marks_fit f low (n ∷ ns) (m ∷ ms) g top h = omega (arith, h.0, marks_fit (with_key f n m.key) (suc m.key) ns ms g top h.2)
 
-pub named_at : (x : NameIndex) (k : List ℕ) (i key : ℕ) → x.next < 2 ^ 64 → get_by_text x.latest k ≡ Some key → i ≤ length (items_of x.marks)
+pub named_at : (x : NameIndex) (k : List ℕ) (i key : ℕ) → x.next < 2 ^ 64 → known x k ≡ Some key → i ≤ length (items_of x.marks)
     → (length (items_of x.marks) < 2 ^ 64 → IsPartitionedBy (λ m. ltb m.key key) (items_of x.marks) → IsPartitionPoint (λ m. ltb m.key key ≡ true) (λ m. ltb m.key key ≡ false) (items_of x.marks) i)
     → (cs : List Child) → Fits x (names_of cs) → Some i ≡ last_named k cs
 named_at x k i key small is bound point cs h =
-    at_latest cs (items_of x.marks) (get_by_text x.latest) x.next k i key is bound (point (omega (arith, small, marks_fit (λ k. None) 0 (names_of cs) (items_of x.marks) (get_by_text x.latest) x.next h))) h
+    at_latest cs (items_of x.marks) (known x) x.next k i key is bound (point (omega (arith, small, marks_fit (λ k. None) 0 (names_of cs) (items_of x.marks) (known x) x.next h))) h
 
 -- ---- what tests tell
 

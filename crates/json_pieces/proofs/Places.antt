@@ -58,6 +58,12 @@ said_taken (s ∷ ss) [] i h = absurd h
 said_taken (s ∷ ss) (n ∷ ns) zero h = h.1
 said_taken (s ∷ ss) (n ∷ ns) (suc i) h = (h.0, said_taken ss ns i h.1)
 
+said_put : (ss : List Seam) (ns : List (List ℕ)) (i : ℕ) (s : Seam) (n : List ℕ) → i ≤ length ss → ((l : List ℕ) → IsTextOf (text_bytes s.name) (string l) → l ≡ n) → AreSaid ss ns → AreSaid (insert ss i s) (insert ns i n)
+said_put ss ns zero s n l is h = (is, h)
+said_put [] ns (suc i) s n l is h = absurd (omega (arith, l))
+said_put (t ∷ ss) [] (suc i) s n l is h = absurd h
+said_put (t ∷ ss) (m ∷ ns) (suc i) s n l is h = (h.0, said_put ss ns i s n (omega (arith, l)) is h.1)
+
 said_set : (ss : List Seam) (ns : List (List ℕ)) (i : ℕ) (s t : Seam) → s ≡ get_or ss i s → t.name ≡ s.name → AreSaid ss ns → AreSaid (slice_set ss i t) ns
 said_set [] ns i s t e n h = h
 said_set (u ∷ ss) [] zero s t e n h = absurd h
@@ -95,6 +101,15 @@ within_marks ss (Some x) i h l = ∥∥₁_elim h le_prop (λ p. omega (arith, l
 
 pub taken : (ss : List Seam) (i : ℕ) (x y : NameIndex) → ((ns : List (List ℕ)) → Fits x ns → Fits y (remove ns i)) → IsIndexOf ss x → IsIndexOf (remove ss i) y
 taken ss i x y fits h = ∥∥₁_map h (λ p. (remove p.0 i, said_taken ss p.0 i p.1, fits p.0 p.2))
+
+pub count_marks : (ss : List Seam) (o : Option NameIndex) (count : ℕ) → Agrees ss o → length ss ≡ count → IfSome o (λ x. count ≡ length (items_of x.marks))
+count_marks ss None count h e = tt
+count_marks ss (Some x) count h e =
+    let one : IsProp (count ≡ length (items_of x.marks)) = Prim.hlevel props in
+    ∥∥₁_elim h one (λ p. sym e ∙ said_count ss p.0 p.1 ∙ marks_count (λ k. None) 0 p.0 (items_of x.marks) _ x.next p.2)
+
+pub come_back : (ss : List Seam) (i : ℕ) (s : Seam) (n : List ℕ) (x y : NameIndex) → i ≤ length ss → ((l : List ℕ) → IsTextOf (text_bytes s.name) (string l) → l ≡ n) → ((ns : List (List ℕ)) → Fits x ns → Fits y (insert ns i n)) → IsIndexOf ss x → IsIndexOf (insert ss i s) y
+come_back ss i s n x y l is fits h = ∥∥₁_map h (λ p. (insert p.0 i n, said_put ss p.0 i s n l is p.1, fits p.0 p.2))
 
 -- one seam is exchanged for another of its name
 pub still_agrees : (ss : List Seam) (o : Option NameIndex) (i : ℕ) (s t : Seam) → s ≡ get_or ss i s → t.name ≡ s.name → Agrees ss o → Agrees (slice_set ss i t) o

@@ -87,7 +87,7 @@ fn back_in<'a>(
 {
     let (mut seam, value) = part;
     swap_at(row, slot, &mut seam);
-    row.seams.put(number, seam, None);
+    row.seams.put_back(number, seam);
     row.values.put(number, value, usize::MAX);
     row.length = length;
 }

@@ -153,13 +153,46 @@ fn index_with(
 }
 
 /// The index, if there is one, once the last seam of this name, which has this number, is taken out. Of
-/// another seam it is dropped.
-fn index_without(index: Option<NameIndex>, name: &str, number: usize) -> Option<NameIndex>
+/// another seam, or where the name isn't told, it is dropped.
+fn index_without(index: Option<NameIndex>, name: Option<&str>, number: usize) -> Option<NameIndex>
     requires { IfSome index (λ x. number < length (items_of x.marks)) }
     ensures { (ss : List Seam) → Agrees ss index → Agrees (remove ss number) result }
 {
     let mut index = index?;
-    if index.forget(name, number) {
+    if index.forget(name?, number) {
+        Some(index)
+    } else {
+        None
+    }
+}
+
+/// The name that this text says, if it has no escape.
+fn plain_name(text: &str) -> Option<&str>
+    ensures { IfSome result (λ name. (l : List ℕ) → IsTextOf text.now (string l) → l ≡ name.now) }
+{
+    let name = text.get(1..text.len().checked_sub(1)?)?;
+    if is_name_text(text, name) {
+        Some(name)
+    } else {
+        None
+    }
+}
+
+/// The index, if there is one, once this seam is put in before that of this number, or behind the last
+/// of so many. Where its name wasn't known, or isn't the last one, it is dropped.
+fn index_again(
+    index: Option<NameIndex>,
+    seam: &Seam<'_>,
+    number: usize,
+    count: usize,
+) -> Option<NameIndex>
+    requires count { IfSome index (λ x. count ≡ length (items_of x.marks)) }
+    requires within { number ≤ count }
+    ensures { (ss : List Seam) → number ≤ length ss → Agrees ss index → Agrees (insert ss number seam.now) result }
+{
+    let mut index = index?;
+    let name = plain_name(seam.name.as_str())?;
+    if index.recall(name, number, count) {
         Some(index)
     } else {
         None
@@ -276,12 +309,12 @@ impl<'a> Seams<'a> {
         ensures fits { length (items_of self.new.all) + 1 < 2 ^ 64 }
     {
         let index = mem::replace(&mut self.index, None);
-        self.index = index_without(index, name, number);
+        self.index = index_without(index, Some(name), number);
         self.count -= 1;
         self.all.remove(number)
     }
 
-    /// Takes out the seam of this number, and lets the index go.
+    /// Takes out the seam of this number, whatever its name. It asks for no memory.
     pub(crate) fn take(&mut self, number: usize) -> Seam<'a>
         requires { number < length (items_of self.old.all) }
         ensures value { result ≡ slice_index_or (items_of self.old.all) number result }
@@ -289,9 +322,25 @@ impl<'a> Seams<'a> {
         ensures len { length (items_of self.new.all) + 1 ≡ length (items_of self.old.all) }
         ensures room { capacity_of self.new.all ≡ capacity_of self.old.all }
     {
-        self.index = None;
+        let index = mem::replace(&mut self.index, None);
         self.count -= 1;
-        self.all.remove(number)
+        let seam = self.all.remove(number);
+        self.index = index_without(index, plain_name(seam.name.as_str()), number);
+        seam
+    }
+
+    /// Puts a seam in again before that of this number, or behind the last, where there is room. It asks
+    /// for no memory.
+    pub(crate) fn put_back(&mut self, number: usize, seam: Seam<'a>)
+        requires within { number ≤ length (items_of self.old.all) }
+        requires room { length (items_of self.old.all) < capacity_of self.old.all }
+        requires fits { length (items_of self.old.all) + 1 < 2 ^ 64 }
+        ensures items { items_of self.new.all ≡ insert (items_of self.old.all) number seam.entry }
+        ensures room { capacity_of self.new.all ≡ capacity_of self.old.all }
+    {
+        let index = mem::replace(&mut self.index, None);
+        let index = index_again(index, &seam, number, self.count);
+        self.put(number, seam, index);
     }
 
     /// Exchanges the whitespace before the value of this number for this one.

@@ -1,6 +1,6 @@
 //! Where an item is, or comes to: in which block, and at which number there.
 
-ghost use Rattle.std.specs.Prelude.{◌≡◌, ◌<◌, ◌≤◌, ◌+◌, ◌↔◌, IsTrue, length};
+ghost use Rattle.std.specs.Prelude.{◌≡◌, ◌<◌, ◌≤◌, ◌+◌, ◌↔◌, Decides, IsTrue, length};
 ghost use Rattle.long_vec.specs.Blocks.{IsAt, IsPlace, HasRoom};
 ghost use Rattle.long_vec.specs.Items.{items_of, capacity_of};
 
@@ -46,6 +46,18 @@ impl<T> LongVec<T> {
         ensures { IsTrue result ↔ HasRoom self.now.blocks.items i }
     {
         i < self.blocks.len() && self.blocks[i].len() < self.blocks[i].capacity()
+    }
+
+    /// Whether there is room for one more item.
+    pub fn has_any_room(&self) -> bool
+        ensures { Decides result (length (items_of self.now) < capacity_of self.now) }
+    {
+        for i in 0..self.blocks.len() {
+            if self.has_room(i) {
+                return true;
+            }
+        }
+        false
     }
 
     /// The nearest block to block i that has room.
