@@ -76,14 +76,32 @@ static void changes(const char *what, const char *form, json_patch_status wanted
     tell(what, begun, TIMES);
 }
 
-static void undone(void) {
+static void undone(const char *what, const char *form) {
     double begun = now();
     for (int i = 0; i < TIMES; i++) {
-        const char *made = patch("[{\"op\":\"replace\",\"path\":\"/rows/%d/price\",\"value\":%d}]");
+        const char *made = patch(form);
         wants(json_patch_update_recorded(&kept, made, strlen(made), out, sizeof out, &report), JSON_PATCH_OK);
         wants(json_patch_undo(&kept, &report), JSON_PATCH_OK);
     }
-    tell("a replace recorded, and undone", begun, TIMES);
+    tell(what, begun, TIMES);
+}
+
+/* Of an object of as many members, whose index of names comes back with each undo. */
+static void members(void) {
+    size = (size_t)sprintf(text, "{\"first\": 0");
+    for (int i = 0; i < rows; i++)
+        size += (size_t)sprintf(text + size, ", \"member %d\": %d.50", i, i % 1000);
+    size += (size_t)sprintf(text + size, "}");
+    printf("%zu bytes of text, one object\n", size);
+    wants(json_patch_open(&kept, text, size, NULL, &report), JSON_PATCH_OK);
+    double begun = now();
+    for (int i = 0; i < 20; i++)
+        change("[{\"op\":\"replace\",\"path\":\"/member %d\",\"value\":%d}]", JSON_PATCH_OK);
+    tell("20 replaces, which make the index", begun, 1);
+    undone("a member added, recorded, and undone", "[{\"op\":\"add\",\"path\":\"/new %d\",\"value\":%d}]");
+    undone("a member removed, recorded, and undone",
+           "[{\"op\":\"remove\",\"path\":\"/member %d\"},{\"op\":\"replace\",\"path\":\"/first\",\"value\":%d}]");
+    json_patch_close(&kept);
 }
 
 int main(int count, char **words) {
@@ -99,7 +117,7 @@ int main(int count, char **words) {
     change(replace, JSON_PATCH_OK);
     tell("the first replace", begun, 1);
     changes("a replace", replace, JSON_PATCH_OK);
-    undone();
+    undone("a replace recorded, and undone", replace);
     changes("a remove and an add, refused by a test",
             "[{\"op\":\"remove\",\"path\":\"/rows/%d\"},{\"op\":\"add\",\"path\":\"/rows/%d\",\"value\":7},"
             "{\"op\":\"test\",\"path\":\"/rows/0\",\"value\":8}]", JSON_PATCH_REFUSED);
@@ -119,5 +137,6 @@ int main(int count, char **words) {
     begun = now();
     wants(json_patch_apply(text, size, made, strlen(made), NULL, room, capacity, &report), JSON_PATCH_OK);
     tell("json_patch_apply of one replace", begun, 1);
+    members();
     return 0;
 }
