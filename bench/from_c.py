@@ -34,7 +34,7 @@ CALLS = [
     ("from text to text: 1,000 removes from 10,000 members", "texts", 1,
      (workloads.object_of(10_000), workloads.in_each_tenth("remove", 10_000))),
     ("one replace in a kept document of 100 kB", "kept", 100, workloads.replace_in_the_middle(1_450)),
-    ("one replace in a kept document of 10 MB", "kept", 1, workloads.replace_in_the_middle(145_000)),
+    ("one replace in a kept document of 10 MB", "kept", 1_000, workloads.replace_in_the_middle(145_000)),
 ]
 
 

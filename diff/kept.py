@@ -24,8 +24,13 @@ KINDS = ("made", "recorded", "taken back", "refused", "refused behind an operati
 
 
 def patch_of(texts, now):
-    """Some operations, in a third of the cases with one that is refused."""
-    operations = texts.operations(now)
+    """Some operations, most of them accepted, and in a third of the cases one that isn't."""
+    operations, then = [], now
+    for operation in (texts.operation(now) for _ in range(texts.random.randrange(6))):
+        after, _ = patched(then, [operation])
+        if after is not None or texts.random.random() < 0.1:
+            operations.append(operation)
+            then = after or then
     if texts.random.random() < 0.33:
         operations.insert(texts.random.randrange(len(operations) + 1), NEVER)
     return operations
