@@ -1,6 +1,6 @@
 -- The marks of an index: what they say of a name, and what stays of them when a seam comes behind the last or is taken out.
 use Rattle.std.proofs.Common.{◌≡◌, ℕ, zero, suc, ◌+◌, ◌<◌, ◌≤◌, ◌^◌, ◌⊎◌, inl, inr, Bool, true, false, cond, List, [], ◌∷◌, ◌++◌, length, get_or, slice_index_or, Option, Some, None, eqb, eqb-true, ltb, ltb-false, ltb-true, not, refl, sym, ap, ap₂, ◌∙◌, subst, arith}
-use Rattle.std.specs.Prelude.{IfSome, OnOk, Result, Ok, Err, is_ok, option_map}
+use Rattle.std.specs.Prelude.{IfSome, option_map}
 use Rattle.std.specs.Option.{option_eq}
 use Rattle.std.specs.List.{insert, remove}
 use Rattle.std.specs.List.Sorted.{IsNonDecreasingBy, IsPartitionPoint, IsPartitionedBy}
@@ -346,10 +346,6 @@ named_at x k i key small is bound point cs h =
     at_latest cs (items_of x.marks) (known x) x.next k i key is bound (point (omega (arith, small, marks_fit (λ k. None) 0 (names_of cs) (items_of x.marks) (known x) x.next h))) h
 
 -- ---- what tests tell
-
-pub on_ok : {T E P : Type 0} (r : Result T E) → is_ok r ≡ true → OnOk r P → P
-on_ok (Ok x) e p = p
-on_ok (Err x) e p = absurd (true≢false (sym e))
 
 pub is_same : (o : Option ℕ) (key : ℕ) → false ≡ not (option_eq eqb o (Some key)) → o ≡ Some key
 is_same None key e = absurd (true≢false (sym e))

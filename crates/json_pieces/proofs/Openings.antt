@@ -1,13 +1,13 @@
 -- A text is opened: its parts, one after another.
 use Rattle.std.proofs.Common.{◌≡◌, ◌≢◌, inl, ℕ, ◌<◌, ◌≤◌, Bool, true, false, List, [], ◌∷◌, ◌++◌, length, drop, Some, None, refl, sym, ap, ap₂, ◌∙◌, subst, arith, append_assoc, append-nil}
-use Rattle.std.specs.Prelude.{MatchOption}
+use Rattle.std.specs.Prelude.{IfSome, MatchOption}
 use Rattle.std.specs.Str.{IsUtf8, IsCharBoundary}
 use Rattle.std.proofs.lemmas.List.{get_or_default}
 use Rattle.std.proofs.lemmas.Str.{IsCharBoundary-after_ascii}
 use Rattle.json.specs.Json.{Json, null, boolean, number, string, array, object, Items, no_items, item, Members, no_members, member}
 use Rattle.json.specs.Lex.{between, lex, operator_lexeme}
 use Rattle.json.specs.Word.{is_operator, is_space}
-use Rattle.json_text.specs.Cuts.{AllSuit, ClosesAt, CutsFirst, IsBehindMark, IsWhitespace, Piece, closes, opens, piece_of, piece_text, pieces_text, row_text}
+use Rattle.json_text.specs.Cuts.{AllSuit, ClosesAt, CutsFirst, GoesOn, IsBehindMark, IsWhitespace, Piece, closes, opens, piece_of, piece_text, pieces_text, row_text}
 use Rattle.json_text.specs.Listing.{IsTextOf, shape_of}
 use Rattle.json_lexemes.specs.Places.{left_at, mode_at}
 use Rattle.json_text.specs.Rows.{Child, elements_in, inside, members_in, opening, tree_in}
@@ -19,11 +19,11 @@ use Rattle.json_lexemes.proofs.FirstBytes.{operator_by_kind}
 use Rattle.json_text.proofs.Rows.Trees.{spelled_in}
 use Rattle.json_lexemes.proofs.Steps.{drop_step, operator_end, operator_left}
 use Rattle.long_vec.specs.Items.{items_of}
-use Rattle.json_pieces.specs.Nodes.{IsFirstPart, IsRow, IsRowOf, IsSound, shut, piece_with, row_view, text_bytes, tree_text, view}
+use Rattle.json_pieces.specs.Nodes.{IsRow, IsRowOf, IsSound, shut, piece_with, text_bytes, tree_text, view}
 use Rattle.json_pieces.specs.declared.node.Node.{Node}
 use Rattle.json_pieces.specs.declared.node.Row.{Row}
 use Rattle.json_pieces.specs.declared.seams.Seam.{Seam}
-use Rattle.json_pieces.proofs.Lists.{AreSoundIn, no_pieces, pieces_in}
+use Rattle.json_pieces.proofs.Lists.{AreSoundIn, pieces_in}
 
 -- ---- the bracket
 
@@ -184,6 +184,63 @@ row_made t b cs hollow ss vs r p h named size whitespace seams values =
     let here : InParts t r.named cs (text_bytes r.hollow) (pieces_in (items_of r.seams.all) (items_of r.values)) =
     subst (λ x. InParts t x cs (text_bytes r.hollow) (pieces_in (items_of r.seams.all) (items_of r.values))) (sym named) (subst (λ x. InParts t b cs x (pieces_in (items_of r.seams.all) (items_of r.values))) (sym whitespace) (subst (InParts t b cs hollow) (sym parts) p)) in
     row_of_parts t r.named cs (text_bytes r.hollow) r.length (items_of r.seams.all) (items_of r.values) here sound size
+
+-- ---- from cut to cut, however the parts are kept
+
+-- these parts are all that stands before from
+pub record AreCut (t : List ℕ) (b : Bool) (ss : List Seam) (vs : List Node) (from : ℕ) : Type 0 where
+  pub low : from ≤ length t
+  pub boundary : IsCharBoundary t from
+  pub sound : AreSoundIn ss vs
+  pub so_far : (cs : List Child) → IsTextOf t (tree_in b cs) → SoFar t b cs (pieces_in ss vs) from
+
+pub cut_first : (t : List ℕ) (b : Bool) (ss : List Seam) (vs : List Node) → IsUtf8 t → (cs : List Child) × IsTextOf t (tree_in b cs) → ss ≡ [] → vs ≡ [] → AreCut t b ss vs 1
+cut_first t b ss vs u (cs, h) e f =
+    let o = opens_with t b cs h in
+    let none = starts ss vs e f in
+    record {
+      low = o.some;
+      boundary = o.boundary u;
+      sound = none.0;
+      so_far = λ ds k. subst (λ ps. SoFar t b ds ps 1) (sym none.1) (none_yet t b ds (opens_with t b ds k));
+    }
+
+-- the part of a cut comes behind the others
+pub record IsPushed (ss new_seams : List Seam) (vs new_values : List Node) (s : Seam) (v : Node) (c : Cut) : Type 0 where
+  pub seams : new_seams ≡ ss ++ (s ∷ [])
+  pub values : new_values ≡ vs ++ (v ∷ [])
+  pub seen : view v ≡ shut c.value.now
+  pub is : piece_with s c.value.now ≡ piece_of c
+
+module _ (t : List ℕ) (b : Bool) (ss new_seams : List Seam) (vs new_values : List Node) (from : ℕ) (s : Seam) (v : Node) (c : Cut) (a : AreCut t b ss vs from) (first : (cs : List Child) → IsBehindMark t b cs from → CutsFirst t b cs from c) (p : IsPushed ss new_seams vs new_values s v c) where
+  one_more : AreSoundIn new_seams new_values × (pieces_in new_seams new_values ≡ pieces_in ss vs ++ (piece_of c ∷ []))
+  one_more = pushed ss new_seams vs new_values s v c p.seams p.values a.sound p.seen p.is
+
+  pub cut_next : (g : ℕ) → GoesOn t from c → c.next ≡ Some g → AreCut t b new_seams new_values g
+  cut_next g goes e =
+      let next = subst (λ o. IfSome o (λ g. (from < g) × (g ≤ length t) × IsCharBoundary t g)) e goes in
+      record {
+        low = next.1;
+        boundary = next.2;
+        sound = one_more.0;
+        so_far = λ cs h.
+            let before = a.so_far cs h in
+            subst (λ ps. SoFar t b cs ps g) (sym one_more.1) (goes_on t b cs _ from g c before (first before.more (behind_mark t b cs _ from h before)) e);
+      }
+
+  pub cut_last : (r : Row) → (cs : List Child) × IsTextOf t (tree_in b cs) → c.next ≡ None → r.named ≡ b → r.length ≡ length t → text_bytes r.hollow ≡ [] → items_of r.seams.all ≡ new_seams → items_of r.values ≡ new_values → IsRowOf t r
+  cut_last r (cs, h) e named size hollow seams values =
+      let before = a.so_far cs h in
+      let parts = ends t b cs [] _ from c before (first before.more (behind_mark t b cs _ from h before)) e empty_whitespace in
+      row_made t b cs [] new_seams new_values r (subst (InParts t b cs []) (sym one_more.1) parts) one_more.0 named size hollow seams values
+
+pub cut_none : (t : List ℕ) (b : Bool) (ss : List Seam) (vs : List Node) (from : ℕ) (hollow : List ℕ) (r : Row) → AreCut t b ss vs from → (cs : List Child) × IsTextOf t (tree_in b cs) → ((cs : List Child) → IsBehindMark t b cs from → cs ≡ []) → ((b : Bool) → IsBehindMark t b [] from → ClosesAt t b from hollow)
+    → r.named ≡ b → r.length ≡ length t → text_bytes r.hollow ≡ hollow → items_of r.seams.all ≡ ss → items_of r.values ≡ vs → IsRowOf t r
+cut_none t b ss vs from hollow r a (cs, h) none closes_at named size whitespace seams values =
+    let before = a.so_far cs h in
+    let behind = behind_mark t b cs _ from h before in
+    let is = none before.more behind in
+    row_made t b cs hollow ss vs r (none_there t b cs hollow _ from before is (closes_at b (subst (λ m. IsBehindMark t b m from) is behind))) a.sound named size whitespace seams values
 
 -- ---- what is opened
 

@@ -1,5 +1,5 @@
 -- The index of the names: it stays that of its seams.
-use Rattle.std.proofs.Common.{◌≡◌, ℕ, zero, suc, ◌+◌, ◌<◌, ◌≤◌, List, [], ◌∷◌, ◌++◌, length, take, get_or, map, Option, Some, None, String, refl, sym, ap, ap₂, ◌∙◌, subst, arith}
+use Rattle.std.proofs.Common.{◌≡◌, ℕ, zero, suc, ◌<◌, ◌≤◌, List, [], ◌∷◌, ◌++◌, length, get_or, map, Option, Some, None, String, refl, sym, ap, ap₂, ◌∙◌, subst, arith}
 use Rattle.std.specs.Prelude.{slice_set, IfSome, OnOk, Result}
 use Rattle.std.specs.declared.alloc.AllocError.{AllocError}
 use Rattle.std.specs.declared.alloc.Global.{Global}
@@ -9,7 +9,7 @@ use Rattle.std.specs.String.{string_bytes}
 use Rattle.std.proofs.Math.Logic.{∥∥₁_elim, ∥∥₁_map}
 use Rattle.std.proofs.Math.Seq.{map-set_same}
 use Rattle.std.proofs.Props.{props}
-use Rattle.std.proofs.lemmas.List.{drop_all, take_all, take_more}
+use Rattle.std.proofs.lemmas.List.{drop_all, take_all}
 use Rattle.std.proofs.lemmas.Result.{on_ok_weaker}
 use Rattle.json.specs.Json.{string}
 use Rattle.json_text.specs.Listing.{IsTextOf}
@@ -84,12 +84,6 @@ says ss x k r h all cs names =
 pub learnt : (s : Seam) (text : List ℕ) (name : String Global) (x y : NameIndex) (r : Result Unit AllocError) → text ≡ text_bytes s.name → ((l : List ℕ) → IsTextOf text (string l) → l ≡ string_bytes name)
     → OnOk r ((ns : List (List ℕ)) → Fits x ns → Fits y (ns ++ string_bytes name ∷ [])) → OnOk r ((ss : List Seam) → IsIndexOf ss x → IsIndexOf (ss ++ s ∷ []) y)
 learnt s text name x y r e is = on_ok_weaker r (λ fits ss h. ∥∥₁_map h (λ p. (p.0 ++ string_bytes name ∷ [], said_behind ss p.0 s (string_bytes name) (λ l t. is l (subst (λ u. IsTextOf u (string l)) (sym e) t)) p.1, fits p.0 p.2)))
-
-pub learnt_next : (ss : List Seam) (i : ℕ) (s : Seam) (x y : NameIndex) → i < length ss → s ≡ get_or ss i s → ((ss : List Seam) → IsIndexOf ss x → IsIndexOf (ss ++ s ∷ []) y) → IsIndexOf (take i ss) x → IsIndexOf (take (i + 1) ss) y
-learnt_next ss i s x y l e learns h = subst (λ o. IsIndexOf o y) (ap (λ u. take i ss ++ u ∷ []) e ∙ sym (take_more ss i s l)) (learns (take i ss) h)
-
-pub all_learnt : (ss : List Seam) (i : ℕ) (x : NameIndex) → length ss ≤ i → IsIndexOf (take i ss) x → IsIndexOf ss x
-all_learnt ss i x l h = subst (λ o. IsIndexOf o x) (take_all i ss l) h
 
 pub put_behind : (ss : List Seam) (s : Seam) (i : ℕ) (x y : NameIndex) → i ≡ length ss → ((ss : List Seam) → IsIndexOf ss x → IsIndexOf (ss ++ s ∷ []) y) → IsIndexOf ss x → IsIndexOf (insert ss i s) y
 put_behind ss s i x y e learns h =

@@ -1,4 +1,4 @@
-use Rattle.std.proofs.Common.{◌≡◌, List, ℕ, subst, sym}
+use Rattle.std.proofs.Common.{◌≡◌, List, ℕ, subst}
 use Rattle.json.specs.Json.{string}
 use Rattle.json_text.specs.Listing.{IsTextOf}
 use Rattle.json_pieces.specs.Names.{Agrees}

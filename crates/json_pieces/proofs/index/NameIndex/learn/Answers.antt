@@ -1,9 +1,9 @@
-use Rattle.std.proofs.Common.{◌≡◌, ◌∙◌, ap, arith, refl, string_bytes, sym, Some}
+use Rattle.std.proofs.Common.{◌≡◌, ◌∙◌, ap, arith, string_bytes, sym, Some}
 use Rattle.std.specs.BTreeMap.{get_by_text}
 use Rattle.std.proofs.lemmas.Map.Text.{btree_map_updates_text}
 use Rattle.json_pieces.specs.Marks.{key_of}
 use Rattle.json_pieces.specs.declared.index.NameIndex.{NameIndex}
-use Rattle.json_pieces.proofs.Marks.{index_learnt, is_set, known}
+use Rattle.json_pieces.proofs.Marks.{index_learnt, is_set}
 use Rattle.json_pieces.proofs.index.NameIndex.learn.Goals as goal
 use Rattle.json_pieces.proofs.index.NameIndex.learn.Goals.{in-Some-known, in-None}
 

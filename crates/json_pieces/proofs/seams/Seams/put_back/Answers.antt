@@ -1,4 +1,4 @@
-use Rattle.std.proofs.Common.{arith, subst, sym}
+use Rattle.std.proofs.Common.{subst, sym}
 use Rattle.long_vec.specs.Items.{items_of}
 use Rattle.json_pieces.specs.Names.{Agrees}
 use Rattle.json_pieces.proofs.Places.{count_marks}
