@@ -21,12 +21,27 @@ HERE = os.path.dirname(os.path.abspath(__file__))
 BUILT = os.path.join(os.path.dirname(HERE), "c", "out")
 MODES = {"texts": "texts", "kept": "kept"}
 
+
+def deep(levels, operations):
+    """100 kB of rows below so many objects, and so many replaces there."""
+    document, path = workloads.rows(1_450), "/next" * levels + "/rows/700/tags/1"
+    for _ in range(levels):
+        document = {"next": document}
+    return document, [{"op": "replace", "path": path, "value": "c"}] * operations
+
+
 # name, mode, calls a round, document and patch
 CALLS = [
     ("from text to text: two operations on a tiny array", "texts", 20_000, workloads.TINY),
     ("from text to text: one replace in 1 kB", "texts", 5_000, workloads.replace_in_the_middle(15)),
     ("from text to text: one replace in 100 kB", "texts", 100, workloads.replace_in_the_middle(1_450)),
     ("from text to text: one replace in 10 MB", "texts", 1, workloads.replace_in_the_middle(145_000)),
+    ("from text to text: one add to 10 MB", "texts", 1,
+     (workloads.rows(145_000), [{"op": "add", "path": "/rows/-", "value": "c"}])),
+    ("from text to text: one replace below 1 object in 100 kB", "texts", 100, deep(1, 1)),
+    ("from text to text: one replace below 115 objects in 100 kB", "texts", 100, deep(115, 1)),
+    ("from text to text: two replaces below 1 object in 100 kB", "texts", 100, deep(1, 2)),
+    ("from text to text: two replaces below 115 objects in 100 kB", "texts", 100, deep(115, 2)),
     ("from text to text: 100 mixed operations on 100 kB", "texts", 10, (workloads.rows(1_450), workloads.MIXED)),
     ("from text to text: 100 mixed operations on 10 MB", "texts", 1, (workloads.rows(145_000), workloads.MIXED)),
     ("from text to text: 1,000 replaces in 10,000 members", "texts", 1,

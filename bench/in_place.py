@@ -1,6 +1,6 @@
 #!/usr/bin/env python3
-"""Times changes in place of Python's objects beside Python's jsonpatch, which leaves a refused patch part-way, and
-counts the instructions of both imports (valgrind).
+"""Times changes of Python's objects, in place and not, beside Python's jsonpatch, which leaves a refused patch
+part-way, and counts the instructions of both imports (valgrind).
 
     bench/in_place.py [--rounds N] [--rows WORDS..]
 
@@ -23,7 +23,15 @@ IMPORTS = ("pass", "import json_patch", "import jsonpatch", "import ctypes, json
 
 OBJECT = {"name": "row", "tags": ["a", "b"], "done": False}
 
-# name, mode, calls a round, object and patch
+
+def made(rows):
+    """A document of so many rows, and the same with another row in its middle."""
+    document, other = workloads.rows(rows), workloads.rows(rows)
+    other["rows"][rows // 2] = OBJECT
+    return document, other
+
+
+# name, mode, calls a round, object and patch, or for make_patch both objects
 CALLS = [
     ("two operations on a tiny array", "again", 5_000, workloads.TINY),
     ("one test in a tiny dict", "again", 5_000, ({"a": 1}, [{"op": "test", "path": "/a", "value": 1}])),
@@ -37,6 +45,11 @@ CALLS = [
      (workloads.object_of(33_000), [{"op": "remove", "path": "/member 0500"}, {"op": "add", "path": "/member 0500", "value": "x"}])),
     ("100 mixed operations on 100 kB", "inplace", 20, (workloads.rows(1_450), workloads.MIXED)),
     ("100 mixed operations on 100 kB, with shifts", "inplace", 20, (workloads.rows(1_450), workloads.SHIFTING)),
+    ("two operations on a tiny array, not in place", "patch", 5_000, workloads.TINY),
+    ("one replace in 1 kB, not in place", "patch", 2_000, workloads.replace_in_the_middle(14)),
+    ("one replace in 100 kB, not in place", "patch", 50, workloads.replace_in_the_middle(1_450)),
+    ("make_patch, one row of 1 kB", "make", 500, made(14)),
+    ("make_patch, one row of 100 kB", "make", 10, made(1_450)),
 ]
 
 
@@ -55,7 +68,7 @@ def main():
     words.add_argument("--rounds", type=int, default=9)
     words.add_argument("--rows", nargs="*", help="the rows whose line has one of these texts, and no others")
     asked = words.parse_args()
-    modes = {"again": "again", "inplace": "inplace"}
+    modes = {mode: mode for _, mode, _, _ in CALLS}
     sides = [
         bench.Side("here", [bench.PYTHON, os.path.join(HERE, "python_c_peer.py")], modes, None),
         bench.Side("jsonpatch (Python)", [bench.PYTHON, os.path.join(HERE, "python_peer.py")], modes, None),

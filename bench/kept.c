@@ -3,16 +3,17 @@
  *
  *     cc -O2 -Ic/out/include -o /tmp/kept bench/kept.c c/out/lib/libjson_patch.a && /tmp/kept [ROWS]
  *
- * Of changes the mean of 1,000 is told, at random rows. Times are the processor's, memory is what the process has
+ * Of changes the mean of 1,000 is told, and of 1,000,000, at random rows. Times are the processor's, memory is what the process has
  * beyond the text. */
 #define _POSIX_C_SOURCE 200809L
 #include <json_patch.h>
+#include <malloc.h>
 #include <stdio.h>
 #include <stdlib.h>
 #include <string.h>
 #include <time.h>
 
-enum { TIMES = 1000 };
+enum { TIMES = 1000, MANY = 1000000 };
 
 static char *text, *room, out[1000];
 static size_t size, capacity;
@@ -69,11 +70,11 @@ static void tell(const char *what, double begun, int times) {
     printf("%-40s %10.1f us\n", what, (now() - begun) / times);
 }
 
-static void changes(const char *what, const char *form, json_patch_status wanted) {
+static void changes(const char *what, int times, const char *form, json_patch_status wanted) {
     double begun = now();
-    for (int i = 0; i < TIMES; i++)
+    for (int i = 0; i < times; i++)
         change(form, wanted);
-    tell(what, begun, TIMES);
+    tell(what, begun, times);
 }
 
 static void undone(const char *what, const char *form) {
@@ -104,6 +105,53 @@ static void members(void) {
     json_patch_close(&kept);
 }
 
+enum { NUMBERS = 400 };
+
+/* A pointer, or a patch, with the numbers of one of so many arrays and of a number in it. */
+static const char *at_random(const char *form, int arrays) {
+    static char made[100];
+    sprintf(made, form, rand() % arrays, rand() % NUMBERS);
+    return made;
+}
+
+/* Of arrays too long to stay closed: what the text takes while more and more of them are changed or looked at. */
+static void large_rows(void) {
+    const char *replace = "[{\"op\":\"replace\",\"path\":\"/%d/%d\",\"value\":7}]";
+    int arrays = rows / 24;
+    size = 0;
+    for (int i = 0; i < arrays * NUMBERS; i++)
+        size += (size_t)sprintf(text + size, "%s%d", i % NUMBERS ? "," : i ? "],[" : "[[", rand() % 200);
+    size += (size_t)sprintf(text + size, "]]");
+    malloc_trim(0);
+    long before = kilobytes();
+    printf("%zu bytes of text, %d arrays\n", size, arrays);
+    wants(json_patch_open(&kept, text, size, NULL, &report), JSON_PATCH_OK);
+    double begun = now();
+    for (int done = 1; done <= 100 * TIMES; done++) {
+        const char *made = at_random(replace, arrays);
+        wants(json_patch_update(&kept, made, strlen(made), out, sizeof out, &report), JSON_PATCH_OK);
+        if (done == TIMES || done == 100 * TIMES) {
+            tell("a replace in a random array", begun, done);
+            printf("%ld kB after %d\n", kilobytes() - before, done);
+        }
+    }
+    begun = now();
+    for (int i = 0; i < 10 * TIMES; i++) {
+        const char *made = at_random(replace, arrays);
+        wants(json_patch_update_recorded(&kept, made, strlen(made), out, sizeof out, &report), JSON_PATCH_OK);
+    }
+    tell("the same, recorded, of 10,000", begun, 10 * TIMES);
+    printf("%ld kB\n", kilobytes() - before);
+    begun = now();
+    for (int i = 0; i < 10 * TIMES; i++) {
+        const char *pointer = at_random("/%d/%d", arrays);
+        wants(json_patch_value_at(&kept, pointer, strlen(pointer), out, sizeof out, &report), JSON_PATCH_OK);
+    }
+    tell("a look into a random array, of 10,000", begun, 10 * TIMES);
+    printf("%ld kB\n", kilobytes() - before);
+    json_patch_close(&kept);
+}
+
 int main(int count, char **words) {
     const char *replace = "[{\"op\":\"replace\",\"path\":\"/rows/%d/price\",\"value\":%d}]";
     rows = count > 1 ? atoi(words[1]) : 145000;
@@ -116,12 +164,15 @@ int main(int count, char **words) {
     begun = now();
     change(replace, JSON_PATCH_OK);
     tell("the first replace", begun, 1);
-    changes("a replace", replace, JSON_PATCH_OK);
+    changes("a replace", TIMES, replace, JSON_PATCH_OK);
+    printf("%ld kB\n", kilobytes() - before);
+    changes("a replace, of 1,000,000", MANY, replace, JSON_PATCH_OK);
+    printf("%ld kB\n", kilobytes() - before);
     undone("a replace recorded, and undone", replace);
-    changes("a remove and an add, refused by a test",
+    changes("a remove and an add, refused by a test", TIMES,
             "[{\"op\":\"remove\",\"path\":\"/rows/%d\"},{\"op\":\"add\",\"path\":\"/rows/%d\",\"value\":7},"
             "{\"op\":\"test\",\"path\":\"/rows/0\",\"value\":8}]", JSON_PATCH_REFUSED);
-    changes("a remove and an add", "[{\"op\":\"remove\",\"path\":\"/rows/%d\"},{\"op\":\"add\",\"path\":\"/rows/%d\",\"value\":7}]",
+    changes("a remove and an add", TIMES, "[{\"op\":\"remove\",\"path\":\"/rows/%d\"},{\"op\":\"add\",\"path\":\"/rows/%d\",\"value\":7}]",
             JSON_PATCH_OK);
     printf("%ld kB\n", kilobytes() - before);
     begun = now();
@@ -138,5 +189,6 @@ int main(int count, char **words) {
     wants(json_patch_apply(text, size, made, strlen(made), NULL, room, capacity, &report), JSON_PATCH_OK);
     tell("json_patch_apply of one replace", begun, 1);
     members();
+    large_rows();
     return 0;
 }

@@ -2,7 +2,7 @@
 `MODE COUNT`, its input is `[document,patch]`, and it prints the nanoseconds of one call. The modes are
 `patch`, which answers a new document, and `inplace`, which leaves a refused patch part-way and works
 on a fresh copy, whose making isn't counted, or as `again` on the same; and `texts` and `kept` of bench/c_calls.c, in place too. For `diff`
-and `same` the input is two documents: it prints what bench/differences.rt.txt prints."""
+and `same` the input is two documents: it prints what bench/differences.rt.txt prints, and for `make` the time alone."""
 import copy
 import json
 import sys
@@ -46,6 +46,9 @@ def comparisons(before, after):
 
 if mode in ("diff", "same"):
     print({"diff": differences, "same": comparisons}[mode](document, operations))
+    sys.exit()
+if mode == "make":
+    print(differences(document, operations).split()[0])
     sys.exit()
 
 if mode in ("texts", "kept"):

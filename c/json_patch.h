@@ -233,7 +233,10 @@ json_patch_status json_patch_value(const char *document, size_t document_length,
 
 /*
  * A document that is kept, as its text: what a change makes of it is what the call on texts makes, byte for
- * byte, and the last change is taken back to the very bytes before it.
+ * byte, and the last change is taken back to the very bytes before it. It takes the memory of the text, and
+ * some 210 bytes for each member and element of an object or array of more than 1,024 bytes into which a call
+ * led: up to three times the text, or what two calls open, and then that is let go. As much again is held
+ * while a recorded change can be taken back.
  *
  *     json_patch_document document = JSON_PATCH_DOCUMENT;
  *     if (json_patch_open(&document, text, strlen(text), NULL, &report) == JSON_PATCH_OK) {

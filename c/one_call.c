@@ -2,10 +2,11 @@
  * One call of json_patch.h on one input, first with every request for memory granted, and then with
  * each request refused in turn, alone and with all after it.
  *
- *     one_call CALL DOCUMENT TEXT
+ *     one_call CALL DOCUMENT TEXT [PATCH..]
  *
  * CALL is apply, record, merge, diff, moving_diff, guarded_diff, merge_diff, merge_join, check or value, or of a
- * document that is kept open, update, update_recorded, update_merged, undo, text, value_at, diff_to or inverse.
+ * document that is kept open, update, update_recorded, update_merged, undo, text, value_at, diff_to or inverse;
+ * to that the patches are applied before.
  * It prints what the call answers with ample memory: the status and the report, what was written, the inverse
  * behind it, and then the text of the document that is kept; and, in a last line, how many requests there were. Whether a request was refused is told
  * by the functions below that stand in for malloc and realloc: so it is linked with
@@ -70,6 +71,7 @@ void __wrap_free(void *block) {
 
 typedef struct {
     const char *name, *document, *text;
+    char **earlier;
 } input;
 
 /* What came of the call, and the text of the document that is kept, before it and after. */
@@ -135,11 +137,16 @@ static json_patch_status kept_text(json_patch_document *kept, char *text) {
     return status;
 }
 
-/* Opens the document, and keeps an inverse for the calls inverse and undo: of the text, a patch. */
+/* Opens the document, applies the earlier patches to it, and keeps an inverse for the calls inverse and undo: of
+ * the text, a patch. */
 static void prepare(const input *it, json_patch_document *kept, const json_patch_limits *limits, char *out) {
     json_patch_report told;
     int is_recorded = strcmp(it->name, "inverse") == 0 || strcmp(it->name, "undo") == 0;
-    if (json_patch_open(kept, it->document, strlen(it->document), limits, &told) == JSON_PATCH_OK && is_recorded)
+    if (json_patch_open(kept, it->document, strlen(it->document), limits, &told) != JSON_PATCH_OK)
+        return;
+    for (char **patch = it->earlier; *patch; patch++)
+        json_patch_update_recorded(kept, *patch, strlen(*patch), out, ROOM, &told);
+    if (is_recorded)
         json_patch_update_recorded(kept, it->text, strlen(it->text), out, ROOM, &told);
 }
 
@@ -210,9 +217,9 @@ static void refuse(const input *it, unsigned long number, int rest, const outcom
 
 int main(int count, char **words) {
     static outcome ample, again;
-    if (count != 4)
+    if (count < 4)
         return 64;
-    input it = {words[1], words[2], words[3]};
+    input it = {words[1], words[2], words[3], words + 4};
     make(&it, 0, 0, &ample);
     unsigned long most = requests;
     json_patch_report *told = &ample.report;

@@ -8,6 +8,8 @@
 
 #include "values.h"
 
+#include <malloc.h>
+
 enum { ROOM = 1 << 16 };
 
 static unsigned long updates;
@@ -309,6 +311,91 @@ static void expect_found(const char *pointer, json_patch_status wanted, const ch
     json_patch_close(&document);
 }
 
+/* What malloc has given out and not got back (nothing, under a sanitizer). */
+static size_t held(void) {
+    struct mallinfo2 all = mallinfo2();
+    return all.uordblks + all.hblkhd;
+}
+
+/* A document in which each of many small rows was changed and looked at takes hardly more memory than where one was. */
+static void expect_small_rows_closed(void) {
+    enum { ROWS = 4000 };
+    static char text[ROWS * 40];
+    char patch[80], pointer[20], out[8];
+    size_t size = 0, at_first = 0;
+    json_patch_document document = JSON_PATCH_DOCUMENT;
+    json_patch_report r;
+    for (int i = 0; i < ROWS; i++)
+        size += (size_t)sprintf(text + size, "%c[10, 11, 12, 13, 14, 15, 16, 17]", i ? ',' : '[');
+    text[size++] = ']';
+    EXPECT(json_patch_open(&document, text, size, NULL, &r), JSON_PATCH_OK);
+    for (int i = 0; i < ROWS; i++) {
+        sprintf(patch, "[{\"op\":\"replace\",\"path\":\"/%d/3\",\"value\":99}]", i);
+        sprintf(pointer, "/%d/3", i);
+        EXPECT(json_patch_update(&document, TEXT(patch), out, sizeof out, &r), JSON_PATCH_OK);
+        EXPECT(json_patch_value_at(&document, TEXT(pointer), out, sizeof out, &r), JSON_PATCH_OK);
+        if (i == 0)
+            at_first = held();
+    }
+    if (held() > at_first + size / 10)
+        fail("%zu bytes are held, and not %zu", held(), at_first);
+    json_patch_close(&document);
+}
+
+/* Rows of 1,600 bytes, of which each number takes some 200 when its row is open. */
+enum { LARGE_ROWS = 300, NUMBERS = 400, ROW_LENGTH = 4 * NUMBERS };
+
+static size_t at_number(int row, int number) {
+    return 1 + (size_t)row * (ROW_LENGTH + 1) + 1 + 4 * (size_t)number;
+}
+
+/* The document's text is this one, and it takes at most five times as much since so much was held. */
+static void expect_narrow(json_patch_document *document, const char *text, size_t size, size_t before) {
+    static char out[LARGE_ROWS * (ROW_LENGTH + 1) + 2];
+    json_patch_report r;
+    if (held() > before + 5 * size)
+        fail("%zu bytes are held for %zu", held() - before, size);
+    EXPECT(json_patch_text(document, out, sizeof out, &r), JSON_PATCH_OK);
+    if (r.size != size || memcmp(out, text, size) != 0)
+        fail("another text");
+}
+
+/* In a document whose large rows are changed or looked at, those that were are closed again. A change of a row is
+ * recorded; of each three one is taken back at once, and one after another was refused. */
+static void expect_large_rows_closed(void) {
+    static char text[LARGE_ROWS * (ROW_LENGTH + 1) + 2];
+    char patch[120], pointer[20], out[300];
+    size_t size = 0, before = held();
+    json_patch_document document = JSON_PATCH_DOCUMENT;
+    json_patch_report r;
+    for (int row = 0; row < LARGE_ROWS; row++)
+        for (int number = 0; number < NUMBERS; number++)
+            size += (size_t)sprintf(text + size, "%s10", number ? ", " : row ? "],[" : "[[");
+    size += (size_t)sprintf(text + size, "]]");
+    EXPECT(json_patch_open(&document, text, size, NULL, &r), JSON_PATCH_OK);
+    for (int row = 0; row < LARGE_ROWS; row++) {
+        int number = (row * 7) % NUMBERS;
+        sprintf(patch, "[{\"op\":\"replace\",\"path\":\"/%d/%d\",\"value\":99}]", row, number);
+        EXPECT(json_patch_update_recorded(&document, TEXT(patch), out, sizeof out, &r), JSON_PATCH_OK);
+        memcpy(text + at_number(row, number), "99", 2);
+        if (row % 3 == 1) {
+            sprintf(patch, "[{\"op\":\"remove\",\"path\":\"/%d/0\"},{\"op\":\"test\",\"path\":\"\",\"value\":0}]", row - 1);
+            EXPECT(json_patch_update(&document, TEXT(patch), out, sizeof out, &r), JSON_PATCH_REFUSED);
+        }
+        if (row % 3 != 0) {
+            EXPECT(json_patch_undo(&document, &r), JSON_PATCH_OK);
+            memcpy(text + at_number(row, number), "10", 2);
+        }
+        expect_narrow(&document, text, size, before);
+    }
+    for (int row = 0; row < 2 * LARGE_ROWS; row++) {
+        sprintf(pointer, "/%d/3", row % LARGE_ROWS);
+        EXPECT(json_patch_value_at(&document, TEXT(pointer), out, sizeof out, &r), JSON_PATCH_OK);
+        expect_narrow(&document, text, size, before);
+    }
+    json_patch_close(&document);
+}
+
 int main(int count, char **words) {
     if (count != 2)
         fail("test_document CASES");
@@ -319,6 +406,8 @@ int main(int count, char **words) {
     expect_values();
     expect_rooms();
     expect_paths();
+    expect_small_rows_closed();
+    expect_large_rows_closed();
     expect_found("", JSON_PATCH_OK, "{\"a/b\": [1e2, { \"m~n\":null}]}");
     expect_found("/a~1b/0", JSON_PATCH_OK, "1e2");
     expect_found("/a~1b/1", JSON_PATCH_OK, "{ \"m~n\":null}");

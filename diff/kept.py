@@ -4,10 +4,11 @@
     diff/kept.py [--seed S] [--cases N]
 
 c/build has to have built the library, which is called in this process. Texts and patches are those of diff/texts.py.
-Each text, two in five of them an object of many members, is opened once and changed by thirty patches, so many of
-which a case is: they are made or recorded, a third is refused by a test at a random place, and of two that are recorded
-one is taken back. The answer, the inverse and the text that stands after each have to be the model's (`texts_model`),
-byte by byte. The run fails where one isn't, and where a kind of change never came."""
+Each text, two in five of them an object of many members, two in three an element of arrays that are too long to stay
+closed, and one in ten beside so many of them that they are closed again, is opened once and changed by thirty patches,
+so many of which a case is: they are made or recorded, a third is refused by a test at a random place, and of two that
+are recorded one is taken back. The answer, the inverse and the text that stands after each have to be the model's
+(`texts_model`), byte by byte. The run fails where one isn't, and where a kind of change never came."""
 import argparse
 import sys
 from collections import Counter
@@ -72,9 +73,21 @@ def changed(texts, handle, now, came):
     return then, None if left == then else f"{name} {patch!r} on {now!r}\n  has to leave {then!r}\n  leaves       {left!r}"
 
 
+def long(texts):
+    """A text, as it is or in one array or two, each with a string that makes it too long to stay closed; or beside
+    arrays of which three open ones are so many elements that they are closed."""
+    text, long_string = texts.wide() if texts.random.random() < 0.4 else texts.text(4), f'"{"x" * 1_100}"'
+    if texts.random.random() < 0.1:
+        arrays = [f"[{long_string}{', 1' * 150}]" for _ in range(4)]
+        return f"[{', '.join([*arrays, text])}]"
+    for _ in range(texts.random.randrange(3)):
+        text = f"[{long_string}, {text}]"
+    return text
+
+
 def kept(texts, came, wrong):
     """One text and the changes of it. How many they are."""
-    now, handle = texts.wide() if texts.random.random() < 0.4 else texts.text(4), Handle()
+    now, handle = long(texts), Handle()
     assert KEPT["open"](handle, now.encode(), len(now.encode()), None, Report()) == OK
     for number in range(PATCHES):
         now, what = changed(texts, handle, now, came)

@@ -17,7 +17,6 @@ use Rattle.json_lexemes.proofs.Nests.{nests, one_tree, refused}
 use Rattle.json_lexemes.proofs.Parsed.{Says-document}
 use Rattle.serde_json.specs.Data.{Num, unsigned, negative, float, Data, null, boolean, number, string, array, object, Items, no_items, item, Members, no_members, member, depth, items_depth, members_depth, put}
 use Rattle.serde_json.specs.View.{items_of}
-use Rattle.json_patch_document.specs.Document.{IsDocument}
 use Rattle.json_patch_document.proofs.SameDocuments.{AreSame-document}
 use Rattle.json_patch_laws.specs.Inverse.{ArePlain}
 use Rattle.json_patch_laws.specs.Run.{Accepts, IsAccepted}

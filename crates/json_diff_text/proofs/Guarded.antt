@@ -1,8 +1,8 @@
 -- The patch with tests (RFC 6902, section 4.6), on trees and in texts.
-use Rattle.std.proofs.Common.{◌≡◌, ◌≤◌, ◌+◌, ◌*◌, ◌↔◌, ℕ, List, [], ◌∷◌, ◌++◌, false, length, max, map, refl, sym, ap, ◌∙◌, subst, arith}
+use Rattle.std.proofs.Common.{◌≡◌, ◌≤◌, ◌+◌, ◌*◌, ◌↔◌, ℕ, List, [], ◌∷◌, ◌++◌, false, max, map, refl, sym, ap, ◌∙◌, subst, arith}
 use Rattle.std.proofs.lemmas.List.{length-map, map-append}
 use Rattle.std.specs.Prelude.{codes}
-use Rattle.json.specs.Json.{Json, max_depth}
+use Rattle.json.specs.Json.{Json}
 use Rattle.json.specs.Tree as tree
 use Rattle.json_lexemes.specs.Skipped.{nesting}
 use Rattle.json_lexemes.specs.Spelled.{Says}

@@ -17,10 +17,10 @@ ghost use Rattle.json_patch_text.specs.Within.{IsPatchedWithin};
 use crate::coding::coded;
 use crate::fault::{DiffTextFault, from_fault, to_fault};
 use crate::numerals::Numerals;
-use crate::reading::{levels, read};
+use crate::reading::{levels, read, room};
 use crate::spelling::spelled;
 use crate::writing::written;
-use json::{MAX_DEPTH, Scratch, Value as Tree};
+use json::{MAX_DEPTH, Value as Tree};
 use json_patch::{Limits, Patch};
 use json_patch_diff::diff;
 use json_patch_moves::moving_diff;
@@ -112,13 +112,13 @@ pub(crate) fn difference(
     ensures text { IfOk result (λ patch. IsTextPatch moves from.now to.now (string_bytes patch)) }
     ensures fault { IfErr result (IsDiffTextFault from.now to.now) }
 {
-    let mut old = Scratch::new(alloc);
-    let start = match read(alloc, from, MAX_DEPTH, &mut old) {
+    let mut old = room(alloc)?;
+    let start = match read(alloc, from, MAX_DEPTH, &mut *old) {
         Ok(value) => value,
         Err(fault) => return Err(from_fault(fault)),
     };
-    let mut new = Scratch::new(alloc);
-    let goal = match read(alloc, to, MOST_LEVELS, &mut new) {
+    let mut new = room(alloc)?;
+    let goal = match read(alloc, to, MOST_LEVELS, &mut *new) {
         Ok(value) => value,
         Err(fault) => return Err(to_fault(fault)),
     };

@@ -12,9 +12,9 @@ ghost use Rattle.json_diff_text.specs.Merges.{IsBothPatchOrNone, IsBothTextFault
 use crate::coding::coded;
 use crate::fault::{BothTextFault, first_fault, then_fault};
 use crate::numerals::Numerals;
-use crate::reading::read;
+use crate::reading::{read, room};
 use crate::writing::written_value;
-use json::{MAX_DEPTH, Scratch, Value};
+use json::{MAX_DEPTH, Value};
 use json_merge_diff::merge_both;
 use std::alloc::{AllocError, Global};
 
@@ -66,13 +66,13 @@ pub fn merge_both_text(
     ensures resets { IfOk result (λ o. (o ≡ None) ↔ TextResets first.now then.now) }
     ensures fault { IfErr result (IsBothTextFault first.now then.now) }
 {
-    let mut one = Scratch::new(alloc);
-    let earlier = match read(alloc, first, MAX_DEPTH, &mut one) {
+    let mut one = room(alloc)?;
+    let earlier = match read(alloc, first, MAX_DEPTH, &mut *one) {
         Ok(value) => value,
         Err(fault) => return Err(first_fault(fault)),
     };
-    let mut next = Scratch::new(alloc);
-    let later = match read(alloc, then, MAX_DEPTH, &mut next) {
+    let mut next = room(alloc)?;
+    let later = match read(alloc, then, MAX_DEPTH, &mut *next) {
         Ok(value) => value,
         Err(fault) => return Err(then_fault(fault)),
     };

@@ -15,9 +15,9 @@ use crate::coding::coded;
 use crate::comparing::{MOST_LEVELS, edits};
 use crate::fault::{DiffTextFault, from_fault, to_fault};
 use crate::numerals::Numerals;
-use crate::reading::read;
+use crate::reading::{read, room};
 use crate::writing::written;
-use json::{Scratch, Value as Tree};
+use json::Value as Tree;
 use json_patch_diff::with_guards;
 use json_reading::same_tree;
 use std::alloc::{AllocError, Global};
@@ -64,13 +64,13 @@ pub fn guarded_diff_text(alloc: Global, from: &str, to: &str) -> Result<String, 
         from.now (string_bytes patch)) }
     ensures fault { IfErr result (IsGuardedFault from.now to.now) }
 {
-    let mut old = Scratch::new(alloc);
-    let start = match read(alloc, from, MOST_LEVELS, &mut old) {
+    let mut old = room(alloc)?;
+    let start = match read(alloc, from, MOST_LEVELS, &mut *old) {
         Ok(value) => value,
         Err(fault) => return Err(from_fault(fault)),
     };
-    let mut new = Scratch::new(alloc);
-    let goal = match read(alloc, to, MOST_LEVELS, &mut new) {
+    let mut new = room(alloc)?;
+    let goal = match read(alloc, to, MOST_LEVELS, &mut *new) {
         Ok(value) => value,
         Err(fault) => return Err(to_fault(fault)),
     };

@@ -14,9 +14,9 @@ ghost use Rattle.json_diff_text.specs.Merges.{AreSameObjects, IsLedByEmpty, IsMe
 use crate::coding::coded;
 use crate::fault::{DiffTextFault, from_fault, to_fault};
 use crate::numerals::Numerals;
-use crate::reading::read;
+use crate::reading::{read, room};
 use crate::writing::written_value;
-use json::{MAX_DEPTH, Scratch, Value};
+use json::{MAX_DEPTH, Value};
 use json_merge_diff::merge_diff;
 use json_reading::same_tree;
 use std::alloc::{AllocError, Global};
@@ -81,13 +81,13 @@ pub fn merge_diff_text(alloc: Global, from: &str, to: &str) -> Result<Option<Str
     ensures wants_null { IfOk result (λ o. (o ≡ None) ↔ TextWantsNull from.now to.now) }
     ensures fault { IfErr result (IsMergeDiffFault from.now to.now) }
 {
-    let mut old = Scratch::new(alloc);
-    let start = match read(alloc, from, MAX_DEPTH, &mut old) {
+    let mut old = room(alloc)?;
+    let start = match read(alloc, from, MAX_DEPTH, &mut *old) {
         Ok(value) => value,
         Err(fault) => return Err(from_fault(fault)),
     };
-    let mut new = Scratch::new(alloc);
-    let goal = match read(alloc, to, MAX_DEPTH, &mut new) {
+    let mut new = room(alloc)?;
+    let goal = match read(alloc, to, MAX_DEPTH, &mut *new) {
         Ok(value) => value,
         Err(fault) => return Err(to_fault(fault)),
     };

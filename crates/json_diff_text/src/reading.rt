@@ -11,6 +11,12 @@ use json::{Error, Scratch, Value};
 use json_text::{TextFault, is_deeper};
 use std::alloc::{AllocError, Global};
 
+/// Room for the reading of a text. It has many kilobytes, which on the stack would lie below recursions.
+#[inline(never)]
+pub(crate) fn room(alloc: Global) -> Result<Box<Scratch>, AllocError> {
+    Ok(Box::new(alloc, Scratch::new(alloc))?)
+}
+
 /// The value of a text that nests at most so many levels.
 pub(crate) fn read<'a>(
     alloc: Global,

@@ -312,6 +312,7 @@ impl KeptText {
             (λ s. IsWrittenAt self.old.text j (tokens_of pointer.entry) (string_bytes s))) }
         ensures unchanged { self.new ≡ self.old }
     {
+        self.pieces.close_if_large(alloc)?;
         self.pieces.value(alloc, pointer)
     }
 

@@ -1,8 +1,9 @@
 //! A JSON text into which the text of a merge patch is merged (RFC 7396).
 
-ghost use Rattle.std.specs.Prelude.{◌≡◌, ◌≤◌, [], IfErr, IfNone, IfOk, IfSome, List, length, max, ℕ};
+ghost use Rattle.std.specs.Prelude.{◌≡◌, ◌≤◌, [], IfErr, IfNone, IfOk, IfSome, List, OnOk, Some, length, max, ℕ};
 ghost use Rattle.std.specs.String.{string_bytes};
-ghost use Rattle.json.specs.Json.{Json};
+ghost use Rattle.json.specs.Json.{Json, document};
+ghost use Rattle.json.specs.Value.{value_view};
 ghost use Rattle.json.specs.declared.error.Error.TheVariants as Error;
 ghost use Rattle.json_merge_text.specs.Merged.{IsMergeOver, IsMergeTextFault, IsMergedAlready, IsMergedText, SaysMerged, most_bytes};
 ghost use Rattle.json_merge_text.specs.Merging.{IsChanged, MergesInto};
@@ -54,6 +55,28 @@ fn parse_failure(error: Error) -> AllocError
     }
 }
 
+/// The patch's tree.
+// Not inlined: what the reader takes of the stack would else lie below the merging, which goes by recursion.
+#[inline(never)]
+fn tree<'a>(
+    alloc: Global,
+    patch: CheckedText<'a>,
+    scratch: &'a mut Scratch<Global>,
+) -> Result<Value<'a, Global>, AllocError>
+    ensures { IfOk result (λ value. document (text_in patch.entry) ≡ Some (value_view value)) }
+{
+    match Value::parse(alloc, patch.as_str(), scratch) {
+        Ok(value) => Ok(value),
+        Err(error) => Err(parse_failure(error)),
+    }
+}
+
+/// Room for the reading of a text. It has many kilobytes, which on the stack would lie below the merging.
+#[inline(never)]
+fn room(alloc: Global) -> Result<Box<Scratch>, AllocError> {
+    Ok(Box::new(alloc, Scratch::new(alloc))?)
+}
+
 /// Both texts in pieces, with the patch merged into the document's.
 fn merged<'a>(
     alloc: Global,
@@ -65,11 +88,8 @@ fn merged<'a>(
         → IsShallowText (text_in patch.entry) p
         → IsChanged (text_in text.entry) (text_of new.document) (MergesInto (text_in patch.entry) [] i p)) }
 {
-    let mut scratch = Scratch::new(alloc);
-    let change = match Value::parse(alloc, patch.as_str(), &mut scratch) {
-        Ok(value) => value,
-        Err(error) => return Err(parse_failure(error)),
-    };
+    let mut scratch = room(alloc)?;
+    let change = tree(alloc, patch, &mut *scratch)?;
     let here = Shape::of(text.as_str());
     let mut texts = Texts::new(text, patch);
     merge_into(alloc, &mut texts, &PointerBuf::new(), here, &change)?;
@@ -87,6 +107,20 @@ fn document(alloc: Global, text: &str) -> Result<CheckedText<'_>, MergeTextFault
     }
 }
 
+/// The patch's text, checked.
+// Not inlined, as `tree` isn't.
+#[inline(never)]
+fn checked(alloc: Global, patch: &str) -> Result<CheckedText<'_>, MergeTextFault>
+    ensures text { IfOk result (λ checked. text_in checked ≡ patch.now) }
+    ensures shallow { OnOk result ((j : Json) × IsShallowText patch.now j) }
+    ensures fault { IfErr result (λ fault. (text : List ℕ) → IsMergeTextFault text patch.now fault) }
+{
+    match CheckedText::new(alloc, patch) {
+        Ok(checked) => Ok(checked),
+        Err(fault) => Err(patch_fault(fault)),
+    }
+}
+
 /// The same, of a patch that is checked here.
 fn patch_merged<'a>(
     alloc: Global,
@@ -98,10 +132,7 @@ fn patch_merged<'a>(
         (λ new. IsMergedText (text_in text.entry) patch.now (text_of new.document)) }
     ensures fault { IfErr result (IsMergeTextFault (text_in text.entry) patch.now) }
 {
-    let patch = match CheckedText::new(alloc, patch) {
-        Ok(patch) => patch,
-        Err(fault) => return Err(patch_fault(fault)),
-    };
+    let patch = checked(alloc, patch)?;
     Ok(merged(alloc, text, patch)?)
 }
 

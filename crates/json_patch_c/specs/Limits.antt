@@ -1,7 +1,6 @@
 -- The limits that a struct of words says.
-use Rattle.std.specs.Prelude.{ℕ, ◌^◌, suc, eqb, cond, List, Option, Some, None, Result, Ok, Err, slice_index_or}
+use Rattle.std.specs.Prelude.{ℕ, ◌^◌, eqb, cond, List, Option, Some, None, Result, Ok, Err, slice_index_or}
 use Rattle.json_patch_bytes.specs.Bounds.{the_limits, within_most}
-use Rattle.json_patch.specs.Limits.{Limits}
 use Rattle.json_patch_c.specs.Given.{Given}
 use Rattle.json_patch_c.specs.declared.given.CallLimits.{CallLimits}
 use Rattle.json_patch_c.specs.declared.given.WrongSize.{WrongSize}

@@ -109,11 +109,13 @@ impl WholeText<'_> {
     }
 }
 
+/// So many operations are made on the whole text, if none of them adds.
+const FEW: usize = 3;
+
 /// The text that operations work on.
 #[derive(Drop)]
 pub(crate) enum Draft<'a> {
-    /// Made for a lone `replace` or `test`. `remove` and `add` work on it as well: to rule them out would
-    /// take a clause in each step, and arms that are never reached.
+    /// Made for a few operations.
     Whole(WholeText<'a>),
     /// An object or an array is passed over once, however many calls go through it.
     Pieces(Pieces<'a>),
@@ -132,6 +134,11 @@ fn most_levels(text: &str, levels: usize) -> Option<usize>
     }
 }
 
+/// Whether one of these puts a value where there was none.
+fn has_addition(operations: &[TextOperation]) -> bool {
+    operations.iter().any(|operation| operation.is_addition())
+}
+
 impl<'a> Draft<'a> {
     ghost use Rattle.std.specs.Prelude.{◌<◌, length};
     ghost use Rattle.std.specs.Bool.{Decides};
@@ -139,14 +146,19 @@ impl<'a> Draft<'a> {
     ghost use Rattle.json_patch_text.specs.declared.draft.Draft.TheVariants as variant;
     ghost use Rattle.json_pieces.specs.Changes.{Adds, Removes, Replaces};
 
-    /// The document's text, as serves these operations best: for a single one in place as a whole, since
-    /// to find its place is all that it takes. Another would pass over the objects and arrays around it, or
-    /// copy them, more than once.
-    pub(crate) fn new(text: CheckedText<'a>, operations: &[TextOperation]) -> Draft<'a>
+    /// The document's text, as serves these operations best: for a few as a whole, since a few passes take less
+    /// time than to open each object and array on the way. One that adds takes two or three passes, and many
+    /// where its undo is kept, to tell the number of an element.
+    pub(crate) fn new(text: CheckedText<'a>, operations: &[TextOperation], kept: bool) -> Draft<'a>
         ensures draft { IsDraft result }
         ensures text { draft_text result ≡ text_in text.entry }
     {
-        if operations.len() == 1 && operations[0].is_in_place() {
+        let few = if has_addition(operations) {
+            operations.len() == 1 && !kept
+        } else {
+            operations.len() <= FEW
+        };
+        if few {
             Draft::Whole(WholeText::Kept(text))
         } else {
             Draft::Pieces(Pieces::new(text))

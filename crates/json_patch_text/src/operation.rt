@@ -38,11 +38,11 @@ impl TextOperation<'_> {
         }
     }
 
-    /// Whether it exchanges or reads a value where it stands, and puts nothing beside others.
-    pub(crate) fn is_in_place(&self) -> bool {
+    /// Whether it may put a value beside others.
+    pub(crate) fn is_addition(&self) -> bool {
         matches!(
             self,
-            TextOperation::Replace(_, _) | TextOperation::Test(_, _)
+            TextOperation::Add(_, _) | TextOperation::Move(_, _) | TextOperation::Copy(_, _)
         )
     }
 }

@@ -125,7 +125,7 @@ pub(crate) fn run(
     ensures fault { IfErr result (λ fault. (ops : List TreeOperation) → AreWrittenAs operations.now ops
         → IsRunFaultUnder log.old.kept bounds (text_in text.entry) operations.now ops fault) }
 {
-    let mut draft = Draft::new(text, operations);
+    let mut draft = Draft::new(text, operations, log.kept);
     match run_in(log, &mut draft, operations, bounds) {
         Ok(()) => Ok(draft.into_text(log.alloc)?),
         Err(fault) => Err(fault),

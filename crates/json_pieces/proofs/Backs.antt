@@ -7,11 +7,12 @@ use Rattle.std.proofs.lemmas.Bool.{true≢false}
 use Rattle.std.proofs.lemmas.List.{get_or_default, take_all}
 use Rattle.std.proofs.Math.Seq.{set-append_seam}
 use Rattle.long_vec.specs.Items.{capacity_of, items_of}
-use Rattle.json_pieces.specs.Backs.{Along, AreBack, Below, IsAloneAgain, IsBack, IsBackAt, IsBackIn, IsBackOut, IsBackValue, LogLeads, step_of}
+use Rattle.json_pieces.specs.Backs.{Along, AreBack, Below, IsAloneAgain, IsBack, IsBackAt, IsBackIn, IsBackOut, IsBackValue, LogLeads, PutsWhole, step_of}
 use Rattle.json_pieces.specs.Exchanges.{with_trail, with_whitespace}
 use Rattle.json_pieces.specs.Held.{Held, head_of, held, held_row, held_text, helds, row_held}
 use Rattle.json_pieces.specs.Slots.{AreSwapped, IsSlotOf}
 use Rattle.json_pieces.specs.declared.back.Back.{Back}
+use Rattle.json_pieces.specs.declared.back.Back.TheVariants.{Swap}
 use Rattle.json_pieces.specs.declared.back.Change.{Change}
 use Rattle.json_pieces.specs.declared.back.Level.{Level}
 use Rattle.json_pieces.specs.declared.node.Node.{Node}
@@ -235,3 +236,14 @@ log_popped (d ∷ log) c t p h = let more = log_popped log c t h.0 h.1 in (more.
 pub log_pushed : (log : List Change) (c : Change) (t r p : Held) → IsBackAt c.place.items c.steps.items t r → LogLeads log r p → LogLeads (log ++ c ∷ []) t p
 log_pushed [] c t r p undone back = (t, refl, subst (IsBackAt c.place.items c.steps.items t) back undone)
 log_pushed (b ∷ log) c t r p undone back = (back.0, log_pushed log c t r back.0 undone back.1, back.2)
+
+pub steps_pushed : (cs : List Back) (c : Back) (t r p : Held) → IsBack (step_of c) t r → AreBack cs r p → AreBack (cs ++ c ∷ []) t p
+steps_pushed [] c t r p undone back = (t, refl, subst (IsBack (step_of c) t) back undone)
+steps_pushed (b ∷ cs) c t r p undone back = (back.0, steps_pushed cs c t r back.0 undone back.1, back.2)
+
+-- a value in the place of the whole is so whatever that is
+pub anywhere : (c : Change) (t u r : Held) → PutsWhole c → IsBackAt c.place.items c.steps.items t r → IsBackAt c.place.items c.steps.items u r
+anywhere c t u r (here, (cs, (v, is))) back =
+    let steps = subst (λ l. AreBack l t r) is (subst (λ l. IsBackAt l c.steps.items t r) here back) in
+    let popped = steps_popped cs (Swap v) t r steps in
+    subst (λ l. IsBackAt l c.steps.items u r) (sym here) (subst (λ l. AreBack l u r) (sym is) (steps_pushed cs (Swap v) u popped.0 r popped.1 popped.2))

@@ -17,3 +17,4 @@ pub mod Finer
 pub mod Backs
 pub mod Stepped
 pub mod Logs
+pub mod Kept

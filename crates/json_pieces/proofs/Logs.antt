@@ -1,13 +1,14 @@
 -- What takes changes back, since a mark.
-use Rattle.std.proofs.Common.{◌≡◌, ◌+◌, ◌≤◌, ◌<◌, ◌^◌, ℕ, zero, suc, true, false, List, [], ◌∷◌, ◌++◌, Vec, Global, length, length-append, refl, sym, ap, ◌∙◌, subst, arith}
+use Rattle.std.proofs.Common.{◌≡◌, ◌+◌, ◌-◌, ◌≤◌, ◌<◌, ◌^◌, ℕ, zero, suc, true, false, List, [], ◌∷◌, ◌++◌, Vec, Global, length, length-append, refl, sym, ap, ◌∙◌, subst, arith}
 use Rattle.std.specs.Bool.{◌==◌}
-use Rattle.std.specs.Prelude.{None, Option, Some, vec_len, ⊤}
+use Rattle.std.specs.Prelude.{None, Option, Some, slice_get, vec_len, ⊤}
 use Rattle.std.proofs.lemmas.Bool.{true≢false}
-use Rattle.json_pieces.specs.Backs.{IsBackAt, LogLeads}
+use Rattle.std.proofs.lemmas.Option.{none-some, same_Some}
+use Rattle.json_pieces.specs.Backs.{IsBackAt, LogLeads, PutsWhole}
 use Rattle.json_pieces.specs.Finer.{IsOpenedFrom}
 use Rattle.json_pieces.specs.Held.{Held}
 use Rattle.json_pieces.specs.Logged.{IsLed}
-use Rattle.json_pieces.specs.Logs.{CanLead, CanLeadOn, IsMarked, IsMore, IsSameLog, IsTakenBack, Leads, LeadsOn, LeadsTwice, is_on}
+use Rattle.json_pieces.specs.Logs.{CanLead, CanLeadOn, IsMarked, IsMore, IsSameLog, IsTakenBack, Leads, LeadsOn, LeadsTwice, StartsOver, is_on}
 use Rattle.json_pieces.specs.Nodes.{tree_of, tree_text}
 use Rattle.json_pieces.specs.Whole.{IsFit}
 use Rattle.json_pieces.specs.declared.back.Back.{Back}
@@ -17,7 +18,7 @@ use Rattle.json_pieces.specs.declared.log.Log.{Log}
 use Rattle.json_pieces.specs.declared.log.Log.TheVariants.{Off, On}
 use Rattle.json_pieces.specs.declared.text.Text.{Text}
 use Rattle.json_pieces.specs.Names.{text_bytes}
-use Rattle.json_pieces.proofs.Backs.{log_pushed}
+use Rattle.json_pieces.proofs.Backs.{anywhere, log_popped, log_pushed}
 use Rattle.json_pieces.proofs.Finer.{finer_back}
 use Rattle.json_pieces.proofs.Opened.{opened_text, opened_whole}
 
@@ -170,3 +171,38 @@ taken_holds (On cs (Some es)) m P t u k h can =
     let there = k.1 can.0 can.1 in
     let q = can.3 in
     (subst P (sym there) can.2, subst (λ x. CanLead x P u) (sym k.0) (q.0, subst (λ x. LogLeads es.items x q.0) (sym there) q.1, q.2, tt))
+
+-- ---- going back begins with a value in the place of the whole
+
+over_log : (ds cs : List Change) (c : Change) (t u p : Held) → cs ≡ ds ++ c ∷ [] → PutsWhole c → LogLeads cs t p → LogLeads cs u p
+over_log ds cs c t u p is whole back =
+    let popped = log_popped ds c t p (subst (λ l. LogLeads l t p) is back) in
+    subst (λ l. LogLeads l u p) (sym is) (log_pushed ds c u popped.0 p (anywhere c t u popped.0 whole popped.1) popped.2)
+
+pub over_leads : (l : Log) (t u p : Held) → StartsOver l → Leads l t p → Leads l u p
+over_leads Off t u p over back = absurd over
+over_leads (On cs es) t u p over back = over_log over.0 cs.items over.1.0 t u p over.1.1.0 over.1.1.1 back
+
+pub over_twice : (l : Log) (t u q : Held) → StartsOver l → LeadsTwice l t q → LeadsTwice l u q
+over_twice Off t u q over back = absurd over
+over_twice (On cs es) t u q over back = (back.0, over_log over.0 cs.items over.1.0 t u back.0 over.1.1.0 over.1.1.1 back.1, back.2)
+
+pub over_can : (l : Log) (P : Held → Type 0) (t u : Held) → StartsOver l → CanLead l P t → CanLead l P u
+over_can Off P t u over can = absurd over
+over_can (On cs es) P t u over can = (can.0, over_log over.0 cs.items over.1.0 t u can.0 over.1.1.0 over.1.1.1 can.1, can.2, can.3)
+
+last_at : (cs : List Change) (x c : Change) → slice_get (x ∷ cs) (length cs) ≡ Some c → (ds : List Change) × (x ∷ cs ≡ ds ++ c ∷ [])
+last_at [] x c e = ([], ap (λ y. y ∷ []) (same_Some x c e))
+last_at (y ∷ cs) x c e = let more = last_at cs y c e in (x ∷ more.0, ap (λ l. x ∷ l) more.1)
+
+last_split : (cs : List Change) (c : Change) → slice_get cs (length cs - 1) ≡ Some c → (ds : List Change) × (cs ≡ ds ++ c ∷ [])
+last_split [] c e = absurd (none-some c e)
+last_split (x ∷ cs) c e = last_at cs x c (subst (λ n. slice_get (x ∷ cs) n ≡ Some c) (one_less (length cs)) e)
+  where
+    one_less : (n : ℕ) → suc n - 1 ≡ n
+    one_less n = omega arith
+
+pub over_last : (l : Log) (cs : Vec Change Global) (es : Option (Vec Change Global)) (c : Change) → l ≡ On cs es → slice_get cs.items (length cs.items - 1) ≡ Some c → PutsWhole c → StartsOver l
+over_last l cs es c is last whole =
+    let split = last_split cs.items c last in
+    subst StartsOver (sym is) (split.0, (c, (split.1, whole)))

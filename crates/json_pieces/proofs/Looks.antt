@@ -44,10 +44,10 @@ pub array_shape : (r : Row) → IsSound (row_view r) → r.named ≡ false → (
 array_shape r h e j says = sym (in_array h.0.cs r.named e) ∙ ap shape_of (row_tree r h j says)
 
 -- no child has the name
-pub none_looked : (t k : List ℕ) (P : Pointer) (r : Row) → IsSound (row_view r) → k ≡ t → ((cs : List Child) → AllSuit r.named cs (pieces_in (items_of r.seams.all) (items_of r.values)) → child k (tree_in r.named cs) ≡ None)
+pub none_looked : (t : List ℕ) (P : Pointer) (r : Row) → IsSound (row_view r) → ((cs : List Child) → AllSuit r.named cs (pieces_in (items_of r.seams.all) (items_of r.values)) → child t (tree_in r.named cs) ≡ None)
     → (j : Json) → Says (tree_text (row_view r)) j → Looks j (t ∷ P) None
-none_looked t k P r h is none j says =
-    let nothing : child t j ≡ None = subst (λ y. child y j ≡ None) is (subst (λ i. child k i ≡ None) (row_tree r h j says) (none h.0.cs h.0.suit)) in
+none_looked t P r h none j says =
+    let nothing : child t j ≡ None = subst (λ i. child t i ≡ None) (row_tree r h j says) (none h.0.cs h.0.suit) in
     sym (ap (λ o. option_map shape_of (option_and_then (tree_at P) o)) nothing)
 
 -- the value of this number was looked at, and is w since
@@ -55,10 +55,10 @@ module _ (r : Row) (n : ℕ) (v w : Node) (P : Pointer) (h : IsSound (row_view r
   pub still_sound : IsWhole (view w) → tree_text (view w) ≡ tree_text (view v) → IsSound (wide r.named r.length (text_bytes r.hollow) (parts_of (items_of r.seams.all) (map view (slice_set (items_of r.values) n w))))
   still_sound whole same = set_is_sound r n v w h l e r.length whole (ap (λ s. r.length + length s) (sym same))
 
-  pub looked_below : (c : Result (Option Shape) AllocError) (t k : List ℕ) → k ≡ t → ((cs : List Child) → AllSuit r.named cs (pieces_in (items_of r.seams.all) (items_of r.values)) → IsNumberOf r.named cs k n)
+  pub looked_below : (c : Result (Option Shape) AllocError) (t : List ℕ) → ((cs : List Child) → AllSuit r.named cs (pieces_in (items_of r.seams.all) (items_of r.values)) → IsNumberOf r.named cs t n)
       → IfOk c (λ found. (j : Json) → Says (tree_text (view v)) j → Looks j P found) → IfOk c (λ found. (j : Json) → Says (tree_text (row_view r)) j → Looks j (t ∷ P) found)
-  looked_below c t k is names =
-      IfOk-weaker c _ _ (λ found. set_makes r n v w h l e (λ text j new. Looks j P found) (λ text j new. Looks j (t ∷ P) found) t k is names (λ cs s. lift_looks r.named (text_bytes r.hollow) t n cs _ (tree_text (view w)) P found s))
+  looked_below c t names =
+      IfOk-weaker c _ _ (λ found. set_makes r n v w h l e (λ text j new. Looks j P found) (λ text j new. Looks j (t ∷ P) found) t names (λ cs s. lift_looks r.named (text_bytes r.hollow) t n cs _ (tree_text (view w)) P found s))
 
 -- with the whitespace around it
 pub looks_around : (a b s : List ℕ) (P : Pointer) (found : Option Shape) → IsWhitespace a → IsWhitespace b → (i : Json) × Says s i → ((j : Json) → Says s j → Looks j P found) → (j : Json) → Says (a ++ (s ++ b)) j → Looks j P found

@@ -1,7 +1,7 @@
 -- The walk to the place of an edit, and the edit there.
 use Rattle.std.proofs.Common.{◌≡◌, inl, inr, ℕ, ◌+◌, ◌<◌, ◌≤◌, ◌^◌, true, List, [], ◌∷◌, length, get_or, map, Option, Some, None, option_and_then, refl, sym, ap, ◌∙◌, subst, arith, append-nil, Box}
 use Rattle.std.specs.Box.{with_value as boxed_with}
-use Rattle.std.specs.Prelude.{IfOk, IfSome, OnOk, Result, Ok, Err, is_some, slice_set}
+use Rattle.std.specs.Prelude.{IfOk, IfSome, MatchOption, OnOk, Result, Ok, Err, is_some, slice_set}
 use Rattle.std.specs.declared.alloc.AllocError.{AllocError}
 use Rattle.std.proofs.lemmas.List.{get_or_default, set-get_or, set-set}
 use Rattle.std.proofs.lemmas.Result.{IfOk-weaker}
@@ -193,19 +193,19 @@ module _ (r : Row) (n : ℕ) (v w : Node) (h : IsSound (row_view r)) (l : n < le
       )
 
   -- what is made of the value, M, makes N of the row
-  pub set_makes : (M N : List ℕ → Json → List ℕ → Type 0) (t k : List ℕ) → k ≡ t
-      → ((cs : List Child) → AllSuit r.named cs (pieces_in (items_of r.seams.all) (items_of r.values)) → IsNumberOf r.named cs k n)
+  pub set_makes : (M N : List ℕ → Json → List ℕ → Type 0) (t : List ℕ)
+      → ((cs : List Child) → AllSuit r.named cs (pieces_in (items_of r.seams.all) (items_of r.values)) → IsNumberOf r.named cs t n)
       → ((cs : List Child) (s : Stands r.named t n cs (pieces_in (items_of r.seams.all) (items_of r.values))) → M (value_at n (pieces_in (items_of r.seams.all) (items_of r.values))) s.child_tree (tree_text (view w))
       → N (tree_text (row_view r)) (tree_in r.named cs) (row_text r.named (text_bytes r.hollow) (with_value n (tree_text (view w)) (pieces_in (items_of r.seams.all) (items_of r.values)))))
       → ((j : Json) → Says (tree_text (view v)) j → M (tree_text (view v)) j (tree_text (view w))) → (j : Json) → Says (tree_text (row_view r)) j
       → N (tree_text (row_view r)) j (row_text r.named (text_bytes r.hollow) (pieces_in (items_of r.seams.all) (slice_set (items_of r.values) n w)))
-  set_makes M N t k is names lifts made j says =
+  set_makes M N t names lifts made j says =
       let old = pieces_in (items_of r.seams.all) (items_of r.values) in
       let x = tree_text (view w) in
       let there : value_at n old ≡ tree_text (view v) = value_there (items_of r.seams.all) (items_of r.values) n v h.1 l e in
       let inner : (j : Json) → Says (value_at n old) j → M (value_at n old) j x = subst (λ y. (j : Json) → Says y j → M y j x) (sym there) made in
       subst (λ y. N (tree_text (row_view r)) j y) (sym set_text)
-      (lift r.named (text_bytes r.hollow) t n h.0.cs old x M N h.0.suit h.0.whitespace count (subst (λ y. IsNumberOf r.named h.0.cs y n) is (names h.0.cs h.0.suit)) (lifts h.0.cs) inner j says)
+      (lift r.named (text_bytes r.hollow) t n h.0.cs old x M N h.0.suit h.0.whitespace count (names h.0.cs h.0.suit) (lifts h.0.cs) inner j says)
 
   -- another with the same text
   pub set_same : tree_text (view w) ≡ tree_text (view v) → row_text r.named (text_bytes r.hollow) (pieces_in (items_of r.seams.all) (slice_set (items_of r.values) n w)) ≡ tree_text (row_view r)
@@ -221,9 +221,25 @@ one_value vs n v w l e f = e ∙ get_or_default vs n v w l ∙ sym f
 pub put_back : (vs between new : List Node) (n : ℕ) (a w : Node) → between ≡ slice_set vs n a → new ≡ slice_set between n w → new ≡ slice_set vs n w
 put_back vs between new n a w e f = f ∙ ap (λ l. slice_set l n w) e ∙ set-set vs n a w
 
-pub none_made : (e : Edit) (t k : List ℕ) (P : Pointer) (r : Row) → IsSound (row_view r) → k ≡ t → ((cs : List Child) → AllSuit r.named cs (pieces_in (items_of r.seams.all) (items_of r.values)) → child k (tree_in r.named cs) ≡ None) → (j : Json) → Says (tree_text (row_view r)) j → Makes e (tree_text (row_view r)) j (t ∷ P) (tree_text (row_view r)) None
-none_made e t k P r h is none j says =
-    none_there r.named (text_bytes r.hollow) t h.0.cs (pieces_in (items_of r.seams.all) (items_of r.values)) e P h.0.suit h.0.whitespace (subst (λ y. child y (tree_in r.named h.0.cs) ≡ None) is (none h.0.cs h.0.suit)) j says
+-- a number that was found
+pub number_within : (r : Row) (found : Option ℕ) (n : ℕ) → found ≡ Some n → IfSome found (λ k. k < length (items_of r.values)) → n < length (items_of r.values)
+number_within r found n is within = subst (λ o. IfSome o (λ k. k < length (items_of r.values))) is within
+
+-- and that it is of the token
+pub number_found : (r : Row) (t : List ℕ) (found : Option ℕ) (n : ℕ) → found ≡ Some n
+    → ((cs : List Child) → AllSuit r.named cs (pieces_in (items_of r.seams.all) (items_of r.values)) → MatchOption found (child t (tree_in r.named cs) ≡ None) (IsNumberOf r.named cs t))
+    → (cs : List Child) → AllSuit r.named cs (pieces_in (items_of r.seams.all) (items_of r.values)) → IsNumberOf r.named cs t n
+number_found r t found n is told cs suit = subst (λ o. MatchOption o (child t (tree_in r.named cs) ≡ None) (IsNumberOf r.named cs t)) is (told cs suit)
+
+-- no number was
+pub number_none : (r : Row) (t : List ℕ) (found : Option ℕ) → found ≡ None
+    → ((cs : List Child) → AllSuit r.named cs (pieces_in (items_of r.seams.all) (items_of r.values)) → MatchOption found (child t (tree_in r.named cs) ≡ None) (IsNumberOf r.named cs t))
+    → (cs : List Child) → AllSuit r.named cs (pieces_in (items_of r.seams.all) (items_of r.values)) → child t (tree_in r.named cs) ≡ None
+number_none r t found is told cs suit = subst (λ o. MatchOption o (child t (tree_in r.named cs) ≡ None) (IsNumberOf r.named cs t)) is (told cs suit)
+
+pub none_made : (e : Edit) (t : List ℕ) (P : Pointer) (r : Row) → IsSound (row_view r) → ((cs : List Child) → AllSuit r.named cs (pieces_in (items_of r.seams.all) (items_of r.values)) → child t (tree_in r.named cs) ≡ None) → (j : Json) → Says (tree_text (row_view r)) j → Makes e (tree_text (row_view r)) j (t ∷ P) (tree_text (row_view r)) None
+none_made e t P r h none j says =
+    none_there r.named (text_bytes r.hollow) t h.0.cs (pieces_in (items_of r.seams.all) (items_of r.values)) e P h.0.suit h.0.whitespace (none h.0.cs h.0.suit) j says
 
 -- the same of what a call answers, by the tokens that it was given
 pub row_made_at : {X : Type 0} (c : Result X AllocError) (M : Pointer → X → List ℕ → Json → List ℕ → Type 0) (old opened new : Node) (copy : Row) (r s : Box Row Global) (P Q : Pointer) → Q ≡ P → tree_text (view opened) ≡ tree_text (view old) → copy ≡ r.value → opened ≡ Open r → new ≡ Open s

@@ -152,6 +152,10 @@ Along (l ∷ ls) R t p = Below l (Along ls R) t p
 abbrev pub IsBackAt : List Level → List Back → Held → Held → Type 0
 IsBackAt ls cs t p = Along ls (AreBack cs) t p
 
+-- the change is at the whole, and going back begins by putting a value in its place
+abbrev pub PutsWhole : Change → Type 0
+PutsWhole c = (c.place.items ≡ []) × ((cs : List Back) × ((v : Node) × (c.steps.items ≡ cs ++ Swap v ∷ [])))
+
 -- taking the changes back, the last one first, makes p of t
 abbrev pub LogLeads : List Change → Held → Held → Type 0
 LogLeads [] t p = t ≡ p

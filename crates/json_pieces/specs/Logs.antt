@@ -1,7 +1,7 @@
 -- What takes changes back, to a mark, and from there to the one before.
 use Rattle.std.specs.Prelude.{◌≡◌, ◌<◌, List, [], ◌∷◌, ◌++◌, Bool, true, false, None, Option, Some, Vec, vec_capacity, vec_len, ⊤}
 use Rattle.std.specs.declared.alloc.Global.{Global}
-use Rattle.json_pieces.specs.Backs.{LogLeads}
+use Rattle.json_pieces.specs.Backs.{LogLeads, PutsWhole}
 use Rattle.json_pieces.specs.Held.{Held}
 use Rattle.json_pieces.specs.declared.back.Back.{Back}
 use Rattle.json_pieces.specs.declared.back.Change.{Change}
@@ -42,6 +42,11 @@ abbrev pub IsMarked : Log → Log → Type 0
 IsMarked old Off = ⊥
 IsMarked Off (On cs es) = (cs.items ≡ []) × (es ≡ None)
 IsMarked (On ds fs) (On cs es) = (cs.items ≡ []) × (es ≡ Some ds)
+
+-- whatever the whole is, taking back begins by putting a value in its place
+abbrev pub StartsOver : Log → Type 0
+StartsOver Off = ⊥
+StartsOver (On cs es) = (ds : List Change) × ((c : Change) × ((cs.items ≡ ds ++ c ∷ []) × PutsWhole c))
 
 abbrev pub IsSameLog : Log → Log → Type 0
 IsSameLog Off Off = ⊤

@@ -1,7 +1,7 @@
 //! What takes a change of a value in pieces back, with no memory.
 
-ghost use Rattle.std.specs.Prelude.{◌≡◌, ◌+◌, ◌<◌, ◌^◌, ◌≤◌, [], ℕ, length};
-ghost use Rattle.json_pieces.specs.Backs.{AreBack, IsAloneAgain, IsBack, IsBackAt, IsBackIn, IsBackOut, IsBackValue, IsInRow, LogLeads, Moves, step_of};
+ghost use Rattle.std.specs.Prelude.{◌≡◌, ◌+◌, ◌<◌, ◌^◌, ◌≤◌, [], ℕ, length, IsTrue};
+ghost use Rattle.json_pieces.specs.Backs.{AreBack, IsAloneAgain, IsBack, IsBackAt, IsBackIn, IsBackOut, IsBackValue, IsInRow, LogLeads, Moves, PutsWhole, step_of};
 ghost use Rattle.json_pieces.specs.Held.{Held, held, row_held};
 ghost use Rattle.json_pieces.specs.Logged.{AreInRow};
 ghost use Rattle.json_pieces.specs.declared.node.Node.{Node};
@@ -39,6 +39,15 @@ pub(crate) enum Back<'a> {
 pub(crate) struct Change<'a> {
     pub place: Vec<Level>,
     pub steps: Vec<Back<'a>>,
+}
+
+impl<'a> Change<'a> {
+    /// Whether going back begins by putting a value in the place of the whole, whatever that is.
+    pub(crate) fn starts_over(&self) -> bool
+        ensures { IsTrue result → PutsWhole self.now }
+    {
+        self.place.is_empty() && matches!(self.steps.last(), Some(Back::Swap(_)))
+    }
 }
 
 /// The value that a step has.

@@ -1,18 +1,22 @@
 //! An edit where a pointer leads.
 
-ghost use Rattle.std.specs.Prelude.{◌≡◌, ◌+◌, ◌<◌, ◌≤◌, ◌^◌, ◌∷◌, [], is_some, length, true, IfOk, IfSome, OnErr};
+ghost use Rattle.std.specs.Prelude.{◌≡◌, ◌+◌, ◌<◌, ◌≤◌, ◌^◌, ◌∷◌, [], is_some, length, true, IfOk, IfSome, MatchOption, OnErr, OnOk};
+ghost use Rattle.std.specs.String.{string_bytes};
 ghost use Rattle.json.specs.Json.{Json};
 ghost use Rattle.jsonptr.specs.Pointers.{token_of, tokens_left};
-ghost use Rattle.json_pieces.specs.Edits.{IsInner, IsReady, Makes, PutsIn};
+ghost use Rattle.json_pieces.specs.Edits.{Fails, IsInner, IsMade, IsReady, Makes, PutsIn};
 ghost use Rattle.json_pieces.specs.Held.{held, row_held};
 ghost use Rattle.json_pieces.specs.Logged.{IsLed, IsStepped};
 ghost use Rattle.json_pieces.specs.Nodes.{IsSound, IsWhole, row_view, tree_text, view};
 ghost use Rattle.json_lexemes.specs.Spelled.{Says};
+ghost use Rattle.json_text.specs.Listing.{IsTextOf};
 
 use crate::back::{Back, Level};
+use crate::means::Means;
 use crate::node::{Node, Row, written};
 use crate::opening::open;
-use crate::row::{number_of, put, take};
+use crate::row::{number_at, put, take};
+use crate::small::{is_small, is_text};
 use crate::text::Text;
 use crate::work::Work;
 use jsonptr::{Token, Tokens};
@@ -85,7 +89,7 @@ fn apply_below<'a>(
     ensures led { work.old.logged ≡ true → IsStepped work.new.steps.items (held node.old) (held node.new) }
     ensures place { work.new.place ≡ work.old.place }
 {
-    open(work.means.alloc, node)?;
+    open(work.means.alloc, node, &mut work.opened)?;
     match node {
         Node::Closed(_) => Ok(None),
         Node::Open(row) => apply_in(work, row, edit),
@@ -145,9 +149,139 @@ fn apply_in<'a>(
     }
 }
 
-/// Makes the edit where the tokens lead, as [`apply`] does.
+impl<'v, 'a> Edit<'v, 'a> {
+    /// How many bytes the value has that it puts.
+    fn put_len(&self) -> usize
+        requires { IsReady self.now }
+    {
+        match self {
+            Edit::Put(value) | Edit::Insert(_, value) => value.len(),
+            _ => 0,
+        }
+    }
+
+    /// Whether it is made in the value that it comes to by these tokens, and not of that as a whole.
+    fn goes_into(&self, mut path: Tokens<'_>) -> bool {
+        path.next().is_some() || matches!(self, Edit::Take(_) | Edit::Insert(..))
+    }
+}
+
+/// What the edit leaves of a value's text, and the text that it answers: it is made in pieces that are let
+/// go.
+#[cycle(edit)]
+fn edited<'a>(
+    means: Means,
+    text: String,
+    path: Tokens<'_>,
+    edit: Edit<'_, 'a>,
+) -> Result<Option<(String, String)>, AllocError>
+    requires text { (j : Json) × IsTextOf (string_bytes text) j }
+    requires ready { IsReady edit }
+    requires room { length (string_bytes text) + means.room < 2 ^ 64 }
+    ensures text { IfOk result (λ found. IfSome found (λ made. (j : Json) × IsTextOf (string_bytes made.0) j)) }
+    ensures grown { IfOk result (λ found. IfSome found
+        (λ made. length (string_bytes made.0) ≤ length (string_bytes text) + means.room)) }
+    ensures makes { IfOk result (λ found. (j : Json) → Says (string_bytes text) j
+        → MatchOption found (Fails edit.entry j (tokens_left path.entry))
+        (λ made. IsMade edit.entry (string_bytes text) j (tokens_left path.entry)
+        (string_bytes made.0) (string_bytes made.1))) }
+{
+    let mut work = Work::new(means, false, false);
+    let mut value = Node::Closed(Text::Made(text));
+    let Some(out) = edit_open(&mut work, &mut value, path, edit)? else {
+        return Ok(None);
+    };
+    let left = written(means.alloc, &value)?;
+    let out = out.into_text(means.alloc)?;
+    Ok(Some((left, out)))
+}
+
+/// Puts another text in the place of a value's.
+pub(crate) fn put_text<'a>(
+    work: &mut Work<'a>,
+    node: &mut Node<'a>,
+    text: String,
+) -> Result<(), AllocError>
+    requires steps { work.old.steps.items ≡ [] }
+    ensures text { OnOk result (tree_text (view node.new) ≡ string_bytes text) }
+    ensures sound { OnOk result (IsSound (view node.new)) }
+    ensures unchanged { OnErr result (node.new ≡ node.old) }
+    ensures led { work.old.logged ≡ true → IsStepped work.new.steps.items (held node.old) (held node.new) }
+    ensures place { work.new.place ≡ work.old.place }
+{
+    work.ready()?;
+    let before = mem::replace(node, Node::Closed(Text::Made(text)));
+    work.keep(Back::Swap(before));
+    Ok(())
+}
+
+/// Makes the edit where the tokens lead, and leaves the value closed: another text comes in the place of its
+/// text.
+// Not inlined: each level on the way would else hold its room.
+#[inline(never)]
+#[cycle(edit)]
+fn edit_small<'a>(
+    work: &mut Work<'a>,
+    node: &mut Node<'a>,
+    path: Tokens<'_>,
+    edit: Edit<'_, 'a>,
+) -> Result<Option<Node<'a>>, AllocError>
+    requires whole { IsWhole (view node.old) }
+    requires ready { IsReady edit }
+    requires steps { work.old.steps.items ≡ [] }
+    requires room { length (tree_text (view node.old)) + work.old.means.room < 2 ^ 64 }
+    ensures whole { IsWhole (view node.new) }
+    ensures grown { length (tree_text (view node.new)) ≤ length (tree_text (view node.old)) + work.old.means.room }
+    ensures unchanged { OnErr result (tree_text (view node.new) ≡ tree_text (view node.old)) }
+    ensures makes { IfOk result (λ found. (j : Json) → Says (tree_text (view node.old)) j
+        → Makes edit.entry (tree_text (view node.old)) j (tokens_left path.entry)
+        (tree_text (view node.new)) found) }
+    ensures sound { IfOk result (λ found. IfSome found (λ out. IsSound (view out))) }
+    ensures led { work.old.logged ≡ true → IsLed work.new.steps.items work.old.place.items work.new.place.items (held node.old) (held node.new) }
+{
+    let text = written(work.means.alloc, node)?;
+    let Some((left, out)) = edited(work.means, text, path, edit)? else {
+        return Ok(None);
+    };
+    if !is_text(node, left.as_str()) {
+        put_text(work, node, left)?;
+    }
+    Ok(Some(Node::Closed(Text::Made(out))))
+}
+
+/// Makes the edit where the tokens lead, as [`apply`] does. In pieces that last a small value stays closed.
+// Inlined, so that a level on the way is one frame.
+#[inline(always)]
 #[cycle(edit)]
 pub(crate) fn edit_at<'a>(
+    work: &mut Work<'a>,
+    node: &mut Node<'a>,
+    path: Tokens<'_>,
+    edit: Edit<'_, 'a>,
+) -> Result<Option<Node<'a>>, AllocError>
+    requires whole { IsWhole (view node.old) }
+    requires ready { IsReady edit }
+    requires steps { work.old.steps.items ≡ [] }
+    requires room { length (tree_text (view node.old)) + work.old.means.room < 2 ^ 64 }
+    ensures whole { IsWhole (view node.new) }
+    ensures grown { length (tree_text (view node.new)) ≤ length (tree_text (view node.old)) + work.old.means.room }
+    ensures unchanged { OnErr result (tree_text (view node.new) ≡ tree_text (view node.old)) }
+    ensures makes { IfOk result (λ found. (j : Json) → Says (tree_text (view node.old)) j
+        → Makes edit.entry (tree_text (view node.old)) j (tokens_left path.entry)
+        (tree_text (view node.new)) found) }
+    ensures sound { IfOk result (λ found. IfSome found (λ out. IsSound (view out))) }
+    ensures led { work.old.logged ≡ true → IsLed work.new.steps.items work.old.place.items work.new.place.items (held node.old) (held node.new) }
+{
+    if work.lasting && edit.goes_into(path) && is_small(node, edit.put_len()) {
+        edit_small(work, node, path, edit)
+    } else {
+        edit_open(work, node, path, edit)
+    }
+}
+
+/// The same, and what is on the way is opened.
+#[cycle(edit)]
+fn edit_open<'a>(
     work: &mut Work<'a>,
     node: &mut Node<'a>,
     mut path: Tokens<'_>,
@@ -169,7 +303,7 @@ pub(crate) fn edit_at<'a>(
     let Some(token) = path.next() else {
         return apply(work, node, edit);
     };
-    open(work.means.alloc, node)?;
+    open(work.means.alloc, node, &mut work.opened)?;
     match node {
         Node::Closed(_) => Ok(None),
         Node::Open(row) => edit_in(work, row, token, path, edit),
@@ -197,8 +331,7 @@ fn edit_in<'a>(
     ensures value { IfOk result (λ found. IfSome found (λ out. IsSound (view out))) }
     ensures led { work.old.logged ≡ true → IsLed work.new.steps.items work.old.place.items work.new.place.items (row_held row.old) (row_held row.new) }
 {
-    let name = token.decoded(work.means.alloc)?;
-    let Some(number) = number_of(row, name.as_str()) else {
+    let Some(number) = number_at(work.means.alloc, row, token)? else {
         return Ok(None);
     };
     work.enter(Level {

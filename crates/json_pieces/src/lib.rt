@@ -27,8 +27,10 @@ mod pieces;
 mod row;
 mod seams;
 mod shape;
+mod small;
 mod taken;
 mod text;
+mod width;
 mod work;
 
 pub use pieces::Pieces;

@@ -1,8 +1,8 @@
 //! What takes changes back, to a mark, and from there to the one before.
 
-ghost use Rattle.std.specs.Prelude.{◌≡◌, ⊤, OnErr, OnOk};
+ghost use Rattle.std.specs.Prelude.{◌≡◌, ⊤, IsTrue, OnErr, OnOk};
 ghost use Rattle.json_pieces.specs.Held.{held};
-ghost use Rattle.json_pieces.specs.Logs.{CanLead, HasRoom, IsMarked, IsMore, IsSameLog, IsTakenBack, is_on};
+ghost use Rattle.json_pieces.specs.Logs.{CanLead, HasRoom, IsMarked, IsMore, IsSameLog, IsTakenBack, StartsOver, is_on};
 
 use crate::back::{Change, take_back};
 use crate::node::Node;
@@ -44,6 +44,19 @@ impl<'a> Log<'a> {
         match self {
             Log::Off => false,
             Log::On(_, _) => true,
+        }
+    }
+
+    /// Whether taking back begins by putting a value in the place of the whole, whatever that is.
+    pub(crate) fn starts_over(&self) -> bool
+        ensures { IsTrue result → StartsOver self.now }
+    {
+        match self {
+            Log::Off => false,
+            Log::On(changes, _) => match changes.last() {
+                Some(change) => change.starts_over(),
+                None => false,
+            },
         }
     }
 

@@ -150,22 +150,24 @@ fn ask(alloc: Global, row: &mut Row<'_>) -> Result<(), AllocError>
     Ok(())
 }
 
-/// Opens a value that is closed, if it is an object or an array.
-fn open_closed(alloc: Global, node: &mut Node<'_>) -> Result<(), AllocError>
+/// Opens a value that is closed, if it is an object or an array, and counts what stands in it.
+fn open_closed(alloc: Global, node: &mut Node<'_>, opened: &mut usize) -> Result<(), AllocError>
     requires whole { IsWhole (view node.old) }
     requires closed { (s : Text) × (node.old ≡ Closed s) }
     ensures opened { OnOk result (IsOpened (view node.new)) }
     ensures finer { IsOpenedFrom (held node.old) (held node.new) }
 {
     if let Some(row) = row_for(alloc, node)? {
+        let count = row.count();
         *node = Node::Open(Box::new(alloc, row)?);
+        *opened = opened.saturating_add(count);
     }
     Ok(())
 }
 
 /// Opens the value, if it is an object or an array, so that a token can be looked for in it. Its
-/// text stays.
-pub(crate) fn open(alloc: Global, node: &mut Node<'_>) -> Result<(), AllocError>
+/// text stays. The members and elements that stand open with it are added to `opened`.
+pub(crate) fn open(alloc: Global, node: &mut Node<'_>, opened: &mut usize) -> Result<(), AllocError>
     requires { IsWhole (view node.old) }
     ensures whole { IsWhole (view node.new) }
     ensures text { tree_text (view node.new) ≡ tree_text (view node.old) }
@@ -174,6 +176,6 @@ pub(crate) fn open(alloc: Global, node: &mut Node<'_>) -> Result<(), AllocError>
 {
     match node {
         Node::Open(row) => ask(alloc, row),
-        Node::Closed(_) => open_closed(alloc, node),
+        Node::Closed(_) => open_closed(alloc, node, opened),
     }
 }

@@ -1,12 +1,13 @@
 //! A JSON text in pieces.
 
-use crate::edit::{Edit, edit_at};
+use crate::edit::{Edit, edit_at, put_text};
 use crate::log::Log;
 use crate::means::Means;
-use crate::node::{Node, write};
+use crate::node::{Node, write, written};
 use crate::shape::shape_at;
 use crate::taken::Taken;
 use crate::text::Text;
+use crate::width::Width;
 use crate::work::Work;
 use json_text::{CheckedText, Shape, split_off_whitespace};
 use jsonptr::{Pointer, Tokens};
@@ -15,7 +16,9 @@ use std::alloc::{AllocError, Global};
 /// A JSON text in pieces.
 ///
 /// At first the text is one piece. A call goes down by the pointer's tokens and opens each object and
-/// array that it comes to: one pass over its text, after which it stays open. In an open array an element
+/// array that it comes to: one pass over its text, after which it stays open, until a mark or
+/// [`close_if_large`](Pieces::close_if_large) closes all. One of at most 1,024 bytes that owns them is
+/// never opened, and a change in it makes another text. In an open array an element
 /// is found at once, in an open object a member by comparing names. When an object of at least 32 members
 /// has been asked for a name 16 times, the next call makes an index of its names, and a member is found
 /// in as many steps as the logarithm of their number. The index is kept while members are added and
@@ -36,6 +39,7 @@ pub struct Pieces<'a> {
     root: Node<'a>,
     behind: Text<'a>,
     log: Log<'a>,
+    width: Width,
 }
 
 impl<'a> Pieces<'a> {
@@ -73,6 +77,7 @@ impl<'a> Pieces<'a> {
             root: Node::Closed(Text::kept(value)),
             behind: Text::kept(behind),
             log: Log::Off,
+            width: Width::new(),
         }
     }
 
@@ -100,6 +105,7 @@ impl<'a> Pieces<'a> {
             root,
             behind,
             log: Log::Off,
+            width: Width::new(),
         })
     }
 
@@ -118,7 +124,39 @@ impl<'a> Pieces<'a> {
         ensures further { OnOk result ((t : List ℕ) → LeadsBack self.old t → LeadsFurther self.new t) }
         ensures unchanged { OnErr result (KeepsBack self.old self.new) }
     {
+        self.close_if_large(alloc)?;
         self.log.mark(alloc)?;
+        Ok(())
+    }
+
+    /// Closes the text, if so much of it is open that it takes some three times its memory and twice what the
+    /// first call opened: it is one piece again. A mark does this first. Between marks it is for whoever
+    /// looks at many values: what stood open at the mark is kept until that is taken away.
+    ///
+    /// ```rust
+    /// pieces.close_if_large(alloc)?;
+    /// let array = pieces.value(alloc, place)?;
+    /// ```
+    pub fn close_if_large(&mut self, alloc: Global) -> Result<(), AllocError>
+        requires { ArePieces self.old }
+        ensures pieces { ArePieces self.new }
+        ensures kept { text_of self.new ≡ text_of self.old }
+        ensures back { KeepsBack self.old self.new }
+    {
+        if !self.width.is_large() {
+            return Ok(());
+        }
+        let text = written(alloc, &self.root)?;
+        if self.log.starts_over() {
+            self.root = Node::Closed(Text::Made(text));
+            self.width.closed(false);
+            return Ok(());
+        }
+        self.log.ready()?;
+        let mut work = Work::new(Means { alloc, room: 0 }, self.log.is_on(), true);
+        put_text(&mut work, &mut self.root, text)?;
+        self.log.keep(work);
+        self.width.closed(self.log.is_on());
         Ok(())
     }
 
@@ -138,6 +176,7 @@ impl<'a> Pieces<'a> {
         ensures further { (t : List ℕ) → LeadsFurther self.old t → LeadsBack self.new t }
     {
         self.log.take_back(&mut self.root);
+        self.width.taken_back(self.log.is_on());
     }
 
     /// Takes the marks away, and lets go what was kept since: the changes stay.
@@ -195,8 +234,9 @@ impl<'a> Pieces<'a> {
     {
         let room = usize::MAX - self.len();
         self.log.ready()?;
-        let mut work = Work::new(Means { alloc, room }, self.log.is_on());
+        let mut work = Work::new(Means { alloc, room }, self.log.is_on(), true);
         let found = edit_at(&mut work, &mut self.root, path, edit);
+        self.width.opened(work.opened, self.root.len());
         // Also where memory ran out, and then there are no steps.
         self.log.keep(work);
         found
@@ -243,7 +283,10 @@ impl<'a> Pieces<'a> {
             → found ≡ option_map shape_of (tree_at (tokens_of pointer.entry) j)) }
         ensures back { KeepsBack self.old self.new }
     {
-        shape_at(alloc, &mut self.root, pointer.tokens())
+        let mut opened = 0;
+        let shape = shape_at(alloc, &mut self.root, pointer.tokens(), &mut opened);
+        self.width.opened(opened, self.root.len());
+        shape
     }
 
     /// Puts the value in the place of that where the pointer leads, if one stands there.

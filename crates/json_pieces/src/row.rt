@@ -2,6 +2,7 @@
 
 ghost use Rattle.std.specs.Prelude.{◌≡◌, ◌<◌, ◌≤◌, ◌+◌, ◌^◌, ◌∷◌, [], false, is_some, length, List, slice_index_or, true, Some, None, IfNone, IfOk, IfSome, MatchOption, OnErr, OnOk};
 ghost use Rattle.jsonptr.specs.Places.{place_of};
+ghost use Rattle.jsonptr.specs.Pointers.{token_of};
 ghost use Rattle.json.specs.Json.{Json};
 ghost use Rattle.json_pieces.specs.Backs.{IsBack, IsInRow, Moves, step_of};
 ghost use Rattle.json_pieces.specs.Finer.{IsOpenedFrom};
@@ -28,8 +29,9 @@ use crate::seams::Seam;
 use crate::text::Text;
 use crate::work::{Work, copied, moved};
 use json_text::quoted;
+use jsonptr::Token;
 use jsonptr::index::Index;
-use std::alloc::AllocError;
+use std::alloc::{AllocError, Global};
 use std::mem;
 
 /// The number of the element that a token names, of so many.
@@ -59,6 +61,24 @@ pub(crate) fn number_of(row: &Row<'_>, name: &str) -> Option<usize>
     } else {
         element_number(name, row.count())
     }
+}
+
+/// The same of a token as a pointer has it.
+// Not inlined: each level on the way would else hold the name's room.
+#[inline(never)]
+pub(crate) fn number_at(
+    alloc: Global,
+    row: &Row<'_>,
+    token: Token<'_>,
+) -> Result<Option<usize>, AllocError>
+    requires sound { IsSound (row_view row.now) }
+    ensures number { IfOk result (λ found. (cs : List Child) → AllSuit row.now.named cs (row_pieces row.now)
+        → MatchOption found (child (token_of token.entry) (tree_in row.now.named cs) ≡ None)
+        (IsNumberOf row.now.named cs (token_of token.entry))) }
+    ensures within { IfOk result (λ found. IfSome found (λ n. n < length (items_of row.now.values))) }
+{
+    let name = token.decoded(alloc)?;
+    Ok(number_of(row, name.as_str()))
 }
 
 impl<'a> Seam<'a> {

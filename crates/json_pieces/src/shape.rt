@@ -12,7 +12,8 @@ ghost use Rattle.jsonptr.specs.Pointers.{token_of, tokens_left};
 
 use crate::node::{Node, Row};
 use crate::opening::open;
-use crate::row::number_of;
+use crate::row::number_at;
+use crate::small::small_text;
 use crate::text::Text;
 use json_text::Shape;
 use jsonptr::{Token, Tokens};
@@ -40,13 +41,35 @@ fn row_shape(row: &Row<'_>) -> Shape
     }
 }
 
-/// What stands where the tokens lead, if anything does. It opens what is on the way, and copies no
-/// value.
+/// What stands where the tokens lead, if anything does. It opens what is on the way and isn't small, and
+/// copies no value. The members and elements that stand open with it are added to `opened`.
 #[cycle(looking)]
 pub(crate) fn shape_at(
     alloc: Global,
     node: &mut Node<'_>,
+    path: Tokens<'_>,
+    opened: &mut usize,
+) -> Result<Option<Shape>, AllocError>
+    requires whole { IsWhole (view node.old) }
+    ensures whole { IsWhole (view node.new) }
+    ensures text { tree_text (view node.new) ≡ tree_text (view node.old) }
+    ensures finer { IsOpenedFrom (held node.old) (held node.new) }
+    ensures looks { IfOk result (λ found. (j : Json) → Says (tree_text (view node.old)) j
+        → Looks j (tokens_left path.entry) found) }
+{
+    match small_text(node) {
+        Some(text) => shape_open(alloc, &mut Node::Closed(Text::kept(text)), path, &mut 0),
+        None => shape_open(alloc, node, path, opened),
+    }
+}
+
+/// The same, and what is on the way is opened.
+#[cycle(looking)]
+fn shape_open(
+    alloc: Global,
+    node: &mut Node<'_>,
     mut path: Tokens<'_>,
+    opened: &mut usize,
 ) -> Result<Option<Shape>, AllocError>
     requires whole { IsWhole (view node.old) }
     ensures whole { IsWhole (view node.new) }
@@ -58,10 +81,10 @@ pub(crate) fn shape_at(
     let Some(token) = path.next() else {
         return Ok(Some(shape(node)));
     };
-    open(alloc, node)?;
+    open(alloc, node, opened)?;
     match node {
         Node::Closed(_) => Ok(None),
-        Node::Open(row) => shape_in(alloc, row, token, path),
+        Node::Open(row) => shape_in(alloc, row, token, path, opened),
     }
 }
 
@@ -71,6 +94,7 @@ fn shape_in(
     row: &mut Row<'_>,
     token: Token<'_>,
     rest: Tokens<'_>,
+    opened: &mut usize,
 ) -> Result<Option<Shape>, AllocError>
     requires sound { IsSound (row_view row.old) }
     ensures sound { IsSound (row_view row.new) }
@@ -79,12 +103,11 @@ fn shape_in(
     ensures looks { IfOk result (λ found. (j : Json) → Says (tree_text (row_view row.old)) j
         → Looks j (token_of token.entry ∷ tokens_left rest.entry) found) }
 {
-    let name = token.decoded(alloc)?;
-    let Some(number) = number_of(row, name.as_str()) else {
+    let Some(number) = number_at(alloc, row, token)? else {
         return Ok(None);
     };
     let mut value = row.values.exchange(number, Node::Closed(Text::Empty));
-    let found = shape_at(alloc, &mut value, rest);
+    let found = shape_at(alloc, &mut value, rest, opened);
     // Also where memory ran out.
     row.values.exchange(number, value);
     found

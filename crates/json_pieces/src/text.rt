@@ -41,14 +41,17 @@ impl<'a> Text<'a> {
         Text::Kept(Lent::new(text))
     }
 
-    /// One that is made anew.
+    /// One that is made anew. What stands in most seams needs no block of memory.
     pub(crate) fn made(alloc: Global, text: &str) -> Result<Text<'a>, AllocError>
         ensures { IfOk result (λ made. text_bytes made ≡ text.now) }
     {
-        if text.is_empty() {
-            return Ok(Text::Empty);
+        match text {
+            "" => Ok(Text::Empty),
+            " " => Ok(Text::kept(" ")),
+            ":" => Ok(Text::kept(":")),
+            ": " => Ok(Text::kept(": ")),
+            _ => Ok(Text::Made(String::from_str(alloc, text)?)),
         }
-        Ok(Text::Made(String::from_str(alloc, text)?))
     }
 
     /// The whitespace of a new member or element, by this of a neighbour.

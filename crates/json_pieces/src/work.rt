@@ -18,6 +18,10 @@ pub(crate) struct Work<'a> {
     pub means: Means,
     /// Whether what takes it back is kept.
     pub logged: bool,
+    /// Whether the pieces last, so that a small value in them stays closed.
+    pub lasting: bool,
+    /// How many members and elements it opened.
+    pub opened: usize,
     /// The way to the place that it changes.
     pub place: Vec<Level>,
     /// The steps back there, the last one first. Until a change is made there are none.
@@ -25,7 +29,7 @@ pub(crate) struct Work<'a> {
 }
 
 impl<'a> Work<'a> {
-    pub(crate) fn new(means: Means, logged: bool) -> Work<'a>
+    pub(crate) fn new(means: Means, logged: bool, lasting: bool) -> Work<'a>
         ensures means { result.means ≡ means }
         ensures logged { result.logged ≡ logged }
         ensures place { result.place.items ≡ [] }
@@ -34,6 +38,8 @@ impl<'a> Work<'a> {
         Work {
             means,
             logged,
+            lasting,
+            opened: 0,
             place: Vec::new(means.alloc),
             steps: Vec::new(means.alloc),
         }

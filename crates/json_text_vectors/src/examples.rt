@@ -139,6 +139,7 @@ fn left(alloc: Global, new: Option<String>) -> Result<String, AllocError> {
 fn array_in_pieces(alloc: Global, place: Pointer) -> Result<String, TextFault> {
     let text = CheckedText::new(alloc, r#"{"list": [1.50, 2] }"#)?;
     let mut pieces = Pieces::new(text);
+    pieces.close_if_large(alloc)?;
     let array = pieces.value(alloc, place)?;
     Ok(left(alloc, array)?)
 }

@@ -1,11 +1,9 @@
 """The library's calls, made: room for what they write, and an exception for each status."""
 from __future__ import annotations
 
-import ctypes
-
 from ._library import (
     CLOSED, IMPOSSIBLE, LIBRARY, NO_DOCUMENT, NO_MEMORY, NO_PATCH, NO_POINTER, NO_ROOM, NOTHING, OK, OVER, REFUSED, Report, bounds,
-    kind_text,
+    buffer, kind_text,
 )
 from .errors import (
     KINDS, NOT_A_LIST, JsonPatchException, JsonPointerException, NoMergePatch, OverLimit, TooDeep, _LeadsNowhere, _TestsNothing,
@@ -89,18 +87,18 @@ def recorded(document: bytes, patch: bytes, limits: Limits) -> Tuple[bytes, byte
     """The text that a patch leaves, and that of the patch that leads back."""
     given = document, len(document), patch, len(patch), bounds(limits)
     most = len(document) + len(patch) + _SPARE
-    inverse, size = ctypes.create_string_buffer(most), 0
+    inverse, size = buffer(most), 0
 
     def both(out: Any, room: int, report: Report) -> int:
         nonlocal inverse, size
         status: int = LIBRARY.json_patch_record(*given, out, room, inverse, len(inverse), report)
         size = report.inverse_size
         if size > len(inverse):
-            inverse = ctypes.create_string_buffer(size)
+            inverse = buffer(size)
         return status
 
     made = written(both, most, patch)
-    return made, ctypes.string_at(inverse, size)
+    return made, inverse[:size]
 
 
 def written(call: Callable[..., int], room: int, patch: bytes = b"") -> bytes:
@@ -108,15 +106,16 @@ def written(call: Callable[..., int], room: int, patch: bytes = b"") -> bytes:
     where it wrote nothing for want of room, and so changed nothing."""
     report = Report()
     while True:
-        out = ctypes.create_string_buffer(room)
+        out = buffer(room)
         status = call(out, room, report)
         if status == OK:
-            return ctypes.string_at(out, report.size)
+            made: bytes = out[: report.size]
+            return made
         # a text, or the path of a refusal, for which there was no room
         if status == NO_ROOM or report.size > room:
             room = max(room, report.size)
             continue
-        raise fault(status, report, ctypes.string_at(out, report.size).decode(), patch)
+        raise fault(status, report, out[: report.size].decode(), patch)
 
 
 def found(call: Callable[..., int], pointer: str) -> bytes:

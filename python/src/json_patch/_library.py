@@ -10,7 +10,7 @@ import os
 
 from ._processor import lacking
 from ._version import __version__
-from .limits import Limits
+from .limits import DEFAULT, Limits
 
 TYPE_CHECKING = False
 if TYPE_CHECKING:
@@ -50,9 +50,23 @@ class Bounds(ctypes.Structure):
 _MOST: int = ctypes.c_size_t(-1).value
 
 
-def bounds(limits: Limits) -> Bounds:
+def _bounds(limits: Limits) -> Bounds:
     operations = _MOST if limits.operations is None else min(limits.operations, _MOST)
     return Bounds(ctypes.sizeof(Bounds), limits.depth, min(limits.bytes, _MOST), operations)
+
+
+_USUAL: Bounds = _bounds(DEFAULT)
+
+
+def bounds(limits: Limits) -> Bounds:
+    """Limits, as the library takes them, which only reads them."""
+    return _USUAL if limits is DEFAULT else _bounds(limits)
+
+
+def buffer(size: int) -> Any:
+    """Room for so many bytes, or somewhat more: a short call takes less time than to make a type of array,
+    which ctypes has for each size."""
+    return ctypes.create_string_buffer(size if size > 65_536 else 1 << size.bit_length())
 
 
 _TEXT: List[Any] = [ctypes.c_char_p, ctypes.c_size_t]

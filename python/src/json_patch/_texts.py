@@ -8,7 +8,7 @@ from .pointer import JsonPointer
 
 TYPE_CHECKING = False
 if TYPE_CHECKING:
-    from typing import Any, Callable, Optional, TypeVar, Union
+    from typing import Any, Callable, Dict, Optional, TypeVar, Union
 
     # of the caller: what writes an object as a JSON text, and what reads one
     Dumps = Callable[[Any], Union[str, bytes]]
@@ -35,14 +35,24 @@ def _number_or_path(value: object) -> Union[int, str]:
     return 0 if is_decimal(value) else pointer_path(value)
 
 
+_ENCODERS: Dict[Any, Callable[[Any], str]] = {}
+
+
+def _encoder(default: Callable[[Any], object]) -> Callable[[Any], str]:
+    """What writes objects: to make one takes as long as to write a small object."""
+    if default not in _ENCODERS:
+        from json import JSONEncoder
+
+        _ENCODERS[default] = JSONEncoder(separators=(",", ":"), allow_nan=False, default=default).encode
+    return _ENCODERS[default]
+
+
 def _text(value: object, told: str, default: Callable[[Any], object] = pointer_path) -> bytes:
     """The text of an object, of which this is told where it holds nan, infinity or a number of some thousand
-    digits, for which json.dumps has no text. How deep it nests is seen before: json.dumps goes by recursion,
-    for which a thread's stack may be too small."""
-    import json
-
+    digits, for which json has no text. How deep it nests is seen before: json goes by recursion, for which a
+    thread's stack may be too small."""
     try:
-        return json.dumps(value, separators=(",", ":"), allow_nan=False, default=default).encode()
+        return _encoder(default)(value).encode()
     except ValueError as error:
         if str(error).startswith("Out of range float"):
             raise of_text(told, NOT_JSON) from error

@@ -1,5 +1,4 @@
-use Rattle.std.proofs.Common.{◌≡◌, ◌∙◌, length, refl, sym, subst, arith}
-use Rattle.json_patch_text.specs.Run.{AcceptsText}
+use Rattle.std.proofs.Common.{◌≡◌, ◌∙◌, length, refl, arith}
 use Rattle.json_patch_text.proofs.Bounded.{deep_under, first_shallow, logged_first, logged_last, logged_more, not_over, over_reached, reached_last, reached_shallow, reached_under_first, reached_under_more, reported_under, settled_most, settled_under, step_nested, written_here}
 use Rattle.json_patch_text.proofs.Reached.{all_accepted, reached_first}
 use Rattle.json_patch_text.proofs.Kept.{kept_first, kept_more}
