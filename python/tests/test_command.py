@@ -18,6 +18,8 @@ COMMAND = shutil.which("json-patch") or MODULE
 DOCUMENT = '{ "b": [1, 2], "a": "\\u00e9" }'
 PATCH = '[{"op": "move", "from": "/b/0", "path": "/c"}]'
 PATCHED = '{ "b": [2], "a": "\\u00e9", "c": 1 }'
+# seconds after which a command hangs: on a loaded machine one that ends at once was seen to take more than 60
+HANGS = 600
 INVERSE = [{"op": "remove", "path": "/c"}, {"op": "add", "path": "/b/0", "value": 1}]
 
 
@@ -37,7 +39,7 @@ class Command(unittest.TestCase):
     def run_lines(self, lines):
         """What a shell's lines write, and the status of the last."""
         lines = f"json-patch() {{ {COMMAND} \"$@\"; }}\n{lines}"
-        done = subprocess.run(["bash", "-c", lines], cwd=self.folder, capture_output=True, timeout=60)
+        done = subprocess.run(["bash", "-c", lines], cwd=self.folder, capture_output=True, timeout=HANGS)
         return done.stdout.decode(), done.stderr.decode(), done.returncode
 
     def assertDoes(self, lines, written=""):
@@ -407,7 +409,7 @@ class Command(unittest.TestCase):
             process = subprocess.Popen(["bash", "-c", f"exec {COMMAND} apply -i d.json fifo"], cwd=self.folder, stderr=subprocess.PIPE)
             with open(fifo, "wb"):  # opens when the command does
                 process.send_signal(number)
-                self.assertEqual((process.stderr.read(), process.wait(timeout=60)), (b"", -number))
+                self.assertEqual((process.stderr.read(), process.wait(timeout=HANGS)), (b"", -number))
             process.stderr.close()
             self.assertEqual(self.text("d.json"), DOCUMENT)
 
