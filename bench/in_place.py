@@ -4,7 +4,7 @@ part-way, and counts the instructions of both imports (valgrind).
 
     bench/in_place.py [--rounds N] [--rows WORDS..]
 
-c/build has to have built the library. A JsonPatch is made once, and applied again and again: to the same object,
+c/package has to have built the package. A JsonPatch is made once, and applied again and again: to the same object,
 or where it wouldn't be accepted twice to a fresh copy. What is printed is as in bench.py. An import is counted
 with its modules compiled, by a Python that is started for it."""
 import argparse
@@ -19,7 +19,7 @@ import workloads
 
 HERE = os.path.dirname(os.path.abspath(__file__))
 TOP = os.path.dirname(HERE)
-IMPORTS = ("pass", "import json_patch", "import jsonpatch", "import ctypes, json")
+IMPORTS = ("pass", "import json_patch", "import jsonpatch", "import json")
 
 OBJECT = {"name": "row", "tags": ["a", "b"], "done": False}
 
@@ -55,8 +55,7 @@ CALLS = [
 
 def instructions(code, folder):
     """Of a Python that runs this: its modules have been compiled before."""
-    given = {**os.environ, "PYTHONPATH": f"{TOP}/python/src", "PYTHONPYCACHEPREFIX": folder, "PYTHONDONTWRITEBYTECODE": ""}
-    given.setdefault("JSON_PATCH_LIBRARY", f"{TOP}/c/out/lib/libjson_patch.so")
+    given = {**os.environ, "PYTHONPATH": f"{TOP}/c/out/python", "PYTHONPYCACHEPREFIX": folder, "PYTHONDONTWRITEBYTECODE": ""}
     subprocess.run([bench.PYTHON, "-c", code], env=given, check=True)
     valgrind = ["valgrind", "--tool=cachegrind", "--cache-sim=no", f"--cachegrind-out-file={folder}/counts"]
     told = subprocess.run([*valgrind, bench.PYTHON, "-c", code], env=given, check=True, capture_output=True, text=True).stderr

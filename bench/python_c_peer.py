@@ -2,14 +2,12 @@
 `again`, `patch` and `make` what bench/python_peer.py times."""
 import copy
 import json
-import os
 import sys
 import time
 from pathlib import Path
 
 TOP = Path(__file__).resolve().parent.parent
-sys.path.append(str(TOP / "python/src"))
-os.environ.setdefault("JSON_PATCH_LIBRARY", str(TOP / "c/out/lib/libjson_patch.so"))
+sys.path.append(str(TOP / "c/out/python"))
 import json_patch  # noqa: E402
 
 mode, count = sys.argv[1], int(sys.argv[2])

@@ -1,18 +1,16 @@
 #!/usr/bin/env python3
 """Answers lines as the driver of diff/driver.rt.txt does, by the calls of json_patch.h, through
-the package in python/: c/build has to have built the library. One argument: patch, record or merge.
+the package in python/: c/package has to have built it. One argument: patch, record or merge.
 
 Each case is answered twice, from text to text and on a document that is kept; where the two aren't
 alike, the line says so, which is no answer. A refusal is told with the document as it was: on one
 that is kept that is looked at, and the program fails where it isn't so."""
 import json
-import os
 import sys
 from pathlib import Path
 
 TOP = Path(__file__).resolve().parent.parent
-sys.path.append(str(TOP / "python/src"))
-os.environ.setdefault("JSON_PATCH_LIBRARY", str(TOP / "c/out/lib/libjson_patch.so"))
+sys.path.append(str(TOP / "c/out/python"))
 import json_patch  # noqa: E402
 from json_patch._calls import applied, merged, recorded  # noqa: E402
 from json_patch.limits import DEFAULT  # noqa: E402

@@ -3,7 +3,7 @@
 
     diff/in_place.py [--seed S] [--cases N]
 
-c/build has to have built the library, which is called in this process. Of four cases three have the random
+c/package has to have built the package, which is called in this process. Of four cases three have the random
 small limits, mostly about where one of its operations would be over: which is told by diff/limits_model.py. One
 has numbers of any kind. What the library leaves has to be what stands in the object afterwards, which is the same
 one; it has to have its members in their order, as the text has them, where the patch adds no name that it
@@ -12,7 +12,6 @@ exception, and each list and dict of the object has to hold what it held, in the
 of this doesn't hold, and where a kind of case never came."""
 import argparse
 import json
-import os
 import sys
 from collections import Counter
 from pathlib import Path
@@ -23,8 +22,7 @@ from limits_tables import faults as faults_of_model
 from model import Refused, copied, tokens_of
 
 TOP = Path(__file__).resolve().parent.parent
-sys.path.append(str(TOP / "python/src"))
-os.environ.setdefault("JSON_PATCH_LIBRARY", str(TOP / "c/out/lib/libjson_patch.so"))
+sys.path.append(str(TOP / "c/out/python"))
 import json_patch  # noqa: E402
 
 LARGE = 10_000

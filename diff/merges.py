@@ -3,7 +3,7 @@
 
     diff/merges.py [--seed S] [--cases N] [--spoil]
 
-c/build has to have built the library, which is called in this process. The texts are those of diff/texts.py,
+c/package has to have built the package, which is called in this process. The texts are those of diff/texts.py,
 and so are the values in the merge patches, which name members that are there and others, remove, replace and
 merge into them, and write values again that stand there already. Each answer has to say what RFC 7396 says,
 and keep each byte that the patch doesn't name. In one case of eight a byte of the text or of the patch is
@@ -12,7 +12,6 @@ one of this doesn't hold, and where something that may happen to a member never 
 go before. With `--spoil` a byte of each new text is changed before it is looked at: then it fails where one
 isn't found out."""
 import argparse
-import os
 import sys
 from collections import Counter
 from pathlib import Path
@@ -22,8 +21,7 @@ from texts import NAMES, Texts
 from texts_model import read
 
 TOP = Path(__file__).resolve().parent.parent
-sys.path.append(str(TOP / "python/src"))
-os.environ.setdefault("JSON_PATCH_LIBRARY", str(TOP / "c/out/lib/libjson_patch.so"))
+sys.path.append(str(TOP / "c/out/python"))
 import json_patch  # noqa: E402
 from json_patch._calls import merged  # noqa: E402
 

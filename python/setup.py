@@ -1,18 +1,22 @@
-"""What pyproject.toml can't say of the wheel: it has a library, for Linux on x86-64, which asks for no
-newer glibc than manylinux2014's (python/try_wheel looks), and it has no code for one Python alone."""
-from setuptools import setup
-from setuptools.dist import Distribution
-from wheel.bdist_wheel import bdist_wheel
+"""What pyproject.toml can't say of the wheel: the module in C, with the library that c/build left in the folder
+that JSON_PATCH_PREFIX names. It is for each Python from 3.8 on, and asks for no newer glibc than manylinux2014's
+(python/try_wheel looks)."""
+import os
+from pathlib import Path
 
+from setuptools import Extension, setup
 
-class LibraryDistribution(Distribution):
-    def has_ext_modules(self):
-        return True
+PREFIX = Path(os.environ["JSON_PATCH_PREFIX"])
+NATIVE = Extension(
+    "json_patch._native",
+    ["native.c"],
+    define_macros=[("Py_LIMITED_API", "0x03080000")],
+    include_dirs=[str(PREFIX / "include")],
+    extra_objects=[str(PREFIX / "lib/libjson_patch.a")],
+    extra_compile_args=["-std=c99", "-Wall", "-Wextra", "-Werror", "-fvisibility=hidden", "-g0"],
+    # the library's names stay its own, and a loader of glibc 2.33 or later refuses it on an older processor
+    extra_link_args=["-Wl,--exclude-libs,ALL", "-Wl,-z,x86-64-v2"],
+    py_limited_api=True,
+)
 
-
-class LibraryWheel(bdist_wheel):
-    def get_tag(self):
-        return "py3", "none", "manylinux2014_x86_64"
-
-
-setup(distclass=LibraryDistribution, cmdclass={"bdist_wheel": LibraryWheel})
+setup(ext_modules=[NATIVE], options={"bdist_wheel": {"py_limited_api": "cp38", "plat_name": "manylinux2014_x86_64"}})

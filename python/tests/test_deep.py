@@ -2,6 +2,7 @@
 and nothing is changed."""
 import collections
 import json
+import random
 import sys
 import unittest
 
@@ -9,7 +10,8 @@ from json_patch import (
     Document, EndOfList, InvalidJsonPatch, JsonPatch, JsonPatchException, JsonPointer, JsonPointerException, TooDeep,
     apply_patch, merge_patch, record_patch, resolve_pointer, set_pointer,
 )
-from json_patch._depth import is_deep
+from json_patch import _native
+from json_patch._depth import _is_deeper, is_deep, is_deeper
 from support import holding_itself, nested, on_each_stack
 
 LEVELS = 100_000
@@ -183,6 +185,35 @@ class Deep(unittest.TestCase):
         made = set_pointer(items, "/-", 7, inplace=False)
         self.assertIs(made[0], made)
         self.assertEqual((made[1], len(items)), (7, 1))
+
+    def test_looked_at_by_c_and_by_python(self):
+        pick = random.Random(7)
+
+        def grown(levels):
+            kind = pick.choice([list, tuple, dict, collections.OrderedDict, int] if levels else [int, str])
+            if kind in (int, str):
+                return kind(1)
+            inside = [grown(levels - 1) for _ in range(pick.randrange(4))]
+            return kind(enumerate(inside)) if issubclass(kind, dict) else kind(inside)
+
+        told = {True: 0, False: 0, None: 0}
+        for _ in range(5_000):
+            value, levels = [grown(6)], pick.randrange(-1, 8)
+            by_c = _native.is_deeper(value, levels)
+            told[by_c] += 1
+            self.assertIn(by_c, (None, _is_deeper(value, levels)))
+            self.assertEqual(is_deeper(value, levels), _is_deeper(value, levels))
+        self.assertGreater(min(told.values()), 500)
+        self.assertEqual([is_deeper(1, levels) for levels in (-1, 0, 1)], [True, False, False])
+
+    def test_lists_that_stand_at_many_places(self):
+        """Python looks through each once, and so ends."""
+        shared = [1]
+        for _ in range(120):
+            shared = [shared, shared]
+        self.assertIsNone(_native.is_deeper(shared, 127))
+        self.assertFalse(is_deep(shared))
+        self.assertTrue(is_deeper(shared, 120))
 
     def test_how_deep(self):
         self.assertFalse(is_deep(nested(127)))

@@ -6,7 +6,7 @@ import unittest
 
 from json_patch import (
     Document, InvalidJsonPatch, JsonPatch, JsonPatchException, JsonPatchTestFailed, JsonPointer, Limits, TooDeep, apply_patch, make_patch,
-    resolve_pointer,
+    resolve_pointer, _native,
 )
 from support import NO_NUMBERS, NOT_WHOLE, PAST_FLOATS, ROWS, SAYS, holding_itself, nested, on_another_thread, on_each_stack
 
@@ -235,6 +235,25 @@ class Differences(unittest.TestCase):
             with Document(src) as kept:
                 self.assertEqual(kept.diff(dst), patch)
             self.assertEqual(bool(patch), src != dst)
+
+    def test_numbers_as_they_are_written(self):
+        """Each that is put has the spelling that it has in the second text where it goes, whichever are one number."""
+        chance, loads = random.Random(6902), lambda text: json.loads(text, parse_int=str, parse_float=str)
+        for spellings in (("1.5", "1.50", "15e-1", "1", "1.0", "-0", "0", "2"), ("1.5", "1", "0", "2", "1e400")):
+            for _ in range(1_000):
+                src, dst = (self.spelled(chance, spellings) for _ in range(2))
+                for operation in loads(_native.diff(src.encode(), dst.encode(), Limits()._given, 0)):
+                    if "value" in operation:
+                        self.assertEqual(resolve_pointer(loads(dst), operation["path"]), operation["value"], (src, dst))
+
+    def spelled(self, chance, spellings, levels=3):
+        """The text of a document of such numbers."""
+        if levels == 0 or chance.random() < 0.3:
+            return chance.choice(spellings)
+        inside = [self.spelled(chance, spellings, levels - 1) for _ in range(chance.randrange(5))]
+        if chance.random() < 0.5:
+            return f"[{','.join(inside)}]"
+        return "{%s}" % ",".join(f'"{chance.choice("abcd")}":{one}' for one in inside)
 
     def test_closed_and_threads(self):
         with Document([1]) as kept, Document([2]) as goal:

@@ -129,7 +129,7 @@ class Kept(unittest.TestCase):
             shared.close()
             with self.assertRaises(ValueError):
                 kept.get()
-        with Document([1]) as kept, self.assertRaises(ValueError):
+        with Document([1]) as kept, self.assertRaises(TypeError):
             copy.deepcopy(kept)
 
     def test_closed(self):

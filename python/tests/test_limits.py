@@ -10,7 +10,6 @@ from json_patch import (
     Document, JsonPatch, JsonPatchConflict, JsonPatchException, Limits, NothingToUndo, OverLimit, TooDeep, apply_patch,
     apply_text, merge_patch, record_patch,
 )
-from json_patch._library import NO_MEMORY
 from json_patch.limits import MOST_LEVELS
 from support import SAYS, holding_itself, nested
 
@@ -256,7 +255,7 @@ class Undone(unittest.TestCase):
         patch = [{"op": "remove", "path": "/a"}]
         with Document({"a": 1}) as kept:
             for name, fault in (
-                ("json_patch.document.LIBRARY.json_patch_inverse", mock.Mock(return_value=NO_MEMORY)),
+                ("json_patch._native.inverse", mock.Mock(side_effect=MemoryError)),
                 ("json_patch.document.value_of", mock.Mock(side_effect=MemoryError)),
                 ("json_patch.document.value_of", mock.Mock(side_effect=RecursionError)),
                 ("json_patch.document.value_of", mock.Mock(side_effect=KeyboardInterrupt)),

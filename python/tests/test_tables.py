@@ -1,10 +1,9 @@
 """The rows of c/cases.json, and the numbers of json_patch.h."""
-import ctypes
 import json
 import re
 import unittest
 
-from json_patch import JsonPatchException, Limits, _library, record_patch
+from json_patch import JsonPatchException, Limits, _native, record_patch
 from json_patch.errors import KINDS
 from json_patch.limits import MOST_BYTES, MOST_LEVELS
 from support import CALLS, C, OK, REFUSED, ROWS
@@ -37,7 +36,7 @@ class Tables(unittest.TestCase):
                     with self.assertRaises(JsonPatchException) as caught:
                         self.made(call, document, patch)
                     self.assertEqual(caught.exception.kind, name)
-                    self.assertTrue(str(caught.exception).endswith(f" {_library.kind_text(kind)}"), caught.exception)
+                    self.assertTrue(str(caught.exception).endswith(f" {_native.kind_text(kind)}"), caught.exception)
                     self.assertEqual(caught.exception.operation, None if name == "NotAList" else operation)
                     self.assertEqual(caught.exception.path, path if status == REFUSED else None)
 
@@ -55,11 +54,6 @@ class Header(unittest.TestCase):
         found = re.findall(r"JSON_PATCH_(\w+) = (\d+)", HEADER.partition(title)[2].partition(end)[0])
         return {name: int(number) for name, number in found}
 
-    def fields(self, struct):
-        """The names of a struct's fields, each with its type in C."""
-        declared = re.search(r"typedef struct \{([^{}]*)\} " + struct + ";", HEADER).group(1)
-        return [(name, kind) for kind, name in re.findall(r"(\w+) (\w+);", declared)]
-
     def test_kinds(self):
         found = {number: in_words(name) for name, number in self.numbers("What is at fault", "} json_patch_report").items()}
         del found[0]
@@ -68,21 +62,22 @@ class Header(unittest.TestCase):
     def test_statuses(self):
         found = self.numbers("What came of a call", "What is at fault")
         self.assertEqual(len(found), 13)
-        self.assertEqual(found, {name: getattr(_library, name) for name in found})
-
-    def test_structs(self):
-        types = {"size_t": ctypes.c_size_t, "json_patch_kind": ctypes.c_uint8}
-        for struct, ours in (("json_patch_report", _library.Report), ("json_patch_limits", _library.Bounds)):
-            self.assertEqual([(name, types[kind]) for name, kind in self.fields(struct)], ours._fields_)
+        # want of memory or room, limits and flags are for the module alone
+        for name in found.keys() - {"NO_MEMORY", "NO_ROOM", "BAD_LIMITS", "BAD_FLAGS"}:
+            self.assertEqual(getattr(_native, name), found[name], name)
 
     def test_limits(self):
         most = dict(re.findall(r"#define JSON_PATCH_MOST_(\w+) (\d+)", HEADER))
         self.assertEqual(most, {"LEVELS": str(MOST_LEVELS), "BYTES": str(MOST_BYTES)})
         self.assertEqual(Limits(), Limits(MOST_LEVELS, MOST_BYTES))
-        bounds = _library.bounds(Limits(7, 2**70))
-        self.assertEqual((bounds.size, bounds.depth, bounds.bytes), (ctypes.sizeof(_library.Bounds), 7, 2**64 - 1))
+        self.assertEqual(Limits(7, 2**70)._given, (7, 2**64 - 1, 2**64 - 1))
+        self.assertEqual(Limits(7, 8, 9)._given, (7, 8, 9))
 
     def test_calls(self):
-        """Each call is declared, with as many parameters as it has."""
-        for name, parameters in re.findall(r"^json_patch_status json_patch_(\w+)\(([^()]*)\);", HEADER, re.MULTILINE):
-            self.assertEqual(len(getattr(_library.LIBRARY, f"json_patch_{name}").argtypes), parameters.count(",") + 1, name)
+        """Each call is there, and takes what it has to: a text is bytes that stay as they are."""
+        for name in re.findall(r"^json_patch_status json_patch_(\w+)\(", HEADER, re.MULTILINE):
+            with self.subTest(name=name):
+                call = getattr(_native, name)
+                for given in ((), ("[]",), ("[]", "[]", (1, 2, 3)), (bytearray(b"[]"),), (bytearray(b"[]"), b"[]", (1, 2, 3))):
+                    with self.assertRaises(TypeError):
+                        call(*given)

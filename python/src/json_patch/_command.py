@@ -9,9 +9,8 @@ from contextlib import contextmanager, suppress
 from itertools import combinations
 from typing import Any, Callable, Dict, Iterator, List, NoReturn, Optional, TypeVar, Union
 
-from . import _files
+from . import _files, _native
 from ._calls import applied, called, expect_patch, merged, recorded
-from ._library import DIFF_GUARDED, DIFF_MOVES, LIBRARY
 from ._texts import indented
 from ._version import __version__
 from .errors import (
@@ -257,10 +256,10 @@ def _diff(asked: argparse.Namespace) -> None:
     text, goal = _read(asked.document), _read(asked.goal)
     with _at_fault(asked.goal, asked.document):
         if asked.merge:
-            made = called(LIBRARY.json_patch_merge_diff, text, goal, _limits(asked))
+            made = called(_native.merge_diff, text, goal, _limits(asked)._given)
         else:
-            flags = DIFF_MOVES if asked.moves else DIFF_GUARDED if asked.guarded else 0
-            made = called(LIBRARY.json_patch_diff, text, goal, _limits(asked), flags)
+            flags = _native.DIFF_MOVES if asked.moves else _native.DIFF_GUARDED if asked.guarded else 0
+            made = called(_native.diff, text, goal, _limits(asked)._given, flags)
     _show(_line(made, asked))
 
 

@@ -1,5 +1,7 @@
-"""How objects nest. What is handed in may nest without end, so that nothing here goes by recursion."""
+"""How objects nest. What is handed in may nest without end, so that no recursion goes as deep as that."""
 from __future__ import annotations
+
+from . import _native
 
 TYPE_CHECKING = False
 if TYPE_CHECKING:
@@ -15,8 +17,12 @@ _FEW = 100
 
 def is_deeper(value: object, levels: int) -> bool:
     """Whether lists and dicts nest deeper than this, as they do where one holds itself."""
-    if not isinstance(value, CONTAINERS):
-        return levels < 0
+    told = _native.is_deeper(value, levels)
+    return _is_deeper(value, levels) if told is None else told
+
+
+def _is_deeper(value: object, levels: int) -> bool:
+    """The same of any lists and dicts: of those that only seem to be Python's own, and of many."""
     held: List[Any] = [value]
     for _ in range(levels):
         held = [

@@ -7,7 +7,7 @@ from __future__ import annotations
 
 from ._calls import expect_patch, fault, operation_of
 from ._depth import CONTAINERS, is_deeper
-from ._library import OVER, REFUSED, Report
+from ._native import OVER, REFUSED
 from ._texts import as_bytes, exact, is_decimal, pointer_path, text_of, value_of
 from .errors import INSIDE_ITSELF, NOWHERE, NO_SOURCE, TEST_FAILED, TOO_DEEP, TOO_MANY, TOO_MUCH, JsonPointerException
 from .limits import Limits
@@ -65,8 +65,7 @@ def changed(obj: Any, patch: Any, limits: Limits, dumps: Optional[Dumps] = None,
 
 
 def _fault(refused: _Refused, operation: int, patch: bytes) -> Exception:
-    report = Report(operation=operation, kind=refused.kind)
-    return fault(refused.status, report, operation_of(patch, operation)["path"], patch)
+    return fault(refused.status, operation, refused.kind, operation_of(patch, operation)["path"], patch)
 
 
 def _operations(patch: Any, dumps: Optional[Dumps], loads: Optional[Loads]) -> List[_Operation]:

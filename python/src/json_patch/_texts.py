@@ -39,11 +39,12 @@ _ENCODERS: Dict[Any, Callable[[Any], str]] = {}
 
 
 def _encoder(default: Callable[[Any], object]) -> Callable[[Any], str]:
-    """What writes objects: to make one takes as long as to write a small object."""
+    """What writes objects that don't nest too deep, so that none holds itself: to make one takes as long as to
+    write a small object."""
     if default not in _ENCODERS:
         from json import JSONEncoder
 
-        _ENCODERS[default] = JSONEncoder(separators=(",", ":"), allow_nan=False, default=default).encode
+        _ENCODERS[default] = JSONEncoder(separators=(",", ":"), allow_nan=False, check_circular=False, default=default).encode
     return _ENCODERS[default]
 
 
@@ -114,7 +115,8 @@ def value_of(text: bytes, loads: Optional[Loads] = None, told: str = "result") -
     if loads:
         return loads(text.decode())
     try:
-        return json.loads(text)
+        # of a str json doesn't guess the encoding
+        return json.loads(text.decode())
     except ValueError as error:
         raise _out_of_range(told) from error
 

@@ -3,8 +3,8 @@ from __future__ import annotations
 
 import warnings
 
-from ._calls import difference, fault, found, succeed, written
-from ._library import LIBRARY, NOTHING, OK, Handle, Report, bounds
+from . import _native
+from ._calls import called, difference, fault, found
 from ._texts import as_bytes, document_text, patch_text, text_of, value_of
 from .errors import NothingToUndo
 from .limits import DEFAULT, Limits
@@ -61,30 +61,30 @@ class Document:
         return made
 
     def _open(self, text: bytes, limits: Limits) -> None:
-        handle = Handle()
-        succeed(LIBRARY.json_patch_open, handle, text, len(text), bounds(limits))
+        handle = _native.Handle()
+        called(_native.open, handle, text, limits._given)
         self._opened, self._thread, self._is_open = handle, _HERE.thread, True
 
     @property
-    def _handle(self) -> Handle:
+    def _handle(self) -> _native.Handle:
         if self._thread is not _HERE.thread:
             raise RuntimeError("the document is kept on another thread")
         return self._opened
 
-    def _updated(self, call: Callable[..., int], patch: Patch) -> None:
+    def _updated(self, call: Callable[[_native.Handle, bytes], None], patch: Patch) -> None:
         text = text_of(operations_of(patch))
-        written(lambda *out: call(self._handle, text, len(text), *out), len(text) + 64, text)
+        called(call, self._handle, text, patch=text)
 
     def apply(self, patch: Patch) -> None:
         """Changes the document by a list of operations, a JSON text or a JsonPatch, or not at all."""
-        self._updated(LIBRARY.json_patch_update, patch)
+        self._updated(_native.update, patch)
 
     def record(self, patch: Patch) -> JsonPatch:
         """The same, and returns the JsonPatch that leads back. Where that can't be made for want of
         memory, the change is taken back."""
-        self._updated(LIBRARY.json_patch_update_recorded, patch)
+        self._updated(_native.update_recorded, patch)
         try:
-            return JsonPatch._of_library(value_of(self._read(LIBRARY.json_patch_inverse)))
+            return JsonPatch._of_library(value_of(called(_native.inverse, self._handle)))
         except BaseException:
             self.undo()
             raise
@@ -99,17 +99,16 @@ class Document:
         ...     document.to_string()
         '[1, 2]'
         """
-        report = Report()
-        status = LIBRARY.json_patch_undo(self._handle, report)
-        if status == NOTHING:
-            raise NothingToUndo("there is no recorded change to take back", kind="Nothing")
-        if status != OK:
-            raise fault(status, report)
+        try:
+            _native.undo(self._handle)
+        except _native.Fault as error:
+            if error.args[0] != _native.NOTHING:
+                raise fault(*error.args) from None
+            raise NothingToUndo("there is no recorded change to take back", kind="Nothing") from None
 
     def merge(self, patch: Any) -> None:
         """Merges a merge patch, which is any object and no text of one, into the document."""
-        text = patch_text(patch)
-        succeed(LIBRARY.json_patch_update_merged, self._handle, text, len(text))
+        called(_native.update_merged, self._handle, patch_text(patch))
 
     def diff(self, other: Any) -> JsonPatch:
         """The JsonPatch that leads from the document to another, which is any object, or a Document. Neither is
@@ -120,24 +119,19 @@ class Document:
         JsonPatch([{'op': 'remove', 'path': '/rows/1'}])
         """
         text = other.to_string().encode() if isinstance(other, Document) else document_text(other)
-        made = difference(lambda *out: LIBRARY.json_patch_diff_to(self._handle, text, len(text), *out), text)
-        return JsonPatch._of_library(value_of(made))
+        return JsonPatch._of_library(value_of(difference(_native.diff_to, self._handle, text)))
 
     def get(self, pointer: str = "") -> Any:
         """What stands where a JSON pointer leads; JsonPointerException, where nothing does."""
-        text = as_bytes(pointer)
-        return value_of(found(lambda *out: LIBRARY.json_patch_value_at(self._handle, text, len(text), *out), pointer))
+        return value_of(found(_native.value_at, pointer, self._handle, as_bytes(pointer)))
 
     def to_string(self) -> str:
         """The document's text: every byte that no change touched is as it was handed in."""
-        return self._read(LIBRARY.json_patch_text).decode()
-
-    def _read(self, call: Callable[..., int]) -> bytes:
-        return written(lambda *out: call(self._handle, *out), 256)
+        return called(_native.text, self._handle).decode()
 
     def close(self) -> None:
         """Gives the document's memory back. From then on each call but close raises ValueError."""
-        LIBRARY.json_patch_close(self._handle)
+        _native.close(self._handle)
         self._is_open = False
 
     def __str__(self) -> str:

@@ -8,6 +8,8 @@ if TYPE_CHECKING:
 # the most levels that there may be, and the bytes where no limit is given, as in json_patch.h
 MOST_LEVELS = 124
 MOST_BYTES = 500_000
+# nothing takes or has so many
+_MOST = 2**64 - 1
 
 
 class Limits:
@@ -34,6 +36,8 @@ class Limits:
         if depth > MOST_LEVELS:
             raise ValueError(f"depth is {depth}, and at most {MOST_LEVELS}")
         self._depth, self._bytes, self._operations = depth, bytes, operations
+        # as the library takes them
+        self._given = depth, min(bytes, _MOST), _MOST if operations is None else min(operations, _MOST)
 
     @property
     def depth(self) -> int:

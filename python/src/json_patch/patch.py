@@ -1,10 +1,10 @@
 """Patches, and the calls that apply them to Python's objects."""
 from __future__ import annotations
 
+from . import _native
 from ._calls import applied, difference, expect_patch, joined, merged, recorded
 from ._in_place import changed
 from ._depth import shown
-from ._library import DIFF_GUARDED, DIFF_MOVES, LIBRARY, bounds
 from ._texts import (
     as_bytes, by_callers_code, document_text, expect_patch_depth, key_of, patch_text, pointer_path, text_of, text_to_check,
     value_of,
@@ -72,10 +72,8 @@ class JsonPatch:
         """
         if moves and guarded:
             raise ValueError("a guarded patch has no moves")
-        flags = DIFF_MOVES if moves else DIFF_GUARDED if guarded else 0
-        texts = document_text(src, dumps), document_text(dst, dumps)
-        given = texts[0], len(texts[0]), texts[1], len(texts[1]), bounds(limits), flags
-        made = difference(lambda *out: LIBRARY.json_patch_diff(*given, *out), texts[1])
+        flags = _native.DIFF_MOVES if moves else _native.DIFF_GUARDED if guarded else 0
+        made = difference(_native.diff, document_text(src, dumps), document_text(dst, dumps), limits._given, flags)
         return cls._of_library(value_of(made, loads))
 
     @staticmethod
@@ -245,9 +243,8 @@ def make_merge_patch(
 
     NoMergePatch, where there is none: a None in it removes a member, so it makes none None that isn't already.
     """
-    texts = document_text(src, dumps), document_text(dst, dumps)
-    given = texts[0], len(texts[0]), texts[1], len(texts[1]), bounds(limits)
-    return value_of(difference(lambda *out: LIBRARY.json_patch_merge_diff(*given, *out), texts[1]), loads)
+    made = difference(_native.merge_diff, document_text(src, dumps), document_text(dst, dumps), limits._given)
+    return value_of(made, loads)
 
 
 def join_merge_patches(

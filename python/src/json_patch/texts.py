@@ -1,8 +1,8 @@
 """Patches on JSON texts, of which every byte is kept that no operation changes."""
 from __future__ import annotations
 
+from . import _native
 from ._calls import applied, found, merged
-from ._library import LIBRARY, bounds
 from ._texts import as_bytes, patch_text, text_of
 from .limits import DEFAULT, Limits
 from .patch import operations_of
@@ -56,9 +56,7 @@ def resolve_text(text: _Text, pointer: str, *, limits: Limits = DEFAULT) -> _Tex
     >>> resolve_text('{"price": 1.50, "tags": [ "new" ]}', "/price")
     '1.50'
     """
-    given, path = as_bytes(text), as_bytes(pointer)
-    taken = given, len(given), path, len(path), bounds(limits)
-    return _like(text, found(lambda *out: LIBRARY.json_patch_value(*taken, *out), pointer))
+    return _like(text, found(_native.value, pointer, as_bytes(text), as_bytes(pointer), limits._given))
 
 
 def _like(text: _Text, made: bytes) -> _Text:
