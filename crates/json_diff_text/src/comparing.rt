@@ -62,9 +62,13 @@ pub(crate) fn edits(
     ensures numbers { OnOk result (AreNumbers (table numerals.new)) }
 {
     let new = coded(alloc, to, None, numerals)?;
+    let are_as_written = numerals.are_as_written();
     let old = coded(alloc, from, None, numerals)?;
     let patch = operations(alloc, &old, &new, moves)?;
     numerals.set_apart();
+    if are_as_written {
+        return Ok(patch);
+    }
     let as_written = coded(alloc, to, None, numerals)?;
     spelled(alloc, &patch, &new, &as_written)
 }

@@ -18,6 +18,8 @@ pub(crate) struct Numerals {
     texts: Vec<String>,
     /// By their keys, where numerals of one number share a place.
     places: Option<BTreeMap<u64, usize>>,
+    /// Whether a numeral shares that of one that is written otherwise.
+    is_mixed: bool,
 }
 
 impl Numerals {
@@ -28,6 +30,7 @@ impl Numerals {
         Numerals {
             texts: Vec::new(alloc),
             places: Some(BTreeMap::new(alloc)),
+            is_mixed: false,
         }
     }
 
@@ -39,7 +42,13 @@ impl Numerals {
         Numerals {
             texts: Vec::new(alloc),
             places: None,
+            is_mixed: false,
         }
+    }
+
+    /// Whether the place of each numeral so far has it as it is written.
+    pub(crate) fn are_as_written(&self) -> bool {
+        !self.is_mixed
     }
 
     /// From here on each numeral gets a place of its own.
@@ -97,6 +106,7 @@ impl Numerals {
     {
         let key = key_of(text);
         if let Some(place) = self.find(key, text, other) {
+            self.is_mixed |= self.texts[place].as_str() != text;
             return Ok(place);
         }
         let place = self.texts.len();
