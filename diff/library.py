@@ -16,7 +16,12 @@ class Report(ctypes.Structure):
 
 
 class Limits(ctypes.Structure):
-    _fields_ = [("size", ctypes.c_size_t), ("depth", ctypes.c_size_t), ("bytes", ctypes.c_size_t)]
+    """On how deep a text nests and how many bytes it has; a patch may have any number of operations."""
+
+    _fields_ = [(name, ctypes.c_size_t) for name in ("size", "depth", "bytes", "operations")]
+
+    def __init__(self, depth, most):
+        super().__init__(ctypes.sizeof(Limits), depth, most, ctypes.c_size_t(-1).value)
 
 
 class Handle(ctypes.Structure):
@@ -54,7 +59,7 @@ def answer(name, document, patch, depth=MOST_LEVELS, most=MOST_BYTES):
     """What a call says of two texts: "ok" and what it writes; "over", the operation and why; "refused", the
     operation, its path and why; or "document" or "patch" and what is wrong with it."""
     document, patch, report = document.encode(), patch.encode(), Report()
-    limits = Limits(ctypes.sizeof(Limits), depth, most)
+    limits = Limits(depth, most)
     rooms = [len(document) + len(patch) + 64] * (1 + (name == "record"))
     while True:
         outputs = [ctypes.create_string_buffer(room) for room in rooms]
@@ -94,7 +99,7 @@ def answer_of_kept(name, document, patch, depth, most):
     """The same where the text is kept. What isn't made has to leave it, and what is recorded to be taken back, byte
     for byte: else the last of the answer is the text that stands there."""
     document, patch, report, handle = document.encode(), patch.encode(), Report(), Handle()
-    if KEPT["open"](handle, document, len(document), Limits(ctypes.sizeof(Limits), depth, most), report):
+    if KEPT["open"](handle, document, len(document), Limits(depth, most), report):
         return ("document", kind_of(report))
     status, path, report = changed(handle, name, patch)
     made, inverse = (written(KEPT[call], handle)[1] for call in ("text", "inverse"))

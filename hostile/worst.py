@@ -8,9 +8,8 @@ c/build has to have built the library, or JSON_PATCH_LIBRARY says where it is. E
 limits, and with none on bytes; its row tells the processor's seconds, what came of it, with the bytes that are left
 or the operation that is over, and the bytes of memory that the process held. Twice the N of `--bytes` shows which
 take twice the time, and which four times. A call that takes longer than `--seconds` (900) is ended, and so is one
-that wants more than 16 GB."""
+that wants more than 16 GB. The script ends with 1 where one is answered in another way."""
 import argparse
-import ctypes
 import os
 import resource
 import signal
@@ -28,13 +27,13 @@ ROOM = 16 << 30
 def called(call, document, patch, most):
     """What comes of one call, which is given no room for its texts: they are put together, and not copied."""
     report = library.Report()
-    limits = library.Limits(ctypes.sizeof(library.Limits), library.MOST_LEVELS, most)
+    limits = library.Limits(library.MOST_LEVELS, most)
     flags = library.FLAGS.get(call, ())
     rooms = (None, 0) * (1 + (call == "record"))
     status = library.CALLS[call](document, len(document), patch, len(patch), limits, *flags, *rooms, report)
-    why = library.LIBRARY.json_patch_kind_text(report.kind).decode()
     told = {library.NO_ROOM: f"{report.size:,} bytes are left", library.NO_MEMORY: "no memory"}
-    return told.get(status, f"status {status}, operation {report.operation:,}: {why}")
+    told[library.OVER] = f"operation {report.operation:,} {library.kind_of(report)}"
+    return told[status]
 
 
 def timed(call, texts, most, seconds):
@@ -56,7 +55,7 @@ def main():
     words.add_argument("--bytes", type=int, default=1_000_000)
     words.add_argument("--only", default="")
     words.add_argument("--seconds", type=int, default=900)
-    asked = words.parse_args()
+    asked, wrong = words.parse_args(), 0
     for call, name, *texts in cases(asked.bytes):
         if asked.only not in f"{call}: {name}":
             continue
@@ -64,10 +63,12 @@ def main():
         for what, most in (("usual limits", library.MOST_BYTES), ("no limit", sys.maxsize)):
             print(f"    {what:12}", end="", flush=True)
             ended = timed(call, texts, most, asked.seconds)
-            if ended:
-                told = f"more than {asked.seconds}" if os.WIFSIGNALED(ended) and os.WTERMSIG(ended) in (signal.SIGXCPU, signal.SIGKILL) else "no"
-                print(f"{told:>9} s", flush=True)
+            if os.WIFSIGNALED(ended) and os.WTERMSIG(ended) in (signal.SIGXCPU, signal.SIGKILL):
+                print(f"more than {asked.seconds} s", flush=True)
+            elif ended:
+                wrong = 1
+    return wrong
 
 
 if __name__ == "__main__":
-    main()
+    sys.exit(main())
