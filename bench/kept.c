@@ -4,7 +4,7 @@
  *     cc -O2 -Ic/out/include -o /tmp/kept bench/kept.c c/out/lib/libjson_patch.a && /tmp/kept [ROWS]
  *
  * Of changes the mean of 1,000 is told, and of 1,000,000, at random rows. Times are the processor's, memory is what the process has
- * beyond the text. */
+ * beyond the text. bench/kept_peer.py times the same of Python's jsonpatch, in place. */
 #define _POSIX_C_SOURCE 200809L
 #include <json_patch.h>
 #include <malloc.h>
