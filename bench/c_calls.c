@@ -3,7 +3,7 @@
  * `MODE COUNT accepted`, its input is `[document,patch]`, and it prints the nanoseconds of one call, or
  * 0 where one is refused. In mode `texts` a call goes from the two texts to the new one; in mode `kept` the
  * document stays open, and a call changes it by the patch's text. Mode `copied` copies the document's text, which
- * any call from texts at least does.
+ * any call from texts at least does, and mode `read` reads the patch alone.
  */
 #include <json_patch.h>
 
@@ -51,6 +51,8 @@ static json_patch_status call(const char *mode, json_patch_document *kept, text 
         __asm__ volatile("" : : "r"(out) : "memory");
         return JSON_PATCH_OK;
     }
+    if (strcmp(mode, "read") == 0)
+        return json_patch_check(patch.bytes, patch.length, &report);
     if (strcmp(mode, "kept") == 0)
         return json_patch_update(kept, patch.bytes, patch.length, out, room, &report);
     return json_patch_apply(document.bytes, document.length, patch.bytes, patch.length, NULL, out, room, &report);

@@ -8,7 +8,8 @@ c/build has to have built the library. A call goes from the texts of a document 
 text of the new one, whose other bytes are those of the document's; or it changes a document that is kept, by
 the text of a patch. The other two change theirs in place, which leaves a refused patch part-way, and read,
 patch and write where a call goes from texts to a text. "The bytes copied" is what a call from text to text does
-at least; simdjson only reads the document, or copies it without whitespace. What is printed is as in bench.py."""
+at least, and "the patch read" what one would be spared that was handed a patch which is read already; simdjson only
+reads the document, or copies it without whitespace. What is printed is as in bench.py."""
 import argparse
 import os
 import subprocess
@@ -34,6 +35,7 @@ def deep(levels, operations):
 CALLS = [
     ("from text to text: two operations on a tiny array", "texts", 20_000, workloads.TINY),
     ("from text to text: one replace in 1 kB", "texts", 5_000, workloads.replace_in_the_middle(15)),
+    ("from text to text: 100 mixed operations on 1.2 kB", "texts", 500, (workloads.rows(17), workloads.MIXED)),
     ("from text to text: one replace in 100 kB", "texts", 100, workloads.replace_in_the_middle(1_450)),
     ("from text to text: one replace in 10 MB", "texts", 1, workloads.replace_in_the_middle(145_000)),
     ("from text to text: one add to 10 MB", "texts", 1,
@@ -79,6 +81,7 @@ def sides(folder):
     return [
         bench.Side("here", [ours], MODES, None),
         bench.Side("the bytes copied", [ours], {"texts": "copied"}, None),
+        bench.Side("the patch read", [ours], {"texts": "read", "kept": "read"}, None),
         bench.Side("here from Python", [bench.PYTHON, os.path.join(HERE, "python_c_peer.py")], MODES, None),
         bench.Side("nlohmann/json", [bench.compiled(folder, os.path.join(HERE, "nlohmann.cpp"))], MODES, None),
         bench.Side("jsonpatch (Python)", peer, MODES, None),
