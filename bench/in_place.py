@@ -48,6 +48,7 @@ CALLS = [
     ("two operations on a tiny array, not in place", "patch", 5_000, workloads.TINY),
     ("one replace in 1 kB, not in place", "patch", 2_000, workloads.replace_in_the_middle(14)),
     ("one replace in 100 kB, not in place", "patch", 50, workloads.replace_in_the_middle(1_450)),
+    ("make_patch, one row alone", "make", 2_000, made(1)),
     ("make_patch, one row of 1 kB", "make", 500, made(14)),
     ("make_patch, one row of 100 kB", "make", 10, made(1_450)),
 ]

@@ -51,6 +51,7 @@ typedef struct {
 typedef struct {
     PyObject *fault;
     PyTypeObject *handle;
+    PyCFunction is_ascii; /* what str.isascii calls */
 } state;
 
 /* ---- the calls */
@@ -364,6 +365,241 @@ static PyObject *call_is_deeper(PyObject *module, PyObject *args)
     return PyBool_FromLong(told);
 }
 
+/* ---- where two objects may differ */
+
+/* What is told of a pair: that both are the same plain JSON, or nothing; or an exception is set. No code of the
+   caller's is run here, and no garbage collected: so what is borrowed stays. */
+enum { FAILED = -1, UNTOLD, EQUAL };
+
+/* So many characters are looked at on the stack, and so many names that were told equal are kept: the dicts of
+   one text share their names. */
+enum { FEW_CHARACTERS = 64, KNOWN_NAMES = 32 };
+
+typedef struct {
+    PyObject *one, *other;
+} pair;
+
+/* By a member's name, or by an index where that is NULL. */
+typedef struct {
+    PyObject *name;
+    Py_ssize_t index;
+} step;
+
+typedef struct {
+    PyCFunction is_ascii;
+    long levels, level, looked;
+    long length; /* of the way to the least parts that hold each pair of which nothing is told; -1 where there is none */
+    step way[JSON_PATCH_MOST_LEVELS];
+    pair known[KNOWN_NAMES];
+} search;
+
+static int untold(search *s)
+{
+    if (s->length < 0 || s->length > s->level)
+        s->length = s->level;
+    return UNTOLD;
+}
+
+static int has_no_surrogate(PyObject *string)
+{
+    Py_UCS4 few[FEW_CHARACTERS], *all;
+    Py_ssize_t length = PyUnicode_GetLength(string);
+    int found = 0;
+    all = length > FEW_CHARACTERS ? PyUnicode_AsUCS4Copy(string) : PyUnicode_AsUCS4(string, few, FEW_CHARACTERS, 0);
+    if (!all)
+        return FAILED;
+    for (Py_ssize_t i = 0; i < length; i++)
+        found |= all[i] >= 0xD800 && all[i] <= 0xDFFF;
+    if (all != few)
+        PyMem_Free(all);
+    return found ? UNTOLD : EQUAL;
+}
+
+/* EQUAL, where a string has no surrogate: of some that have no text says it, and a text of two says another. */
+static inline int is_plain(const search *s, PyObject *string)
+{
+    PyObject *told = s->is_ascii(string, NULL);
+    Py_XDECREF(told);
+    if (told == Py_True)
+        return EQUAL;
+    return told ? has_no_surrogate(string) : FAILED;
+}
+
+static inline int same_strings(const search *s, PyObject *one, PyObject *other)
+{
+    if (one != other && PyUnicode_Compare(one, other) != 0)
+        return PyErr_Occurred() ? FAILED : UNTOLD;
+    return is_plain(s, one);
+}
+
+static int same_names(search *s, PyObject *one, PyObject *other)
+{
+    pair *known = &s->known[(size_t)one / sizeof(PyObject) % KNOWN_NAMES];
+    int told;
+    if (known->one == one && known->other == other)
+        return EQUAL;
+    if (!PyUnicode_CheckExact(one) || !PyUnicode_CheckExact(other))
+        return UNTOLD;
+    told = same_strings(s, one, other);
+    if (told == EQUAL)
+        *known = (pair){one, other};
+    return told;
+}
+
+/* Of ints that are longer, Python may not write the digits. */
+static int same_ints(PyObject *one, PyObject *other)
+{
+    int over, over_too;
+    long long number = PyLong_AsLongLongAndOverflow(one, &over);
+    return number == PyLong_AsLongLongAndOverflow(other, &over_too) && !over && !over_too ? EQUAL : UNTOLD;
+}
+
+static inline int same_leaves(const search *s, PyObject *one, PyObject *other)
+{
+    if (Py_TYPE(one) != Py_TYPE(other))
+        return UNTOLD;
+    if (PyUnicode_CheckExact(one))
+        return same_strings(s, one, other);
+    if (PyLong_CheckExact(one))
+        return same_ints(one, other);
+    if (PyFloat_CheckExact(one)) {
+        double number = PyFloat_AsDouble(one);
+        /* nan and the infinities, less themselves, are no zero */
+        return number == PyFloat_AsDouble(other) && number - number == 0 ? EQUAL : UNTOLD;
+    }
+    return one == other && (one == Py_None || PyBool_Check(one)) ? EQUAL : UNTOLD;
+}
+
+static int same_containers(search *s, PyObject *one, PyObject *other);
+
+static int goes_down(search *s, step by, PyObject *one, PyObject *other)
+{
+    long before = s->length;
+    int told;
+    s->level++;
+    told = same_containers(s, one, other);
+    s->level--;
+    if (told != UNTOLD)
+        return told;
+    if (before >= 0)
+        return untold(s);
+    s->way[s->level] = by;
+    return EQUAL;
+}
+
+/* Looks at a pair below, and is EQUAL also of the first of which nothing is told: what stands beside it is looked
+   at. Of a second one the rest is left aside, so that each pair is looked at once. */
+static inline int goes_on(search *s, step by, PyObject *one, PyObject *other)
+{
+    int told = same_leaves(s, one, other);
+    return told == UNTOLD ? goes_down(s, by, one, other) : told;
+}
+
+static int same_lists(search *s, PyObject *one, PyObject *other)
+{
+    Py_ssize_t size = PyList_Size(one);
+    int told = EQUAL;
+    if (PyList_Size(other) != size)
+        return untold(s);
+    for (Py_ssize_t i = 0; told == EQUAL && i < size; i++)
+        told = goes_on(s, (step){NULL, i}, PyList_GetItem(one, i), PyList_GetItem(other, i));
+    return told;
+}
+
+static int has_strings_as_names(PyObject *dict)
+{
+    PyObject *name;
+    Py_ssize_t at = 0;
+    while (PyDict_Next(dict, &at, &name, NULL))
+        if (!PyUnicode_CheckExact(name))
+            return 0;
+    return 1;
+}
+
+/* The members from a place on, each beside the other's of its name. */
+static int same_by_name(search *s, PyObject *one, PyObject *other, Py_ssize_t at)
+{
+    PyObject *name, *value, *beside;
+    int told = EQUAL;
+    if (!has_strings_as_names(one) || !has_strings_as_names(other))
+        return untold(s);
+    while (told == EQUAL && PyDict_Next(one, &at, &name, &value)) {
+        told = is_plain(s, name);
+        beside = PyDict_GetItemWithError(other, name);
+        if (told == FAILED || PyErr_Occurred())
+            return FAILED;
+        told = told == EQUAL && beside ? goes_on(s, (step){name, 0}, value, beside) : untold(s);
+    }
+    return told;
+}
+
+/* Mostly both dicts have their members in one order. */
+static int same_dicts(search *s, PyObject *one, PyObject *other)
+{
+    PyObject *name, *value, *beside_name, *beside;
+    Py_ssize_t at = 0, beside_at = 0, size = PyDict_Size(one);
+    int told = EQUAL;
+    if (PyDict_Size(other) != size)
+        return untold(s);
+    for (; told == EQUAL && size > 0; size--) {
+        Py_ssize_t from = at;
+        PyDict_Next(one, &at, &name, &value);
+        PyDict_Next(other, &beside_at, &beside_name, &beside);
+        told = same_names(s, name, beside_name);
+        if (told == UNTOLD)
+            return same_by_name(s, one, other, from);
+        if (told == EQUAL)
+            told = goes_on(s, (step){name, 0}, value, beside);
+    }
+    return told;
+}
+
+static int same_containers(search *s, PyObject *one, PyObject *other)
+{
+    long before = s->length;
+    int is_dict = PyDict_CheckExact(one), told;
+    if (Py_TYPE(one) != Py_TYPE(other) || !(is_dict || PyList_CheckExact(one)))
+        return untold(s);
+    if (s->level >= s->levels || ++s->looked > MOST_LOOKED_THROUGH)
+        return untold(s);
+    told = is_dict ? same_dicts(s, one, other) : same_lists(s, one, other);
+    return told == EQUAL && s->length != before ? UNTOLD : told;
+}
+
+static int is_added(PyObject *way, const step *by)
+{
+    PyObject *index = by->name ? NULL : PyLong_FromSsize_t(by->index);
+    int is_done = (by->name || index) && PyList_Append(way, by->name ? by->name : index) == 0;
+    Py_XDECREF(index);
+    return is_done;
+}
+
+static PyObject *call_differs_at(PyObject *module, PyObject *args)
+{
+    const state *here = PyModule_GetState(module);
+    search s = {.is_ascii = here->is_ascii, .length = -1};
+    PyObject *one, *other, *way;
+    int told;
+    if (!PyArg_ParseTuple(args, "OOl", &one, &other, &s.levels))
+        return NULL;
+    if (s.levels > JSON_PATCH_MOST_LEVELS)
+        s.levels = JSON_PATCH_MOST_LEVELS;
+    /* before the look: to make one may collect garbage */
+    way = PyList_New(0);
+    told = way ? same_leaves(&s, one, other) : FAILED;
+    if (told == UNTOLD)
+        told = same_containers(&s, one, other);
+    for (long i = 0; told == UNTOLD && i < s.length; i++)
+        if (!is_added(way, &s.way[i]))
+            told = FAILED;
+    if (told == UNTOLD)
+        return way;
+    Py_XDECREF(way);
+    if (told == FAILED)
+        return NULL;
+    Py_RETURN_NONE;
+}
+
 /* ---- the module */
 
 #define FUNCTION(name, takes) \
@@ -423,6 +659,7 @@ static PyMethodDef METHODS[] = {
     {"close", call_close, METH_VARARGS, NULL},
     {"kind_text", call_kind_text, METH_VARARGS, NULL},
     {"is_deeper", call_is_deeper, METH_VARARGS, NULL},
+    {"differs_at", call_differs_at, METH_VARARGS, NULL},
     {NULL, NULL, 0, NULL},
 };
 
@@ -466,6 +703,27 @@ static int can_run(void)
            __builtin_cpu_supports("popcnt");
 }
 
+/* For a Python in which str.isascii takes something else. */
+static PyObject *never(PyObject *self, PyObject *args)
+{
+    (void)self;
+    (void)args;
+    Py_RETURN_FALSE;
+}
+
+/* By its function a string is asked in less time than two are compared, which a call of the object would take. */
+static PyCFunction is_ascii(void)
+{
+    PyObject *empty = PyUnicode_FromString(""), *method = empty ? PyObject_GetAttrString(empty, "isascii") : NULL;
+    PyCFunction found = never;
+    if (method && PyCFunction_GetFlags(method) == METH_NOARGS)
+        found = PyCFunction_GetFunction(method);
+    PyErr_Clear();
+    Py_XDECREF(method);
+    Py_XDECREF(empty);
+    return found;
+}
+
 static int added(PyObject *module, const char *name, PyObject *object)
 {
     Py_XINCREF(object);
@@ -484,6 +742,7 @@ static int executed(PyObject *module)
     }
     here->fault = PyErr_NewException("json_patch._native.Fault", NULL, NULL);
     here->handle = (PyTypeObject *)PyType_FromSpec(&HANDLE);
+    here->is_ascii = is_ascii();
     if (!added(module, "Fault", here->fault) || !added(module, "Handle", (PyObject *)here->handle))
         return -1;
     for (size_t i = 0; i < sizeof NUMBERS / sizeof *NUMBERS; i++)

@@ -25,6 +25,7 @@ CALLS = [
     lambda _: record_patch(OBJECT, PATCH),
     lambda _: merge_text(TEXT, OTHER),
     lambda _: make_patch(OBJECT, OTHER),
+    lambda _: make_patch({"a": [OBJECT], "c": LONG}, {"a": [OTHER], "c": LONG}),
     lambda _: make_patch(OBJECT, OTHER, moves=True),
     lambda _: make_patch(OBJECT, OTHER, guarded=True),
     lambda _: make_merge_patch({"a": 1}, OTHER),

@@ -10,7 +10,7 @@ from ._texts import (
     value_of,
 )
 from .limits import DEFAULT, Limits
-from .pointer import JsonPointer
+from .pointer import JsonPointer, escaped
 
 TYPE_CHECKING = False
 if TYPE_CHECKING:
@@ -73,6 +73,8 @@ class JsonPatch:
         if moves and guarded:
             raise ValueError("a guarded patch has no moves")
         flags = _native.DIFF_MOVES if moves else _native.DIFF_GUARDED if guarded else 0
+        if not (moves or dumps or loads):
+            return cls._of_library(_difference_of_parts(src, dst, limits, flags))
         made = difference(_native.diff, document_text(src, dumps), document_text(dst, dumps), limits._given, flags)
         return cls._of_library(value_of(made, loads))
 
@@ -166,6 +168,26 @@ class JsonPatch:
 def operations_of(patch: Any) -> Any:
     """What a JsonPatch holds, and any other patch itself."""
     return patch.patch if isinstance(patch, JsonPatch) else patch
+
+
+def _difference_of_parts(src: Any, dst: Any, limits: Limits, flags: int) -> List[Any]:
+    """The operations that lead from one document to another, by the texts of the least parts of both outside of
+    which they are plainly equal. In their texts these stand below a name as long as the pointer to them, so that
+    the library counts each path as it will be."""
+    way = _native.differs_at(src, dst, limits.depth)
+    if way is None:
+        return []
+    path, given = "", limits._given
+    for step in way:
+        src, dst = src[step], dst[step]
+        path += "/" + escaped(str(step))
+    if way:
+        name = path[1:].replace("/", "-").replace("~", "-")
+        src, dst, given = {name: src}, {name: dst}, (given[0] - len(way) + 1, *given[1:])
+    operations: List[Any] = value_of(difference(_native.diff, document_text(src), document_text(dst), given, flags))
+    for operation in operations if way else ():
+        operation["path"] = path + operation["path"][len(path):]
+    return operations
 
 
 def _recorded(

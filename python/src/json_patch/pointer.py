@@ -38,7 +38,7 @@ def is_index(part: str) -> bool:
     return len(part) <= _MOST_DIGITS and _is_number(part)
 
 
-def _escaped(part: str) -> str:
+def escaped(part: str) -> str:
     return part.replace("~", "~0").replace("/", "~1")
 
 
@@ -104,13 +104,13 @@ class JsonPointer:
         made = []
         for part in parts:
             _expect_depth(part)
-            made.append("/" + _escaped(str(part)))
+            made.append("/" + escaped(str(part)))
         return cls("".join(made))
 
     @property
     def path(self) -> str:
         """The pointer's text."""
-        return "".join("/" + _escaped(part) for part in self.parts)
+        return "".join("/" + escaped(part) for part in self.parts)
 
     def get_parts(self) -> List[str]:
         return self.parts
