@@ -1,6 +1,7 @@
 """Files that are replaced: killed at any call of the system's, a document has its old content or its new
 one, whole, and its backup the old one."""
 import os
+import resource
 import shutil
 import signal
 import stat
@@ -91,6 +92,23 @@ class Replaced(unittest.TestCase):
         self.replaced()
         there = self.file.stat()
         self.assertEqual((there.st_uid, there.st_gid), (1234, 2345))
+
+    def test_signals_wait(self):
+        """One that ends the process comes when the file is in its place."""
+        for number in (signal.SIGINT, signal.SIGTERM, signal.SIGHUP, signal.SIGQUIT, signal.SIGALRM, signal.SIGUSR1, signal.SIGPIPE):
+            child = os.fork()
+            if child == 0:
+                resource.setrlimit(resource.RLIMIT_CORE, (0, 0))
+                signal.signal(number, signal.SIG_DFL)
+                with unittest.mock.patch("os.fsync", lambda _: os.kill(os.getpid(), number)):
+                    self.replaced()
+                os._exit(0)
+            status = os.waitpid(child, 0)[1]
+            with self.subTest(signal=number):
+                self.assertTrue(os.WIFSIGNALED(status) and os.WTERMSIG(status) == number)
+                self.assertEqual([file.name for file in self.folder.iterdir()], [self.file.name])
+                self.assertEqual(self.file.read_bytes(), NEW)
+            self.file.write_bytes(OLD)
 
     def test_new_files(self):
         new = self.folder / "new.json"

@@ -10,7 +10,7 @@ from typing import Iterator, Optional, Union
 
 STANDARD = "-"
 _INPUT, OUTPUT, ERRORS = 0, 1, 2
-_SIGNALS = {signal.SIGINT, signal.SIGTERM, signal.SIGHUP}
+_SIGNALS = signal.valid_signals()
 # as many as the system follows
 _MOST_LINKS = 40
 # where a text comes from or goes: a file's name, or the number of one that is open
