@@ -5,6 +5,7 @@ import resource
 import shutil
 import signal
 import stat
+import struct
 import tempfile
 import unittest
 import unittest.mock
@@ -15,6 +16,14 @@ from json_patch import _files
 OLD, NEW = b"old" * 50_000, b"new" * 70_000
 # the calls that may end in the middle of a change
 CALLS = ("open", "write", "fsync", "fchmod", "fchown", "replace", "unlink", "close", "stat")
+ACL, DEFAULT_ACL = "system.posix_acl_access", "system.posix_acl_default"
+
+
+def access_list(group, other):
+    """Of an owner who reads and writes, the user 4321 who does so too, and what the group and others may."""
+    nobody, mask = 2**32 - 1, 6
+    entries = (1, 6, nobody), (2, 6, 4321), (4, group, nobody), (16, mask, nobody), (32, other, nobody)
+    return struct.pack("<I", 2) + b"".join(struct.pack("<HHI", *entry) for entry in entries)
 
 
 def killed_at(number, after, change):
@@ -92,6 +101,41 @@ class Replaced(unittest.TestCase):
         self.replaced()
         there = self.file.stat()
         self.assertEqual((there.st_uid, there.st_gid), (1234, 2345))
+
+    def test_group_where_the_owner_stays(self):
+        """Who isn't root can't give a file away, and may give it to a group of his."""
+        real = os.fchown
+
+        def refused(descriptor, owner, group):
+            if owner not in (-1, os.getuid()):
+                raise PermissionError
+            real(descriptor, owner, group)
+
+        try:
+            os.chown(self.file, 1234, 2345)
+        except OSError:
+            self.skipTest("a file can be given away by root alone")
+        with unittest.mock.patch("os.fchown", refused):
+            self.replaced()
+        there = self.file.stat()
+        self.assertEqual((there.st_uid, there.st_gid), (os.getuid(), 2345))
+
+    def test_access_lists(self):
+        """Where there is one, the mode has its mask in place of what the group may."""
+        given = access_list(group=0, other=0)
+        try:
+            os.setxattr(self.file, ACL, given)
+        except OSError:
+            self.skipTest("the file system has no lists for access")
+        self.replaced(keeps_old=True)
+        for file in (self.file, self.backup):
+            self.assertEqual(os.getxattr(file, ACL), given)
+        # a new file of this folder gets one, and the document has none
+        os.removexattr(self.file, ACL)
+        self.file.chmod(0o640)
+        os.setxattr(self.folder, DEFAULT_ACL, given)
+        self.replaced()
+        self.assertEqual((os.listxattr(self.file), stat.S_IMODE(self.file.stat().st_mode)), ([], 0o640))
 
     def test_signals_wait(self):
         """One that ends the process comes when the file is in its place."""

@@ -11,6 +11,7 @@ from typing import Iterator, Optional, Union
 STANDARD = "-"
 _INPUT, OUTPUT, ERRORS = 0, 1, 2
 _SIGNALS = signal.valid_signals()
+_ACL = "system.posix_acl_access"
 # as many as the system follows
 _MOST_LINKS = 40
 # where a text comes from or goes: a file's name, or the number of one that is open
@@ -111,9 +112,10 @@ def replace(name: str, content: bytes, keeps_old: bool = False) -> None:
         return
     name = os.path.realpath(name)
     with _signals_wait():
+        like = name if there else None
         if keeps_old and there:
-            _renamed_over(backup_of(name), read(name), there)
-        _renamed_over(name, content, there)
+            _renamed_over(backup_of(name), read(name), like)
+        _renamed_over(name, content, like)
         _settle(os.path.dirname(name))
 
 
@@ -125,8 +127,9 @@ def _write_over(name: str, content: bytes) -> None:
         os.close(descriptor)
 
 
-def _renamed_over(name: str, content: bytes, like: Optional[os.stat_result]) -> None:
-    """Writes a new file beside one of this name, and renames it over that when it is on the disk."""
+def _renamed_over(name: str, content: bytes, like: Optional[str]) -> None:
+    """Writes a new file beside one of this name, with the permissions of another, and renames it over that when it
+    is on the disk."""
     folder, last = os.path.split(name)
     descriptor, new = tempfile.mkstemp(prefix=f".{last[:60]}.", dir=folder)
     try:
@@ -142,13 +145,32 @@ def _renamed_over(name: str, content: bytes, like: Optional[os.stat_result]) -> 
         raise
 
 
-def _permit(descriptor: int, like: Optional[os.stat_result]) -> None:
-    """Gives an open file the owner and permissions of another, or those of a new one."""
-    if like:
-        # one who isn't root can't give a file away, and keeps it
+def _permit(descriptor: int, like: Optional[str]) -> None:
+    """Gives an open file the owner, the group and the permissions of another, or those of a new one."""
+    if not like:
+        os.fchmod(descriptor, 0o666 & ~_mask())
+        return
+    there, acl = os.stat(like), _acl_of(like)
+    # one who isn't root can't give a file away, and keeps it; but may give it to a group of his
+    for owner, group in (-1, there.st_gid), (there.st_uid, -1):
         with suppress(PermissionError):
-            os.fchown(descriptor, like.st_uid, like.st_gid)
-    os.fchmod(descriptor, stat.S_IMODE(like.st_mode) if like else 0o666 & ~_mask())
+            os.fchown(descriptor, owner, group)
+    # where there is a list for access, the mode has its mask in place of the group's permissions
+    if acl:
+        os.setxattr(descriptor, _ACL, acl)
+    else:
+        # a folder can give its new files one
+        with suppress(OSError):
+            os.removexattr(descriptor, _ACL)
+    os.fchmod(descriptor, stat.S_IMODE(there.st_mode))
+
+
+def _acl_of(name: str) -> Optional[bytes]:
+    """The list for access of a file, if it has one."""
+    try:
+        return os.getxattr(name, _ACL)
+    except OSError:
+        return None
 
 
 def _mask() -> int:
