@@ -412,6 +412,13 @@ class Command(unittest.TestCase):
                 self.assertEqual((process.stderr.read(), process.wait(timeout=HANGS)), (b"", -number))
             process.stderr.close()
             self.assertEqual(self.text("d.json"), DOCUMENT)
+        # what the caller ignores
+        process = subprocess.Popen(["bash", "-c", f"trap '' INT; exec {COMMAND} apply -i d.json fifo"], cwd=self.folder)
+        with open(fifo, "wb") as file:
+            process.send_signal(signal.SIGINT)
+            file.write(PATCH.encode())
+        self.assertEqual(process.wait(timeout=HANGS), 0)
+        self.assertEqual(self.text("d.json"), PATCHED)
 
 
 if __name__ == "__main__":

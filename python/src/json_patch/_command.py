@@ -338,7 +338,9 @@ def main(arguments: Optional[List[str]] = None) -> int:
     """Does what the command line asks for, and returns the status."""
     # as a program that isn't Python's ends: at once, and without a word
     signal.signal(signal.SIGPIPE, signal.SIG_DFL)
-    signal.signal(signal.SIGINT, signal.SIG_DFL)
+    # one that is ignored stays so, as in a shell's background
+    if signal.getsignal(signal.SIGINT) != signal.SIG_IGN:
+        signal.signal(signal.SIGINT, signal.SIG_DFL)
     try:
         parser = _parser()
         asked = parser.parse_args(arguments)
