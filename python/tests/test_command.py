@@ -397,6 +397,11 @@ class Command(unittest.TestCase):
         for options in ("-i", "-ib"):
             self.assertEnds(4, "d.json: File too large", f"ulimit -f 10; json-patch apply {options} d.json p.json")
 
+    def test_a_long_string_indented(self):
+        """It takes no more memory for each character."""
+        self.write("d.json", json.dumps(["x" * 10_000_000]))
+        self.assertDoes("ulimit -v 500000; json-patch get --indent 1 d.json '' | wc -c", "10000008\n")
+
     def test_readers_that_go(self):
         self.write("p.json", json.dumps([{"op": "add", "path": "/b/-", "value": "x" * 1_000_000}]))
         lines = "json-patch apply d.json p.json | head -c 1 > /dev/null; echo ${PIPESTATUS[0]}"

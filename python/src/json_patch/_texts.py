@@ -154,7 +154,8 @@ def indented(text: bytes, spaces: int) -> bytes:
 
     made: list[str] = []
     levels, before = 0, ""
-    for token in re.findall(r'"(?:[^"\\]|\\.)*"|[\[\]{}:,]|[^\s\[\]{}:,"]+', text.decode()):
+    # of a string the run up to an escape is one step, since each step takes memory
+    for token in re.findall(r'"[^"\\]*(?:\\.[^"\\]*)*"|[\[\]{}:,]|[^\s\[\]{}:,"]+', text.decode()):
         levels -= token in _CLOSE
         if before == "," or (before in _OPEN) != (token in _CLOSE):
             made.append("\n" + " " * (spaces * levels))
