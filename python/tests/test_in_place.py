@@ -1,7 +1,9 @@
 """Objects that are changed themselves. diff/in_place.py holds random changes against the library's."""
 import collections
 import datetime
+import decimal
 import json
+import time
 import unittest
 
 from json_patch import (
@@ -197,6 +199,33 @@ class InPlace(unittest.TestCase):
         self.assertRefused(document, {"op": "remove", "path": "/a"}, {"op": "add", "path": "/b", "value": 1}, FAILS)
         counted = collections.defaultdict(list, a=1)
         self.assertRefused(counted, {"op": "add", "path": "/none/-", "value": 1})
+
+    def test_a_signaling_nan_is_none(self):
+        for other in (1, 1.5, decimal.Decimal(1)):
+            document = {"a": decimal.Decimal("sNaN")}
+            with self.assertRaises(JsonPatchTestFailed):
+                apply_patch(document, [{"op": "test", "path": "/a", "value": 1}], in_place=True, loads=lambda text: [{"op": "test", "path": "/a", "value": other}])
+
+    def test_members_that_went_are_not_counted_each_time(self):
+        """As many tests as members that were removed: to count these would take the square."""
+        names = [f"/{number}" for number in range(10_000)]
+        document = dict.fromkeys([name[1:] for name in names], 0)
+        tests = [{"op": "test", "path": "", "value": {}}]
+        begun = time.process_time()
+        apply_patch(document, [{"op": "remove", "path": name} for name in names] + tests * 10_000, in_place=True)
+        self.assertLess(time.process_time() - begun, 3)
+        self.assertEqual(document, {})
+
+    def test_members_that_went_and_came(self):
+        """A test counts those that are there, whatever went and came."""
+        self.changed(
+            {"a": 1, "b": {"c": 1, "d": 2}},
+            {"op": "remove", "path": "/a"}, {"op": "test", "path": "", "value": {"b": {"c": 1, "d": 2}}},
+            {"op": "add", "path": "/a", "value": 2}, {"op": "test", "path": "", "value": {"a": 2, "b": {"c": 1, "d": 2}}},
+            {"op": "remove", "path": "/b/c"}, {"op": "move", "from": "/b", "path": "/e"}, {"op": "test", "path": "/e", "value": {"d": 2}},
+            {"op": "test", "path": "", "value": {"a": 2, "e": {"d": 2}}}, {"op": "copy", "from": "/e", "path": "/e/c"},
+            {"op": "test", "path": "/e", "value": {"c": {"d": 2}, "d": 2}}, {"op": "test", "path": "/e/c", "value": {"d": 2}},
+        )
 
     def test_texts(self):
         self.changed({"\u00e9\U0001f600": "\x00\x1f\x7f\u2028\"\\/"}, {"op": "add", "path": "/\x7f", "value": "\u0085"})

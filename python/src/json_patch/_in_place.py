@@ -115,6 +115,8 @@ class _Run:
         self._depth, self._copied = limits.depth, limits.bytes
         self._log: List[Tuple[Any, ...]] = []
         self._marks: List[Tuple[Dict[str, Any], str]] = []
+        # how many stand in a dict, by its id: each is held by the log
+        self._gone: Dict[int, int] = {}
 
     def undo(self) -> None:
         for change, *arguments in reversed(self._log):
@@ -130,7 +132,7 @@ class _Run:
         if op == "remove":
             self._take(path)
         elif op == "test":
-            if not _are_same(self._at(path), other, has_marks=bool(self._marks)):
+            if not _are_same(self._at(path), other, self._gone):
                 raise _Refused(TEST_FAILED)
         elif op == "copy":
             self._put(path, self._copy(other, path))
@@ -181,6 +183,7 @@ class _Run:
         if isinstance(holder, dict):
             holder[key] = _GONE
             self._marks.append((holder, key))
+            self._gone[id(holder)] = self._gone.get(id(holder), 0) + 1
             self._log.append((holder.__setitem__, key, value))
         else:
             del holder[key]
@@ -202,6 +205,8 @@ class _Run:
         if isinstance(holder, dict):
             back = (holder.__setitem__, last, holder[last]) if last in holder else (holder.__delitem__, last)
             holder[last] = value
+            if back[-1] is _GONE:
+                self._gone[id(holder)] -= 1
         else:
             place = _place(holder, last)
             back = (holder.__delitem__, place)
@@ -276,13 +281,13 @@ def _copied(value: Any, most: int) -> Tuple[Any, int]:
     return made[0], size
 
 
-def _are_same(value: Any, wanted: Any, has_marks: bool) -> bool:
-    """Whether a value is the one that a patch says."""
+def _are_same(value: Any, wanted: Any, gone: Dict[int, int]) -> bool:
+    """Whether a value is the one that a patch says, where dicts hold so many marks."""
     left = [(value, wanted)]
     while left:
         value, wanted = left.pop()
         if isinstance(wanted, dict):
-            if not isinstance(value, dict) or _count(value, has_marks and len(value) > len(wanted)) != len(wanted):
+            if not isinstance(value, dict) or len(value) - gone.get(id(value), 0) != len(wanted):
                 return False
             left += [(value.get(name, _GONE), member) for name, member in wanted.items()]
         elif isinstance(wanted, list):
@@ -294,17 +299,17 @@ def _are_same(value: Any, wanted: Any, has_marks: bool) -> bool:
     return True
 
 
-def _count(members: Dict[Any, Any], has_marks: bool) -> int:
-    return sum(member is not _GONE for member in members.values()) if has_marks else len(members)
-
-
 def _are_same_atoms(one: Any, other: Any) -> bool:
     """Numbers are compared by what json.dumps writes of them, as in a text: 1e23 is 10**23, and no binary fraction."""
     if isinstance(one, bool) or isinstance(other, bool):
         return one is other
     if type(one) is not type(other):
         one, other = exact(one), exact(other)
-    return bool(one == other)
+    try:
+        return bool(one == other)
+    except ArithmeticError:
+        # a Decimal that is a signaling nan
+        return False
 
 
 def _filled(obj: Any, made: Any) -> Any:
