@@ -321,8 +321,19 @@ static PyObject *looks_at(PyObject *module, PyObject *args, call *make)
 
 /* ---- how deep objects nest */
 
-/* Through more lists and dicts Python looks itself: where one stands at many places, it sees each once. */
-enum { MOST_LOOKED_THROUGH = 1000000 };
+/* Through more lists and dicts, each counted once more for so many items, Python looks itself: where one stands at many
+   places, it sees each once. */
+enum { MOST_LOOKED_THROUGH = 1000000, ITEMS = 64 };
+
+/* How many items one has that is Python's own. */
+static Py_ssize_t size_of(PyObject *value)
+{
+    if (PyDict_CheckExact(value))
+        return PyDict_Size(value);
+    if (PyList_CheckExact(value))
+        return PyList_Size(value);
+    return PyTuple_CheckExact(value) ? PyTuple_Size(value) : 0;
+}
 
 /* Whether lists and dicts nest deeper than this: 1 or 0, or -1 where Python has to look. */
 static int nests_deeper(PyObject *value, long levels, long *looked)
@@ -332,7 +343,8 @@ static int nests_deeper(PyObject *value, long levels, long *looked)
         return levels < 0;
     if (levels <= 0)
         return 1;
-    if (++*looked > MOST_LOOKED_THROUGH)
+    *looked += 1 + (long)(size_of(value) / ITEMS);
+    if (*looked > MOST_LOOKED_THROUGH)
         return -1;
     if (PyDict_CheckExact(value)) {
         PyObject *item;

@@ -4,6 +4,7 @@ import collections
 import json
 import random
 import sys
+import time
 import unittest
 
 from json_patch import (
@@ -214,6 +215,13 @@ class Deep(unittest.TestCase):
         self.assertIsNone(_native.is_deeper(shared, 127))
         self.assertFalse(is_deep(shared))
         self.assertTrue(is_deeper(shared, 120))
+
+    def test_a_long_list_that_stands_at_many_places(self):
+        """Of 10,000,000,000 items each is looked at once by Python, which asks C first."""
+        begun = time.process_time()
+        self.assertFalse(is_deeper([[0] * 1_000_000] * 10_000, 5))
+        self.assertTrue(is_deeper([(*[0] * 1_000_000, [])] * 10_000, 2))
+        self.assertLess(time.process_time() - begun, 5)
 
     def test_how_deep(self):
         self.assertFalse(is_deep(nested(127)))
