@@ -149,7 +149,7 @@ CREATE FUNCTION json_patch_part(of jsonb, names text[]) RETURNS jsonb
 /* The trigger. Its settings write a value in one way, whatever the session's are: keys are found again. */
 CREATE FUNCTION json_patch_remember() RETURNS trigger
     LANGUAGE plpgsql
-    SET timezone = 'UTC' SET intervalstyle = 'iso_8601' SET bytea_output = 'hex' SET extra_float_digits = 1 SET json_patch.max_depth = 124
+    SET timezone = 'UTC' SET datestyle = 'ISO' SET intervalstyle = 'iso_8601' SET bytea_output = 'hex' SET extra_float_digits = 1 SET json_patch.max_depth = 124
     AS $$
 DECLARE
     into_history constant text := pg_catalog.format('INSERT INTO %s (key, deed, undo)', TG_ARGV[0]);
@@ -217,7 +217,7 @@ COMMENT ON FUNCTION json_patch_keep_history(regclass) IS 'has each change of a r
 -- the key as the history has it; $1, which that is, as a row k of a FROM; where a row t has this key
 CREATE FUNCTION json_patch_found(relation regclass, INOUT key jsonb, OUT keys text, OUT same text)
     LANGUAGE plpgsql STABLE STRICT
-    SET timezone = 'UTC' SET intervalstyle = 'iso_8601' SET bytea_output = 'hex' SET extra_float_digits = 1
+    SET timezone = 'UTC' SET datestyle = 'ISO' SET intervalstyle = 'iso_8601' SET bytea_output = 'hex' SET extra_float_digits = 1
     AS $$
 DECLARE
     names constant text[] := @extschema@.json_patch_key(relation);
@@ -236,7 +236,7 @@ END$$;
 
 CREATE FUNCTION json_patch_row_at(relation regclass, key jsonb, version bigint) RETURNS jsonb
     LANGUAGE plpgsql STABLE STRICT
-    SET timezone = 'UTC' SET intervalstyle = 'iso_8601' SET bytea_output = 'hex' SET extra_float_digits = 1 SET json_patch.max_depth = 124
+    SET timezone = 'UTC' SET datestyle = 'ISO' SET intervalstyle = 'iso_8601' SET bytea_output = 'hex' SET extra_float_digits = 1 SET json_patch.max_depth = 124
     AS $$
 DECLARE
     found constant record := @extschema@.json_patch_found(relation, key);

@@ -396,6 +396,16 @@ class History(Sql):
             self.assertEqual(self.rows("SELECT d FROM t"), [(1,)])
         self.rows("RESET timezone")
 
+    def test_dates_in_other_styles(self):
+        """What a range of dates is written as is read as the same dates, by a session of another DateStyle."""
+        self.tracked("days daterange PRIMARY KEY, times tstzrange[], d int")
+        self.rows("SET datestyle = 'SQL, DMY'; INSERT INTO t VALUES ('[2024-02-01,2024-03-05)', '{\"[2024-02-01 10:00+00,2024-03-05)\"}', 1)")
+        first = self.rows("SET datestyle = 'ISO, MDY'; SELECT days::text, times::text, d FROM t")
+        self.rows("SET datestyle = 'German'; UPDATE t SET times = NULL, d = 2; RESET datestyle")
+        self.assertEqual(self.rows("SELECT DISTINCT key FROM t_history"), [({"days": "[2024-02-01,2024-03-05)"},)])
+        self.one("SELECT json_patch_undo('t', '{\"days\":\"[2024-02-01,2024-03-05)\"}', 1)")
+        self.assertEqual(self.rows("SELECT days::text, times::text, d FROM t"), first)
+
     def test_truncate(self):
         self.tracked("id int PRIMARY KEY, d jsonb")
         self.rows("INSERT INTO t SELECT n, to_jsonb(n) FROM generate_series(1, 3) n; TRUNCATE t")
