@@ -204,11 +204,12 @@ BEGIN
             transaction xid8 NOT NULL DEFAULT pg_catalog.pg_current_xact_id())', history);
         EXECUTE pg_catalog.format('CREATE INDEX ON %s (key, version)', history);
     END IF;
-    EXECUTE pg_catalog.format('DROP TRIGGER IF EXISTS json_patch_remember ON %s', relation);
-    EXECUTE pg_catalog.format('DROP TRIGGER IF EXISTS json_patch_remember_all ON %s', relation);
-    EXECUTE pg_catalog.format('CREATE TRIGGER json_patch_remember AFTER INSERT OR UPDATE OR DELETE ON %s
+    -- by their names they come before other triggers, which may change the row again
+    EXECUTE pg_catalog.format('DROP TRIGGER IF EXISTS "!json_patch_remember" ON %s', relation);
+    EXECUTE pg_catalog.format('DROP TRIGGER IF EXISTS "!json_patch_remember_all" ON %s', relation);
+    EXECUTE pg_catalog.format('CREATE TRIGGER "!json_patch_remember" AFTER INSERT OR UPDATE OR DELETE ON %s
         FOR EACH ROW EXECUTE FUNCTION @extschema@.json_patch_remember(%L, %L)', relation, history, names);
-    EXECUTE pg_catalog.format('CREATE TRIGGER json_patch_remember_all BEFORE TRUNCATE ON %s
+    EXECUTE pg_catalog.format('CREATE TRIGGER "!json_patch_remember_all" BEFORE TRUNCATE ON %s
         FOR EACH STATEMENT EXECUTE FUNCTION @extschema@.json_patch_remember(%L, %L)', relation, history, names);
     RETURN history::regclass;
 END$$;

@@ -406,6 +406,18 @@ class History(Sql):
         self.one("SELECT json_patch_undo('t', '{\"days\":\"[2024-02-01,2024-03-05)\"}', 1)")
         self.assertEqual(self.rows("SELECT days::text, times::text, d FROM t"), first)
 
+    def test_a_trigger_that_changes_the_row_again(self):
+        """Each change comes before those that it leads to."""
+        self.tracked("id int PRIMARY KEY, parent int REFERENCES t ON UPDATE CASCADE, v int, w int")
+        self.rows("""CREATE FUNCTION follow() RETURNS trigger LANGUAGE plpgsql AS 'BEGIN
+            IF NEW.w IS DISTINCT FROM NEW.v THEN UPDATE t SET w = NEW.v WHERE id = NEW.id; END IF; RETURN NULL; END';
+            CREATE TRIGGER "A" AFTER INSERT OR UPDATE ON t FOR EACH ROW EXECUTE FUNCTION follow()""")
+        self.rows("INSERT INTO t VALUES (1, 1, 10, 0); UPDATE t SET v = 20; UPDATE t SET id = 2")
+        at = [self.one("SELECT json_patch_row_at('t', '{\"id\":1}', %s)", version) for version in range(6)]
+        self.assertEqual(at, [None, *({"id": 1, "parent": 1, "v": v, "w": w} for v, w in [(10, 0), (10, 10), (20, 10), (20, 20)]), None])
+        at = [self.one("SELECT json_patch_row_at('t', '{\"id\":2}', %s)", version) for version in range(5, 8)]
+        self.assertEqual(at, [None, *({"id": 2, "parent": parent, "v": 20, "w": 20} for parent in (1, 2))])
+
     def test_truncate(self):
         self.tracked("id int PRIMARY KEY, d jsonb")
         self.rows("INSERT INTO t SELECT n, to_jsonb(n) FROM generate_series(1, 3) n; TRUNCATE t")
