@@ -203,6 +203,8 @@ BEGIN
             made_by name NOT NULL DEFAULT session_user,
             transaction xid8 NOT NULL DEFAULT pg_catalog.pg_current_xact_id())', history);
         EXECUTE pg_catalog.format('CREATE INDEX ON %s (key, version)', history);
+    ELSIF 4 > (SELECT pg_catalog.count(*) FROM pg_catalog.pg_attribute WHERE attrelid = pg_catalog.to_regclass(history) AND attname IN ('version', 'key', 'deed', 'undo')) THEN
+        RAISE EXCEPTION 'table % is there, and is no history', pg_catalog.to_regclass(history) USING ERRCODE = 'duplicate_table', HINT = 'A history is named after its table, and a name ends behind 63 bytes.';
     END IF;
     -- by their names they come before other triggers, which may change the row again
     EXECUTE pg_catalog.format('DROP TRIGGER IF EXISTS "!json_patch_remember" ON %s', relation);

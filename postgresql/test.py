@@ -418,6 +418,20 @@ class History(Sql):
         at = [self.one("SELECT json_patch_row_at('t', '{\"id\":2}', %s)", version) for version in range(5, 8)]
         self.assertEqual(at, [None, *({"id": 2, "parent": parent, "v": 20, "w": 20} for parent in (1, 2))])
 
+    def test_a_table_that_is_no_history(self):
+        """By its name it would be: one of the user's, or the table itself, whose name has no room for more."""
+        long = "a" * 63
+        self.rows(f"CREATE TABLE u_history (a int); CREATE TABLE u (id int PRIMARY KEY); CREATE TABLE {long} (id int PRIMARY KEY)")
+        for table in ("u", long):
+            self.assertEqual(self.fails("SELECT json_patch_keep_history(%s)", table).pgcode, "42P07")
+            self.rows(f"INSERT INTO {table} VALUES (1)")
+        self.rows(f"DROP TABLE u, u_history, {long}")
+        long = "a" * 62
+        self.tracked("id int PRIMARY KEY, d jsonb", long)
+        self.rows(f"INSERT INTO {long} VALUES (1, '1'); UPDATE {long} SET d = '2'")
+        self.assertEqual(self.one(f"SELECT json_patch_row_at('{long}', '{{\"id\":1}}', 1)->'d'"), 1)
+        self.rows(f"DROP TABLE {long}")
+
     def test_truncate(self):
         self.tracked("id int PRIMARY KEY, d jsonb")
         self.rows("INSERT INTO t SELECT n, to_jsonb(n) FROM generate_series(1, 3) n; TRUNCATE t")
