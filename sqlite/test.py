@@ -288,6 +288,17 @@ class Calls(Sql):
         self.assertSays({"a": "x" * 10_000, **{str(number): "x" * 10_000 for number in range(100)}}, found)
 
 
+class Names(Sql):
+    def test_what_the_readme_names(self):
+        """Of its table those that SQL has, but for PostgreSQL alone, and those of docs/SQLITE.md."""
+        rows = re.findall(r"^\|[^|]*\|[^|]*\| ([^|]*) \|[^|]*\|[^|]*\|$", (TOP / "README.md").read_text(encoding="utf-8"), re.MULTILINE)
+        named = [re.search(r"(?:^|SQL: )`(\w+)`$", row) for row in rows if not row.startswith("C")]
+        wanted = {f"json_patch_{found[1]}" for found in named if found}
+        wanted |= set(re.findall(r"^\| `(json_patch_\w+)\(", (TOP / "docs/SQLITE.md").read_text(encoding="utf-8"), re.MULTILINE))
+        there = {name for name, in self.database.execute("SELECT name FROM pragma_function_list")}
+        self.assertEqual((len(wanted), wanted - there), (6, set()))
+
+
 class Tables(Sql):
     """The functions where SQLite asks that they be deterministic and harmless."""
 
