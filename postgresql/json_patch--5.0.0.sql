@@ -256,13 +256,17 @@ BEGIN
 END$$;
 COMMENT ON FUNCTION json_patch_row_at(regclass, jsonb, bigint) IS 'the row of this key as it was after that version of the history, NULL where there was none';
 
--- what an undo may write: the columns but generated ones, and for an UPDATE also but the key and identities
-CREATE FUNCTION json_patch_columns(relation regclass, OUT all_written text, OUT changed text)
+-- what an undo may write: the columns but generated ones, and for an UPDATE also but the key and identities; and what of a
+-- row goes there, where a null that can't be SQL's is JSON's
+CREATE FUNCTION json_patch_columns(relation regclass, OUT all_written text, OUT all_values text, OUT changed text, OUT changed_values text)
     LANGUAGE sql STABLE STRICT
     AS $$
-        SELECT pg_catalog.string_agg(pg_catalog.quote_ident(attname), ', '),
-               pg_catalog.string_agg(pg_catalog.quote_ident(attname), ', ') FILTER (WHERE attidentity <> 'a' AND attname <> ALL (@extschema@.json_patch_key(relation)))
-        FROM pg_catalog.pg_attribute WHERE attrelid = relation AND attnum > 0 AND NOT attisdropped AND attgenerated = ''
+        SELECT pg_catalog.string_agg(name, ', '), pg_catalog.string_agg(value, ', '),
+               pg_catalog.string_agg(name, ', ') FILTER (WHERE may_change), pg_catalog.string_agg(value, ', ') FILTER (WHERE may_change)
+        FROM (SELECT pg_catalog.quote_ident(attname) AS name,
+                     CASE WHEN attnotnull AND atttypid IN ('pg_catalog.json'::regtype, 'pg_catalog.jsonb'::regtype) THEN pg_catalog.format('coalesce(%I, ''null'')', attname) ELSE pg_catalog.quote_ident(attname) END AS value,
+                     attidentity <> 'a' AND attname <> ALL (@extschema@.json_patch_key(relation)) AS may_change
+              FROM pg_catalog.pg_attribute WHERE attrelid = relation AND attnum > 0 AND NOT attisdropped AND attgenerated = '') a
     $$;
 
 CREATE FUNCTION json_patch_undo(relation regclass, key jsonb, version bigint) RETURNS jsonb
@@ -280,9 +284,9 @@ BEGIN
     IF state IS NULL THEN
         EXECUTE pg_catalog.format('DELETE FROM %s t USING %s WHERE %s', relation, found.keys, found.same) USING found.key;
     ELSIF is_there IS NULL THEN
-        EXECUTE pg_catalog.format('INSERT INTO %1$s (%2$s) OVERRIDING SYSTEM VALUE SELECT %2$s FROM pg_catalog.jsonb_populate_record(NULL::%1$s, $1)', relation, columns.all_written) USING state;
+        EXECUTE pg_catalog.format('INSERT INTO %1$s (%2$s) OVERRIDING SYSTEM VALUE SELECT %3$s FROM pg_catalog.jsonb_populate_record(NULL::%1$s, $1)', relation, columns.all_written, columns.all_values) USING state;
     ELSIF columns.changed IS NOT NULL THEN
-        EXECUTE pg_catalog.format('UPDATE %1$s t SET (%2$s) = (SELECT %2$s FROM pg_catalog.jsonb_populate_record(NULL::%1$s, $2)) FROM %3$s WHERE %4$s', relation, columns.changed, found.keys, found.same) USING found.key, state;
+        EXECUTE pg_catalog.format('UPDATE %1$s t SET (%2$s) = (SELECT %3$s FROM pg_catalog.jsonb_populate_record(NULL::%1$s, $2)) FROM %4$s WHERE %5$s', relation, columns.changed, columns.changed_values, found.keys, found.same) USING found.key, state;
     END IF;
     RETURN state;
 END$$;

@@ -406,6 +406,15 @@ class History(Sql):
         self.one("SELECT json_patch_undo('t', '{\"days\":\"[2024-02-01,2024-03-05)\"}', 1)")
         self.assertEqual(self.rows("SELECT days::text, times::text, d FROM t"), first)
 
+    def test_a_null_of_json(self):
+        """Where a column can't be NULL a null is one of JSON, and elsewhere NULL."""
+        self.tracked("id int PRIMARY KEY, d jsonb NOT NULL, j json NOT NULL, n jsonb")
+        self.rows("INSERT INTO t VALUES (1, 'null', 'null', 'null'); UPDATE t SET d = '1', j = '2', n = '3'")
+        for version in (1, 2, 0, 1):
+            self.one("SELECT json_patch_undo('t', '{\"id\":1}', %s)", version)
+            wanted = {0: [], 1: [("null", "null", None)], 2: [("1", "2", "3")]}[version]
+            self.assertEqual(self.rows("SELECT d::text, j::text, n::text FROM t"), wanted)
+
     def test_a_trigger_that_changes_the_row_again(self):
         """Each change comes before those that it leads to."""
         self.tracked("id int PRIMARY KEY, parent int REFERENCES t ON UPDATE CASCADE, v int, w int")
