@@ -162,7 +162,7 @@ BEGIN
     IF TG_OP = 'TRUNCATE' THEN
         EXECUTE pg_catalog.format(
             '%s SELECT @extschema@.json_patch_part(was, $1), $2, @extschema@.json_patch_diff(''null'', was)
-             FROM (SELECT pg_catalog.to_jsonb(t) AS was FROM %I.%I t) all_rows', into_history, TG_TABLE_SCHEMA, TG_TABLE_NAME) USING names, TG_OP;
+             FROM (SELECT pg_catalog.to_jsonb(t.*) AS was FROM %I.%I t) all_rows', into_history, TG_TABLE_SCHEMA, TG_TABLE_NAME) USING names, TG_OP;
         RETURN NULL;
     END IF;
     IF TG_OP <> 'INSERT' THEN
@@ -234,7 +234,7 @@ BEGIN
     SELECT pg_catalog.format('pg_catalog.jsonb_to_record($1) AS k (%s)', pg_catalog.string_agg(pg_catalog.format('%I %s', attname, pg_catalog.format_type(atttypid, atttypmod)), ', ')),
            pg_catalog.string_agg(pg_catalog.format('t.%1$I = k.%1$I', attname), ' AND ')
         INTO keys, same FROM pg_catalog.pg_attribute WHERE attrelid = relation AND attname = ANY (names);
-    EXECUTE 'SELECT pg_catalog.to_jsonb(k) FROM ' || keys INTO key USING key;
+    EXECUTE 'SELECT pg_catalog.to_jsonb(k.*) FROM ' || keys INTO key USING key;
 END$$;
 
 CREATE FUNCTION json_patch_row_at(relation regclass, key jsonb, version bigint) RETURNS jsonb
@@ -246,7 +246,7 @@ DECLARE
     state jsonb;
     step jsonb;
 BEGIN
-    EXECUTE pg_catalog.format('SELECT pg_catalog.to_jsonb(t) FROM %s JOIN %s t ON %s', found.keys, relation, found.same) INTO state USING found.key;
+    EXECUTE pg_catalog.format('SELECT pg_catalog.to_jsonb(t.*) FROM %s JOIN %s t ON %s', found.keys, relation, found.same) INTO state USING found.key;
     state := coalesce(state, 'null');
     FOR step IN EXECUTE pg_catalog.format('SELECT undo FROM %s h WHERE h.key = $1 AND h.version > $2 ORDER BY h.version DESC', @extschema@.json_patch_history(relation))
             USING found.key, version LOOP

@@ -406,6 +406,19 @@ class History(Sql):
         self.one("SELECT json_patch_undo('t', '{\"days\":\"[2024-02-01,2024-03-05)\"}', 1)")
         self.assertEqual(self.rows("SELECT days::text, times::text, d FROM t"), first)
 
+    def test_columns_with_the_names_of_the_history_s_own(self):
+        names = ("k", "t", "h", "a", "was", "now", "all_rows", "name", "relation", "key", "version", "state", "step", "found", "columns")
+        self.tracked(", ".join(f"{name} int" for name in names) + ", PRIMARY KEY (k, name)")
+        first = dict(zip(names, range(len(names))))
+        key = json.dumps({"k": first["k"], "name": first["name"]})
+        self.rows(f"INSERT INTO t VALUES ({', '.join(map(str, first.values()))}); UPDATE t SET t = 70, a = 80")
+        self.assertEqual([self.one("SELECT json_patch_row_at('t', %s, %s)", key, version) for version in range(3)], [None, first, {**first, "t": 70, "a": 80}])
+        self.one("SELECT json_patch_undo('t', %s, 1)", key)
+        self.rows("TRUNCATE t")
+        self.assertEqual(self.rows("SELECT key, deed FROM t_history WHERE version = 4"), [(json.loads(key), "TRUNCATE")])
+        self.one("SELECT json_patch_undo('t', %s, 3)", key)
+        self.assertEqual(self.one("SELECT to_jsonb(t.*) FROM t"), first)
+
     def test_a_null_of_json(self):
         """Where a column can't be NULL a null is one of JSON, and elsewhere NULL."""
         self.tracked("id int PRIMARY KEY, d jsonb NOT NULL, j json NOT NULL, n jsonb")
