@@ -130,7 +130,7 @@ CREATE FUNCTION json_patch_key(relation regclass) RETURNS text[]
     LANGUAGE sql STABLE STRICT
     AS $$
         SELECT pg_catalog.array_agg(a.attname::text ORDER BY pg_catalog.array_position(i.indkey::int2[], a.attnum))
-        FROM pg_catalog.pg_index i JOIN pg_catalog.pg_attribute a ON a.attrelid = i.indrelid AND a.attnum = ANY (i.indkey::int2[])
+        FROM pg_catalog.pg_index i JOIN pg_catalog.pg_attribute a ON a.attrelid = i.indrelid AND a.attnum = ANY ((i.indkey::int2[])[:i.indnkeyatts - 1])
         WHERE i.indrelid = relation AND i.indisprimary
     $$;
 

@@ -419,6 +419,13 @@ class History(Sql):
         self.one("SELECT json_patch_undo('t', %s, 3)", key)
         self.assertEqual(self.one("SELECT to_jsonb(t.*) FROM t"), first)
 
+    def test_a_key_that_includes_columns(self):
+        """What an index has beside its key is none of it."""
+        self.tracked("id int, v int, w int, PRIMARY KEY (w, id) INCLUDE (v)")
+        self.rows("INSERT INTO t VALUES (1, 10, 0); UPDATE t SET v = 20")
+        self.assertEqual(self.rows("SELECT key, deed FROM t_history ORDER BY version"), [({"w": 0, "id": 1}, "INSERT"), ({"w": 0, "id": 1}, "UPDATE")])
+        self.assertEqual(self.one("SELECT json_patch_row_at('t', '{\"w\":0,\"id\":1}', 1)"), {"id": 1, "v": 10, "w": 0})
+
     def test_a_null_of_json(self):
         """Where a column can't be NULL a null is one of JSON, and elsewhere NULL."""
         self.tracked("id int PRIMARY KEY, d jsonb NOT NULL, j json NOT NULL, n jsonb")
