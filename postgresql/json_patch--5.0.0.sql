@@ -161,8 +161,8 @@ DECLARE
 BEGIN
     IF TG_OP = 'TRUNCATE' THEN
         EXECUTE pg_catalog.format(
-            '%s SELECT @extschema@.json_patch_part(was, $1), $2, @extschema@.json_patch_diff(''null'', was)
-             FROM (SELECT pg_catalog.to_jsonb(t.*) AS was FROM %I.%I t) all_rows', into_history, TG_TABLE_SCHEMA, TG_TABLE_NAME) USING names, TG_OP;
+            '%1$s SELECT %2$s.json_patch_part(was, $1), $2, %2$s.json_patch_diff(''null'', was)
+             FROM (SELECT pg_catalog.to_jsonb(t.*) AS was FROM %3$I.%4$I t) all_rows', into_history, '@extschema@', TG_TABLE_SCHEMA, TG_TABLE_NAME) USING names, TG_OP;
         RETURN NULL;
     END IF;
     IF TG_OP <> 'INSERT' THEN
@@ -210,9 +210,9 @@ BEGIN
     EXECUTE pg_catalog.format('DROP TRIGGER IF EXISTS "!json_patch_remember" ON %s', relation);
     EXECUTE pg_catalog.format('DROP TRIGGER IF EXISTS "!json_patch_remember_all" ON %s', relation);
     EXECUTE pg_catalog.format('CREATE TRIGGER "!json_patch_remember" AFTER INSERT OR UPDATE OR DELETE ON %s
-        FOR EACH ROW EXECUTE FUNCTION @extschema@.json_patch_remember(%L, %L)', relation, history, names);
+        FOR EACH ROW EXECUTE FUNCTION %s.json_patch_remember(%L, %L)', relation, '@extschema@', history, names);
     EXECUTE pg_catalog.format('CREATE TRIGGER "!json_patch_remember_all" BEFORE TRUNCATE ON %s
-        FOR EACH STATEMENT EXECUTE FUNCTION @extschema@.json_patch_remember(%L, %L)', relation, history, names);
+        FOR EACH STATEMENT EXECUTE FUNCTION %s.json_patch_remember(%L, %L)', relation, '@extschema@', history, names);
     RETURN history::regclass;
 END$$;
 COMMENT ON FUNCTION json_patch_keep_history(regclass) IS 'has each change of a row leave what takes it back in a table NAME_history, whose name is given';

@@ -779,6 +779,14 @@ class Kept(Sql):
             run.execute("SELECT json_patch_undo('t', '{\"id\":1}', 1)->'d'")
             self.assertEqual(run.fetchone()[0], {})
 
+    def test_a_schema_with_an_odd_name(self):
+        new_database("odd")
+        with session("odd") as run:
+            run.execute("""CREATE SCHEMA "a%b c"; CREATE EXTENSION json_patch SCHEMA "a%b c"; CREATE TABLE t (id int PRIMARY KEY, d jsonb)""")
+            run.execute("""SELECT "a%b c".json_patch_keep_history('t')::text; INSERT INTO t VALUES (1, '1'); UPDATE t SET d = '2'; TRUNCATE t""")
+            run.execute("""SELECT "a%b c".json_patch_undo('t', '{"id":1}', 1)->'d'""")
+            self.assertEqual(run.fetchone()[0], 1)
+
     def test_the_symbols(self):
         """The file shows the functions, and none of the library."""
         file = next(Path(ROOT).glob("usr/lib/postgresql/*/lib/json_patch.so"))
