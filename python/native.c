@@ -572,7 +572,8 @@ static int same_containers(search *s, PyObject *one, PyObject *other)
     int is_dict = PyDict_CheckExact(one), told;
     if (Py_TYPE(one) != Py_TYPE(other) || !(is_dict || PyList_CheckExact(one)))
         return untold(s);
-    if (s->level >= s->levels || ++s->looked > MOST_LOOKED_THROUGH)
+    s->looked += 1 + (long)(size_of(one) / ITEMS);
+    if (s->level >= s->levels || s->looked > MOST_LOOKED_THROUGH)
         return untold(s);
     told = is_dict ? same_dicts(s, one, other) : same_lists(s, one, other);
     return told == EQUAL && s->length != before ? UNTOLD : told;

@@ -221,6 +221,8 @@ class Deep(unittest.TestCase):
         begun = time.process_time()
         self.assertFalse(is_deeper([[0] * 1_000_000] * 10_000, 5))
         self.assertTrue(is_deeper([(*[0] * 1_000_000, [])] * 10_000, 2))
+        shared = [[0] * 1_000_000] * 10_000
+        self.assertEqual(_native.differs_at(shared, shared, 124), [])
         self.assertLess(time.process_time() - begun, 5)
 
     def test_how_deep(self):
