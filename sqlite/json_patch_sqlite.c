@@ -12,10 +12,9 @@
  * All but the last also take two limits, depth and bytes, and the first two a third, operations, as
  * json_patch.h has them. A NULL among the arguments gives NULL. What isn't a text, or says no document or,
  * but for json_patch_check, no patch, a goal to which no merge patch leads, and a patch that is refused or
- * over the limits are errors of the statement.
- * json_patch_apply and json_patch_merge keep the text where they don't change it. Numbers may be any. A result depends on the arguments alone, and no
- * call reads or writes anything else; so the functions may stand in indexes, generated columns, CHECKs and
- * triggers.
+ * over the limits are errors of the statement. json_patch_apply and json_patch_merge keep the text where they
+ * don't change it. Numbers may be any. A result depends on the arguments alone, and no call reads or writes
+ * anything else; so the functions may stand in indexes, generated columns, CHECKs and triggers.
  *
  * In the folder of the archive, with sqlite3ext.h (Debian: libsqlite3-dev):
  *
@@ -28,8 +27,9 @@ SQLITE_EXTENSION_INIT1
 #include <json_patch.h>
 #include <string.h>
 
+/* Since 3.45 SQLite wants it. A header from before hasn't it, and an SQLite from before looks past it. */
 #ifndef SQLITE_RESULT_SUBTYPE
-#define SQLITE_RESULT_SUBTYPE 0
+#define SQLITE_RESULT_SUBTYPE 0x001000000
 #endif
 
 /* What SQLite's own functions give a text that is JSON, so that they take it for a value. */
