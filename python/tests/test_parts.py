@@ -209,7 +209,7 @@ class Parts(unittest.TestCase):
         for value, error, kind in (
             (math.nan, JsonPatchException, "NotJson"), (-math.inf, JsonPatchException, "NotJson"),
             ("\ud800", JsonPatchException, "UnpairedSurrogate"), ({LONG + "\udc00": 1}, JsonPatchException, "UnpairedSurrogate"),
-            (10**5000, JsonPatchException, "NumberOutOfRange"), (nested(123), JsonPatchException, "TooDeep"),
+            (10**5000, JsonPatchException, "NumberOutOfRange"), (nested(124), JsonPatchException, "TooDeep"),
             (object(), TypeError, None), ({(): 1}, TypeError, None), (decimal.Decimal(1), TypeError, None),
         ):
             for src, dst in (
