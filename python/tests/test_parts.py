@@ -158,8 +158,10 @@ class Parts(unittest.TestCase):
             (nested(125), nested(125), [0] * 124),
             ([nested(9), nested(124)], [nested(9), nested(124)], [1] + [0] * 123),
         ):
+            Own.asked = False
             self.assertEqual(_native.differs_at(one, other, 124), wanted)
             self.assertEqual(_native.differs_at(other, one, 124), wanted)
+            self.assertFalse(Own.asked)
         self.assertEqual(_native.differs_at(nested(200), nested(200), 200), [0] * 124)
 
     def test_objects_that_never_end(self):
