@@ -25,17 +25,16 @@ impl<T: Drop> LongVec<T> {
         }
     }
 
-    /// A block behind the others. The first has room for one item, and grows; behind it one will be filled.
+    /// A block with room for one item, behind the others.
     fn add_block(&mut self) -> Result<(), AllocError>
         ensures items { items_of self.new ≡ items_of self.old }
         ensures capacity { capacity_of self.old ≤ capacity_of self.new }
         ensures room { OnOk result (length (items_of self.new) < capacity_of self.new) }
         ensures one { OnOk result (vec_len self.new.blocks ≡ vec_len self.old.blocks + 1) }
     {
-        let room = if self.blocks.is_empty() { 1 } else { BLOCK };
         self.reserve_block()?;
         let alloc = *self.blocks.allocator();
-        let block = Vec::with_capacity(alloc, room)?;
+        let block = Vec::with_capacity(alloc, 1)?;
         self.blocks.push(block)?;
         Ok(())
     }
