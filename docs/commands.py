@@ -8,7 +8,7 @@ A block `sh` is lines of a shell; a line that begins with `# ` is what the lines
 standard output, and lines that none follows have only to succeed. Without --all the calls of the
 program are run, on the program that `rt ci` or `rt run` left; where there is none, this is told. With
 --all everything is run as it stands there, in this repository: but the project that the README makes
-beside it is made elsewhere, and what c/check does is left to that, with the examples in C and
+beside it is made elsewhere, and what c/check and python/check do is left to those, with the examples in C and
 Python."""
 import re
 import shlex
@@ -24,7 +24,7 @@ PAGES = [README, TOP / "docs/PROGRAM.md"]
 TOOL = TOP / "crates/json_patch_tool"
 BUILT = TOOL / "out/json_patch_tool"
 CALL = re.compile(r"\brt try -- |\bout/json_patch_tool ")
-# what c/check does
+# what the gate does before c/check and python/check
 ELSEWHERE = re.compile(r"^(c/package|python3 -m pip install c/out/\S+)$")
 
 
