@@ -14,11 +14,8 @@ use Rattle.json_merge_text.specs.Changes.{TextChange, add, remove, replace}
 use Rattle.json_merge_text.specs.Merging.{InTurn, IsChanged, MergesInto, MergesMember, MergesObject, PutsIn}
 use Rattle.json_merge_text.specs.Stands.{IsMadeUpTo, IsPutIn, StandsAt}
 use Rattle.json_merge_text.proofs.Merges.{first_named, made_then}
-use Rattle.json_patch_document.proofs.SameDocuments.{AreSame-document}
+use Rattle.json_patch_text.proofs.Made.{same_itself}
 use Rattle.json_reading.specs.Same.{SameTree}
-use Rattle.json_reading.specs.Trees.{data_of}
-use Rattle.json_reading.proofs.Documents.{IsDocument-data_of}
-use Rattle.json_reading.proofs.Trees.{same_exactly}
 use Rattle.json_text.specs.Pointed.{tree_at}
 use Rattle.json_text.specs.Removed.{IsRemoved}
 use Rattle.json_lexemes.specs.Spelled.{IsShallowText}
@@ -36,9 +33,6 @@ null_is (number s) e = cc
 null_is (string s) e = cc
 null_is (array js) e = cc
 null_is (object ms) e = cc
-
-same_itself : (j : Json) → SameTree j j
-same_itself j = (same_exactly j j).1 (λ r. (AreSame-document (data_of r j) (data_of r j) (IsDocument-data_of r j)).1 refl)
 
 -- ---- a value put in
 

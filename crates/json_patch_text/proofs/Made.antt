@@ -7,6 +7,7 @@ use Rattle.std.proofs.lemmas.Result.{IfOk-at_ok}
 use Rattle.json.specs.Json.{Json, document, max_depth}
 use Rattle.json.specs.Tree.{depth}
 use Rattle.jsonptr.specs.Text.{Pointer, IsProperPrefix}
+use Rattle.json_patch_document.proofs.SameDocuments.{AreSame-document}
 use Rattle.json_patch_edit.proofs.StepOutcomes.{not_begins, prefix_begins}
 use Rattle.json_patch_operation.specs.declared.error.PatchErrorKind.{PatchErrorKind}
 use Rattle.json_patch_operation.specs.declared.error.PatchErrorKind.TheVariants.{TestFailed, InvalidFromPointer, InvalidPointer, CannotMoveInsideItself}
@@ -17,7 +18,10 @@ use Rattle.json_patch_text.specs.Step.{ComesTo, Tests, or_refused, after_move, a
 use Rattle.json_patch_text.specs.declared.fault.StepFault.{StepFault}
 use Rattle.json_patch_text.specs.declared.fault.StepFault.TheVariants as step
 use Rattle.json_patch_text.proofs.Agree.{added_is, no_place, replaced_there, replaced_nowhere, removed_tree, removed_nothing}
+use Rattle.json_reading.proofs.Documents.{IsDocument-data_of}
+use Rattle.json_reading.proofs.Trees.{same_exactly}
 use Rattle.json_reading.specs.Same.{SameTree}
+use Rattle.json_reading.specs.Trees.{data_of}
 use Rattle.json_text.specs.Added.{HasNoPlace, IsAdded}
 use Rattle.json_text.specs.Pointed.{tree_at, put_at, IsWrittenAt}
 use Rattle.json_text.specs.Removed.{HasNothingToRemove, IsRemoved}
@@ -185,6 +189,13 @@ pub test_stops : (text s value : List ℕ) (P : Pointer) (i w : Json) → (j : J
 test_stops text s value P i w a said t h =
     let (v, at, shallow, whole) = source text P i s a said in
     subst (λ o. Tests i w o (Err TestFailed)) (sym at) ((λ same. let no : false ≡ true = (h v w shallow t).1 same in cc), refl)
+
+pub same_itself : (j : Json) → SameTree j j
+same_itself j = (same_exactly j j).1 (λ r. (AreSame-document (data_of r j) (data_of r j) (IsDocument-data_of r j)).1 refl)
+
+-- equal texts say the same
+pub equal_texts : (a b : List ℕ) (v w : Json) → a ≡ b → IsShallowText a v → IsShallowText b w → SameTree v w
+equal_texts a b v w e s t = subst (SameTree v) (one_tree b v w (subst (λ x. Says x v) e s.0) t.0) (same_itself v)
 
 -- the trees that are compared are those that the texts say
 pub compared : (a b : List ℕ) (x y v w : Json) (same : Bool) → document a ≡ Some x → document b ≡ Some y → IsShallowText a v → IsShallowText b w → Decides same (SameTree x y) → Decides same (SameTree v w)

@@ -117,7 +117,7 @@ fn write_row(row: &Row<'_>, out: &mut String) -> Result<(), AllocError>
         out.push_str(mark(row.named, first))?;
         write_lead(seam, out)?;
         write(value, out)?;
-        out.push_str(seam.trail.as_str())?;
+        seam.trail.append_to(out)?;
         first = false;
     }
     out.push_str(closing(row.named))
@@ -137,9 +137,9 @@ fn write_hollow(row: &Row<'_>, out: &mut String) -> Result<(), AllocError>
 fn write_lead(seam: &Seam<'_>, out: &mut String) -> Result<(), AllocError>
     ensures { OnOk result (string_bytes out.new ≡ string_bytes out.old ++ lead_of seam.now) }
 {
-    out.push_str(seam.whitespace.as_str())?;
-    out.push_str(seam.name.as_str())?;
-    out.push_str(seam.colons.as_str())
+    seam.whitespace.append_to(out)?;
+    seam.name.append_to(out)?;
+    seam.colons.append_to(out)
 }
 
 /// What stands before a member or an element, the first or another.

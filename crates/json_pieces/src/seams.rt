@@ -1,6 +1,6 @@
 //! The seams of a row, and where each name stands among them, once that has been asked often.
 
-ghost use Rattle.std.specs.Prelude.{◌≡◌, ◌+◌, ◌<◌, ◌≤◌, ◌^◌, ◌∷◌, ◌++◌, [], List, ℕ, length, IfOk, OnOk, slice_index_or, IfSome};
+ghost use Rattle.std.specs.Prelude.{◌≡◌, ◌+◌, ◌<◌, ◌≤◌, ◌^◌, ◌∷◌, ◌++◌, [], List, ℕ, length, IfOk, OnOk, slice_index_or, IfSome, None};
 ghost use Rattle.std.specs.String.{string_bytes};
 ghost use Rattle.std.specs.List.{insert, remove};
 ghost use Rattle.json.specs.Json.{string};
@@ -199,6 +199,16 @@ fn index_again(
     }
 }
 
+/// Lets the index go. To set there is none where there was none takes longer than to look.
+#[inline(always)]
+fn let_go(index: &mut Option<NameIndex>)
+    ensures { index.new ≡ None }
+{
+    if index.is_some() {
+        *index = None;
+    }
+}
+
 impl<'a> Seams<'a> {
     /// No seams.
     pub(crate) fn new(alloc: Global) -> Seams<'a>
@@ -220,13 +230,14 @@ impl<'a> Seams<'a> {
     }
 
     /// Puts in a seam behind the last, before a name is asked for.
+    #[inline(always)]
     pub(crate) fn push(&mut self, seam: Seam<'a>) -> Result<(), AllocError>
         ensures { OnOk result (items_of self.new.all ≡ items_of self.old.all ++ seam.entry ∷ []) }
     {
         let Some(count) = self.count.checked_add(1) else {
             return Err(AllocError);
         };
-        self.index = None;
+        let_go(&mut self.index);
         match self.all.push(seam) {
             Ok(_) => {}
             Err(_) => return Err(AllocError),

@@ -1,6 +1,7 @@
 //! A stretch of the first text, or one that was made since.
 
-ghost use Rattle.std.specs.Prelude.{◌≡◌, IfOk, length};
+ghost use Rattle.std.specs.Prelude.{◌≡◌, ◌++◌, IfOk, OnOk, length};
+ghost use Rattle.std.specs.String.{string_bytes};
 ghost use Rattle.json_pieces.specs.Nodes.{text_bytes};
 ghost use Rattle.json_text.specs.Styled.{colons_like, whitespace_like};
 
@@ -32,6 +33,18 @@ impl<'a> Text<'a> {
         ensures { result ≡ length (text_bytes self.now) }
     {
         self.as_str().len()
+    }
+
+    /// Writes it at the end.
+    pub(crate) fn append_to(&self, out: &mut String) -> Result<(), AllocError>
+        ensures { OnOk result (string_bytes out.new ≡ string_bytes out.old ++ text_bytes self.now) }
+    {
+        let text = self.as_str();
+        // Most of what stands in seams is empty.
+        if text.is_empty() {
+            return Ok(());
+        }
+        out.push_str(text)
     }
 
     /// One of the first text.

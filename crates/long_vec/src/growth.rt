@@ -92,6 +92,7 @@ impl<T: Drop> LongVec<T> {
     }
 
     /// Puts the item in behind the last. Without memory nothing is put in, and the item comes back.
+    #[inline(always)]
     pub fn push(&mut self, item: T) -> Result<(), AllocFailed<T>>
         ensures items { items_of self.new ≡
             (if is_ok result then items_of self.old ++ item ∷ [] else items_of self.old) }

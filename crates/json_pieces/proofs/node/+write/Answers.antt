@@ -34,7 +34,7 @@ write_row-loop-seam-preserved t c =
       before = (before ++ v ∷ [], append_assoc before (v ∷ []) rest ∙ ap (λ l. before ++ l) (sym c.in-Some.ensures.value) ∙ is);
       sound = c.in-Some.ensures.others;
       so_far = one_written (mark_before r.named c.loop-seam.first) 44 (left c.loop-seam.parts.seams) (left c.next.new.self.seams) (left c.loop-seam.parts.values) rest c.in-Some.seam.now v _ (string_bytes c.loop-seam.out) (string_bytes c.push_str.new.self) (string_bytes c.write_lead.new.out) (string_bytes c.write.new.out) _ c.in-Some.ensures refl
-          c.loop-seam.invariant.so_far (c.in_ok-push_str.ensures.bytes ∙ ap (λ x. string_bytes c.loop-seam.out ++ x) c.mark.ensures) c.in_ok-write_lead.ensures c.in_ok-write.ensures (c.in_ok-push_str-2.ensures.bytes ∙ ap (λ x. string_bytes c.write.new.out ++ x) c.as_str.ensures);
+          c.loop-seam.invariant.so_far (c.in_ok-push_str.ensures.bytes ∙ ap (λ x. string_bytes c.loop-seam.out ++ x) c.mark.ensures) c.in_ok-write_lead.ensures c.in_ok-write.ensures c.in_ok-append_to.ensures;
     }
 
 pub write_row-returns : goal.write_row-returns
