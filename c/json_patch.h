@@ -133,8 +133,8 @@ typedef struct {
  *     limits.depth = 10;
  *
  * `size` is that of the struct, so that a later version can have more limits: JSON_PATCH_BAD_LIMITS where
- * it isn't known. In each text that a call leaves at most `depth` arrays and objects are open at once; more
- * than JSON_PATCH_MOST_LEVELS counts as that. What a call makes of texts has at most as many bytes as these
+ * it isn't known. In each text that a call leaves at most `depth` arrays and objects are open at once; a
+ * `depth` above JSON_PATCH_MOST_LEVELS counts as that. What a call makes of texts has at most as many bytes as these
  * and `bytes` together: the new text, after each operation and after a merge, and the inverse. Nor do the
  * operations of a patch together cost more: a copy what it copies, also where that is exchanged or removed
  * again, and a test what it reads beyond the length of its value: whitespace, or members of one name. The first

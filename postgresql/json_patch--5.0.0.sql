@@ -1,5 +1,5 @@
 /* JSON Patch for PostgreSQL: the functions, and a history of rows. What is written has the type of the
-   document. docs/POSTGRESQL.md says more. */
+   document. docs/POSTGRESQL.md of the repository says more. */
 \echo Use "CREATE EXTENSION json_patch" to load this file. \quit
 
 -- JSON Patch, RFC 6902

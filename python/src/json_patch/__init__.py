@@ -50,7 +50,7 @@ change that was recorded:
 [3, 2]
 '{ "rows": [1.50, 2] }'
 
-A stranger's patch can't nest a document without end, nor copy it, or what its inverse holds: every call
+A stranger's patch can't nest a document without end, nor make it, or the inverse, long without end: every call
 keeps to Limits, those of `limits` or Limits(). OverLimit tells which operation is over, and nothing is changed:
 
 >>> try:

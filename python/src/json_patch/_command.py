@@ -125,7 +125,7 @@ def _add_levels(parser: argparse.ArgumentParser) -> None:
 
 def _add_limits(parser: argparse.ArgumentParser) -> None:
     _add_levels(parser)
-    told = f"refuse a patch that leaves a text, or of record an inverse, of N bytes more than both files ({MOST_BYTES})"
+    told = f"refuse a patch by which a text, record's inverse, or what it copies and tests takes more than N bytes beyond both files ({MOST_BYTES})"
     parser.add_argument("--limit-bytes", type=_bytes, metavar="N", default=MOST_BYTES, help=told)
 
 

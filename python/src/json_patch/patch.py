@@ -263,7 +263,7 @@ def make_merge_patch(
     >>> make_merge_patch({"a": 1, "b": {"c": 2, "d": 3}}, {"b": {"c": 2, "d": 4}})
     {'a': None, 'b': {'d': 4}}
 
-    NoMergePatch, where there is none: a None in it removes a member, so it makes none None that isn't already.
+    NoMergePatch, where there is none: a None in it removes a member, so it can't make one None that isn't already.
     """
     made = difference(_native.merge_diff, document_text(src, dumps), document_text(dst, dumps), limits._given)
     return value_of(made, loads)
@@ -280,7 +280,7 @@ def join_merge_patches(
     >>> join_merge_patches({"b": None, "a": {"d": 1}}, {"a": {"c": 2}})
     {'a': {'c': 2, 'd': 1}, 'b': None}
 
-    NoMergePatch, where there is none: where `first` removes or has what is no dict, and `then` has a dict, both make
-    exactly that dict, and one merge patch keeps what else a dict has that is there.
+    NoMergePatch, where there is none. That is so where `first` has None, or another value that is no dict, and `then`
+    has a dict: both in turn make exactly that dict, and one merge patch keeps what else a dict has that is there.
     """
     return value_of(joined(patch_text(first, dumps), patch_text(then, dumps), limits), loads)
