@@ -2,8 +2,8 @@
  * Times the calls of json_patch.h as bench/driver.rt.txt times those of the crate: its arguments are
  * `MODE COUNT accepted`, its input is `[document,patch]`, and it prints the nanoseconds of one call, or
  * 0 where one is refused. In mode `texts` a call goes from the two texts to the new one; in mode `kept` the
- * document stays open, and a call changes it by the patch's text. Mode `copied` copies the document's text, which
- * any call from texts at least does, and mode `read` reads the patch alone.
+ * document stays open, and a call changes it by the patch's text. Mode `merge` takes a merge patch. Mode `copied`
+ * copies the document's text, which any call from texts at least does, and mode `read` reads the patch alone.
  */
 #include <json_patch.h>
 
@@ -53,6 +53,8 @@ static json_patch_status call(const char *mode, json_patch_document *kept, text 
     }
     if (strcmp(mode, "read") == 0)
         return json_patch_check(patch.bytes, patch.length, &report);
+    if (strcmp(mode, "merge") == 0)
+        return json_patch_merge(document.bytes, document.length, patch.bytes, patch.length, NULL, out, room, &report);
     if (strcmp(mode, "kept") == 0)
         return json_patch_update(kept, patch.bytes, patch.length, out, room, &report);
     return json_patch_apply(document.bytes, document.length, patch.bytes, patch.length, NULL, out, room, &report);
