@@ -15,7 +15,7 @@ returns-then-not-is_empty c told l t =
     let n = c.args.name.now in
     elim c.if-text-name-2.branch [
       | then-text-name-2 w ↦
-        let count : length c.args.text.now ≡ length n + 2 = omega (arith, c.if-text-lt2.false, w.if-text-name-2.true) in
-        other_end c.args.text.now l n t count (some_bytes (length n) (ap not (sym w.is_empty.ensures) ∙ sym w.value-is ∙ c.if-not-is_empty.true)) (apart _ _ told)
+          let count : length c.args.text.now ≡ length n + 2 = omega (arith, c.if-text-lt2.false, w.if-text-name-2.true) in
+          other_end c.args.text.now l n t count (some_bytes (length n) (ap not (sym w.is_empty.ensures) ∙ sym w.value-is ∙ c.if-not-is_empty.true)) (apart _ _ told)
       | else-text-name-2 w ↦ absurd (w.if-text-name-2.false (eqb-true _ _ (sym w.value-is ∙ c.if-not-is_empty.true)))
     ]
