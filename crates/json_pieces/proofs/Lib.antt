@@ -1,6 +1,7 @@
 pub mod Levels
 pub mod Lists
 pub mod Sizes
+pub mod Shorter
 pub mod Naming
 pub mod Marks
 pub mod Places
