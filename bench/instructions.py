@@ -10,12 +10,10 @@ import json
 import re
 import subprocess
 import tempfile
-from pathlib import Path
 
+import from_c
 import workloads
 
-HERE = Path(__file__).resolve().parent
-PREFIX = HERE.parent / "c/out"
 ROWS = 14_500
 COMPACT, SPACED, INDENTED = {"separators": (",", ":")}, {}, {"indent": 2}
 
@@ -50,9 +48,7 @@ def instructions(program, mode, times, given):
 
 def main():
     with tempfile.TemporaryDirectory() as folder:
-        program = Path(folder) / "c_calls"
-        library = PREFIX / "lib/libjson_patch.a"
-        subprocess.run(["cc", "-O2", f"-I{PREFIX}/include", "-o", program, HERE / "c_calls.c", library], check=True)
+        program = from_c.compiled(folder)
         for name, mode, document, style, patch in calls():
             text = json.dumps(document, **style)
             given = f"[{text},{json.dumps(patch)}]"
