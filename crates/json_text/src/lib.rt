@@ -36,5 +36,5 @@ pub use fault::{ChangeFault, TextFault};
 pub use growing::quoted;
 pub use listing::{Shape, child_texts};
 pub use reading::{is_deeper, value_text};
-pub use strings::string_of;
+pub use strings::{plain_string, string_of};
 pub use style::{colons_like, whitespace_like};

@@ -10,8 +10,14 @@ use crate::{Shape, is_name_text};
 use json::{Scratch, Value};
 use std::alloc::{AllocError, Global};
 
-/// What stands between the quotes, if it has no escape in it.
-fn plain(text: &str) -> Option<&str>
+/// The string that a text says, where it stands between the quotes as it is: with no escape in it, and no
+/// whitespace around. `None` says nothing. The text is to be JSON.
+///
+/// ```rust
+/// let name = plain_string(r#""café""#);
+/// // Some("café")
+/// ```
+pub fn plain_string(text: &str) -> Option<&str>
     ensures { IfSome result (λ said. (j : Json) → Says text.now j → Some said.now ≡ as_str j) }
 {
     let said = text.strip_prefix('"')?.strip_suffix('"')?;
@@ -56,7 +62,7 @@ pub fn string_of(alloc: Global, text: &str) -> Result<Option<String>, AllocError
     if !matches!(Shape::of(text), Shape::String) {
         return Ok(None);
     }
-    match plain(text) {
+    match plain_string(text) {
         Some(said) => Ok(Some(String::from_str(alloc, said)?)),
         None => read(alloc, text),
     }

@@ -1,7 +1,7 @@
 use Rattle.std.proofs.Common.{Some, arith}
 use Rattle.std.proofs.lemmas.Str.Pattern.{strip_prefix_char, strip_suffix_char}
 use Rattle.json_text.proofs.Said.{between_quotes}
-use Rattle.json_text.proofs.strings.plain.Goals as goal
+use Rattle.json_text.proofs.strings.plain_string.Goals as goal
 
 pub returns-then-is_name_text : goal.returns-then-is_name_text
 returns-then-is_name_text c =
