@@ -1,5 +1,5 @@
 -- The limits that a struct of words says.
-use Rattle.std.specs.Prelude.{ℕ, ◌^◌, eqb, cond, List, Option, Some, None, Result, Ok, Err, slice_index_or}
+use Rattle.std.specs.Prelude.{ℕ, eqb, cond, List, Option, Some, None, Result, Ok, Err, slice_index_or}
 use Rattle.json_patch_bytes.specs.Bounds.{the_limits, within_most}
 use Rattle.json_patch_c.specs.Given.{Given}
 use Rattle.json_patch_c.specs.declared.given.CallLimits.{CallLimits}

@@ -3,7 +3,7 @@
 
 ghost use Rattle.std.specs.Prelude.{◌≡◌, ◌≤◌, IfOk, Option, option_map, slice_index_or};
 ghost use Rattle.json_patch_c.specs.Given.{Given, readable, word_count};
-ghost use Rattle.json_patch_c.specs.Limits.{limits_of, most_said, named_limits, the_call_limits};
+ghost use Rattle.json_patch_c.specs.Limits.{limits_of, most_said, named_limits};
 
 use json_patch::Limits;
 use json_patch_bytes::bounds::{default_limits, within_most};

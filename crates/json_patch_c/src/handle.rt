@@ -8,7 +8,7 @@ ghost use Rattle.json_patch_c.specs.Reasons.{of_memory};
 ghost use Rattle.json_patch_c.specs.Reports.{IsBadLimits, IsTextWritten, IsTold, Tells};
 ghost use Rattle.json_patch_c.specs.States.{kept_in, limits_in};
 ghost use Rattle.json_patch_c.specs.Updates.{IsWayBack};
-ghost use Rattle.json_patch_c.specs.declared.status.TheConstants.{BAD_LIMITS, CLOSED, NOTHING, NO_MEMORY, NO_POINTER, NO_ROOM, OK, OVER, REFUSED};
+ghost use Rattle.json_patch_c.specs.declared.status.TheConstants.{BAD_LIMITS, CLOSED, NOTHING, NO_MEMORY, NO_POINTER, OK, OVER, REFUSED};
 ghost use Rattle.json_patch_text_bytes.specs.Reasons.{of_kept, of_merge, of_patch, of_record, of_text, of_two};
 ghost use Rattle.json_patch_text_bytes.specs.Texts.{HasAtMost, IsDifference, IsJsonText, IsMergedInto, IsNothingAt, IsPatched, IsRecordedIn, IsValueAt};
 

@@ -1,6 +1,6 @@
 //! What stands behind a document's handle.
 
-ghost use Rattle.std.specs.Prelude.{◌≡◌, ◌≤◌, IfErr, IfOk, IfSome, string_bytes};
+ghost use Rattle.std.specs.Prelude.{◌≡◌, ◌≤◌, IfErr, IfOk, string_bytes};
 ghost use Rattle.json_patch_bytes.specs.Failures.{IsFailure};
 ghost use Rattle.json_patch_c.specs.Reasons.{of_memory};
 ghost use Rattle.json_patch_c.specs.Updates.{IsWayBack};

@@ -14,6 +14,7 @@ use Rattle.json_patch_operation.specs.PatchValue.{all_fields, HasMembers, ReadsO
 use Rattle.json_patch_operation.specs.declared.read_error.ReadKind.{ReadKind}
 use Rattle.json_patch_operation.proofs.PatchValues.{read_is, read_or_refused}
 use Rattle.json_patch_text.specs.Operations.{TreeOperation, add, remove, replace, move, copy, test, under, all_under, tree_fields, HasFields, ReadsTrees, ReadsTreePatch, SaysOperations}
+use Rattle.json_patch_text.specs.Outline.{name_asked}
 use Rattle.json_patch_text.proofs.Alike.{Alike, refuses_alike}
 use Rattle.json_patch_text.proofs.Runs.{whole}
 use Rattle.json_reading.specs.Reading.{Reading}
@@ -123,10 +124,10 @@ object_under r s (object ms) h = (_, refl)
 alike : (r s : Reading) (v : Json) → Alike (data_of r v) (data_of s v)
 alike r s v = record {
   object = object_under r s v;
-  none = λ k e. at_name s k v ∙ ap (option_map (data_of s)) (none_back r k v e);
-  text = λ k t e. there s k v (string t) (text_back r k v t e);
-  other = λ k h. let (w, at, is) = back r k v h.0 h.1 in (data_of s w, there s k v w at, λ t f. h.2 t (sym is ∙ ap (data_of r) (string_back s w t f)));
-  whole = λ k d e. let (w, at, is) = back r k v d e in subst IsDocument is (IsDocument-data_of r w);
+  none = λ a e. at_name s (name_asked a) v ∙ ap (option_map (data_of s)) (none_back r (name_asked a) v e);
+  text = λ a t e. there s (name_asked a) v (string t) (text_back r (name_asked a) v t e);
+  other = λ a h. let (w, at, is) = back r (name_asked a) v h.0 h.1 in (data_of s w, there s (name_asked a) v w at, λ t f. h.2 t (sym is ∙ ap (data_of r) (string_back s w t f)));
+  whole = λ a d e. let (w, at, is) = back r (name_asked a) v d e in subst IsDocument is (IsDocument-data_of r w);
 }
 
 refuses_under : (r s : Reading) (v : Json) (kind : ReadKind) → RefusesOperation (data_of r v) kind → RefusesOperation (data_of s v) kind

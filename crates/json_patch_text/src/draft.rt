@@ -109,8 +109,11 @@ impl WholeText<'_> {
     }
 }
 
-/// So many operations are made on the whole text, if none of them adds.
+/// So many operations are made on the whole text, if none of them adds or the text is small.
 const FEW: usize = 3;
+
+/// A text of at most so many bytes is small: to pass over it takes less than to open what is on the way.
+const SMALL: usize = 256;
 
 /// The text that operations work on.
 #[derive(Drop)]
@@ -153,12 +156,16 @@ impl<'a> Draft<'a> {
         ensures draft { IsDraft result }
         ensures text { draft_text result ≡ text_in text.entry }
     {
-        let few = if has_addition(operations) {
-            operations.len() == 1 && !kept
+        let most = if !has_addition(operations) {
+            FEW
+        } else if kept {
+            0
+        } else if text.as_str().len() <= SMALL {
+            FEW
         } else {
-            operations.len() <= FEW
+            1
         };
-        if few {
+        if operations.len() <= most {
             Draft::Whole(WholeText::Kept(text))
         } else {
             Draft::Pieces(Pieces::new(text))

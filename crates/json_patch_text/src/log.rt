@@ -1,12 +1,12 @@
 //! What takes back the operations of a run.
 
-ghost use Rattle.std.specs.Prelude.{◌≡◌, [], ◌∷◌, ◌++◌, IfOk, List, Some, true, map};
+ghost use Rattle.std.specs.Prelude.{◌≡◌, [], ◌∷◌, IfOk, Some, map};
 ghost use Rattle.std.specs.String.{string_bytes};
 ghost use Rattle.json.specs.Json.{Json};
 ghost use Rattle.json_lexemes.specs.Spelled.{IsShallowText, Says};
 ghost use Rattle.json_patch_text.specs.Drafts.{IsDraft, KeepsDraft, draft_text};
 ghost use Rattle.json_patch_text.specs.Logs.{AreLogged, HasLog, Logs, comma_before};
-ghost use Rattle.json_patch_text.specs.Undos.{TakesBack, backward_text, undo_text};
+ghost use Rattle.json_patch_text.specs.Undos.{TakesBack, backward_text};
 ghost use Rattle.json_text.specs.Pointed.{tree_at};
 ghost use Rattle.jsonptr.specs.Pointers.{tokens_of};
 

@@ -1,6 +1,6 @@
 //! A JSON text patched, and the text of a patch that leads back (RFC 6902).
 
-ghost use Rattle.std.specs.Prelude.{◌≡◌, ◌≤◌, ◌+◌, IfErr, IfOk, IfSome, List};
+ghost use Rattle.std.specs.Prelude.{◌≡◌, ◌≤◌, ◌+◌, IfErr, IfOk, IfSome};
 ghost use Rattle.std.specs.String.{string_bytes};
 ghost use Rattle.json.specs.Json.{max_depth};
 ghost use Rattle.json_lexemes.specs.Skipped.{nesting};

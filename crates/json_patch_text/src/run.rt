@@ -23,7 +23,7 @@ use json::MAX_DEPTH;
 use json_patch_limits::limits::LimitError;
 use json_patch_operation::PatchError;
 use json_text::CheckedText;
-use std::alloc::{AllocError, Global};
+use std::alloc::Global;
 
 /// The fault of a run in which the operation of this number was the first that wasn't made.
 fn reported(

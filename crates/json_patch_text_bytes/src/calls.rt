@@ -21,7 +21,6 @@ use json_diff_text::{
 use json_merge_text::merge_text_within;
 use json_patch::{LimitError, LimitKind, Limits};
 use json_patch_bytes::failure::Failure;
-use json_patch_bytes::kinds::NOT_JSON;
 use json_patch_text::{Recorded, check_patch, patch_text_within, record_text_within};
 use jsonptr::Pointer;
 use simdutf8::compat::from_utf8;

@@ -1,6 +1,6 @@
 //! What is made of a text that is kept.
 
-ghost use Rattle.std.specs.Prelude.{◌≡◌, ◌≤◌, IfErr, IfOk, None, OnErr, OnOk, Some, false, option_map, string_bytes};
+ghost use Rattle.std.specs.Prelude.{◌≡◌, ◌≤◌, IfErr, IfOk, None, OnErr, OnOk, Some, false, string_bytes};
 ghost use Rattle.json_kept_text.specs.Kept.{opened};
 ghost use Rattle.json_patch_bytes.specs.Failures.{IsFailure};
 ghost use Rattle.json_patch_text_bytes.specs.Failures.{IsKeptLookupFault};

@@ -5,8 +5,8 @@ use crate::rows::told;
 use crate::{differences, keeps, merges, patches, records};
 use json_pieces::{Pieces, Taken};
 use json_text::{
-    ChangeFault, CheckedText, TextFault, add, child_texts, is_deeper, remove, replace, string_of,
-    value_text,
+    ChangeFault, CheckedText, TextFault, add, child_texts, is_deeper, plain_string, remove,
+    replace, string_of, value_text,
 };
 use jsonptr::Pointer;
 use std::alloc::{AllocError, Global};
@@ -21,6 +21,7 @@ pub(crate) fn answer(alloc: Global, call: &str, place: Pointer) -> Result<String
         "is_deeper" => told(alloc, found(alloc, array_in_object().then_some("yes"))),
         "child_texts" => told(alloc, texts_in_object(alloc)),
         "string_of" => told(alloc, name_in_text(alloc)),
+        "plain_string" => told(alloc, plain_name(alloc)),
         "patch_text" | "patch_text_within" | "patch_pieces" => patches::shown(alloc, call),
         "record_text" | "record_text_within" => records::shown(alloc, call),
         "merge_text" | "merge_text_within" => merges::shown(alloc, call),
@@ -91,6 +92,11 @@ fn texts_in_object(alloc: Global) -> Result<String, AllocError> {
 fn name_in_text(alloc: Global) -> Result<String, AllocError> {
     let name = string_of(alloc, r#""caf\u00e9""#)?;
     found(alloc, name.as_ref().map(|name| name.as_str()))
+}
+
+fn plain_name(alloc: Global) -> Result<String, AllocError> {
+    let name = plain_string(r#""café""#);
+    found(alloc, name)
 }
 
 // ---- of a checked text

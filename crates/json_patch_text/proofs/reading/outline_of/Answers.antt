@@ -1,16 +1,16 @@
-use Rattle.std.proofs.Common.{◌∙◌, ap, arith, option_map, string_bytes, sym, rules}
-use Rattle.std.proofs.lemmas.List.{drop_all}
-use Rattle.serde_json.proofs.Views.{members_view-insert_entry}
-use Rattle.serde_json.specs.View.{view, members_view}
-use Rattle.json_patch_text.proofs.Outlines.{member_seen, all_seen}
+use Rattle.std.proofs.Common.{◌∙◌, ap, codes, option_map, rules, sym}
+use Rattle.json.specs.Find.{get}
+use Rattle.serde_json.specs.View.{members_view}
+use Rattle.json_patch_text.specs.Outline.{its_from, its_op, its_path, its_value, outline, put_if}
+use Rattle.json_patch_text.proofs.Outlines.{all_put}
+use Rattle.json_patch_text.proofs.reading.outline_of.Goals.{in-Object, in_default}
 use Rattle.json_patch_text.proofs.reading.outline_of.Goals as goal
 
-pub loop-member-preserved : goal.loop-member-preserved
-loop-member-preserved c = λ j h.
-    member_seen c.args.text.now j c.deref-member-items.result.now c.loop-member.member-index _ (members_view c.loop-member.members.entries) (members_view c.insert.new.self.entries) c.loop-member.value c.latest-value.result (string_bytes c.in-Some.name) (view c.in_ok-outlined.field-0) c.eq.result
-    (c.loop-member.invariant j h) (omega (arith, c.loop-member-test.true)) (λ w says. ap (option_map string_bytes) (sym c.in-Some.is) ∙ c.in_ok-name.ensures w says) c.in_ok-outlined.ensures
-    (ap members_view c.in_ok-insert.ensures.entries ∙ members_view-insert_entry c.loop-member.members.entries c.in-Some.name c.in_ok-outlined.field-0) (search (rules, c.eq.ensures, c.as_str.ensures.value)) c.latest-value.ensures
-
 pub returns : goal.returns
-returns c = λ j h.
-    all_seen c.args.text.now j c.loop-member.members c.loop-member.value _ (c.loop-member.invariant j h) (drop_all c.loop-member.member-index c.deref-member-items.result.now (omega (arith, c.loop-member-test.false)))
+returns c = λ j says f. elim c.match-matches.branch [
+  | in-Object w ↦
+      all_put j c.put_outlined-4.new.members (members_view c.put_outlined.new.members.entries) (members_view c.put_outlined-2.new.members.entries) (members_view c.put_outlined-3.new.members.entries) (sym (c.of.ensures j says.0) ∙ w.in-Object.is)
+      (c.in_ok-put_outlined.ensures c.args.text.now j (f its_op) ∙ ap (λ e. put_if (codes "op") (option_map outline (get (codes "op") j)) (members_view e)) c.new-members.ensures.empty)
+      (c.in_ok-put_outlined-2.ensures c.args.text.now j (f its_from)) (c.in_ok-put_outlined-3.ensures c.args.text.now j (f its_path)) (c.in_ok-put_outlined-4.ensures c.args.text.now j (f its_value))
+  | in_default w ↦ absurd (search rules)
+]
