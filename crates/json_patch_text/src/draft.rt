@@ -113,7 +113,7 @@ impl WholeText<'_> {
 const FEW: usize = 3;
 
 /// A text of at most so many bytes is small: to pass over it takes less than to open what is on the way.
-const SMALL: usize = 256;
+const SMALL: usize = 512;
 
 /// The text that operations work on.
 #[derive(Drop)]
