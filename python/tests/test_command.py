@@ -408,6 +408,8 @@ class Command(unittest.TestCase):
         self.assertDoes(lines, f"{128 + signal.SIGPIPE}\n")
 
     def test_interrupts(self):
+        # a shell's background jobs ignore it, and hand that on
+        self.addCleanup(signal.signal, signal.SIGINT, signal.signal(signal.SIGINT, signal.default_int_handler))
         fifo = self.folder / "fifo"
         os.mkfifo(fifo)
         for number in (signal.SIGINT, signal.SIGTERM):
