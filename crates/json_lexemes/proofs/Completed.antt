@@ -1,16 +1,19 @@
 -- A check of a text against the grammar, a lexeme at a time.
-use Rattle.std.proofs.Common.{◌≡◌, ℕ, zero, suc, ◌+◌, ◌-◌, ◌<◌, ◌≤◌, Bool, true, false, cond, List, ◌∷◌, ◌++◌, length, drop, get_or, set, inl, inr, ◌⊎◌, ◌==◌, refl, sym, ap, ap₂, ◌∙◌, subst, arith, append_assoc}
+use Rattle.std.proofs.Common.{◌≡◌, ℕ, zero, suc, ◌+◌, ◌-◌, ◌<◌, ◌≤◌, Bool, true, false, cond, List, [], ◌∷◌, ◌++◌, length, drop, get_or, set, inl, inr, ◌⊎◌, ◌==◌, refl, sym, ap, ap₂, ◌∙◌, subst, arith, append_assoc}
 use Rattle.std.specs.Prelude.{Option, Some, None, IfSome, nat_lt}
 use Rattle.std.proofs.lemmas.Bool.{false≢true, cases_lt, lt-ltb, le-ltb}
 use Rattle.std.proofs.lemmas.List.{get_or-set_other, get_or-set_same}
 use Rattle.json.specs.Json.{array, object, no_items, item, no_members, member}
 use Rattle.json.specs.Token as tokens
-use Rattle.json.specs.Lex.{Lexeme, token, comma, colon, in_string, lex, operator_lexeme}
+use Rattle.json.specs.Lex.{Lexeme, token, comma, colon, between, in_string, lex, operator_lexeme}
 use Rattle.json.specs.Word.{is_operator}
-use Rattle.json_lexemes.specs.Places.{left_at}
+use Rattle.json_lexemes.specs.Places.{left_at, mode_at, IsEnd}
+use Rattle.json_lexemes.specs.Followed.{IsBehindBracket, IsBehindComma}
 use Rattle.json_lexemes.specs.Spelled.{spelled, more_elements, more_members}
 use Rattle.json_lexemes.specs.Grammar.{HasContent, Spells, Named, Opens, Continues, opening, closing, Completes, Begins, innermost}
-use Rattle.json_lexemes.proofs.Steps.{operator_left}
+use Rattle.json_lexemes.proofs.Steps.{each_operator, operator_left, operator_end}
+use Rattle.json_lexemes.specs.Blocks.{is_closing}
+use Rattle.json_lexemes.proofs.FirstBytes.{kind}
 use Rattle.json_lexemes.proofs.Ended.{here, string_spells}
 
 -- ---- what has been passed, put before what is left
@@ -90,6 +93,30 @@ byte_left t i j x l n e o f same = let h = here t j x n e in sym same ∙ operat
 
 pub no_whitespace : (x : ℕ) → is_operator x ≡ true → 32 ≡ x → ⊥
 no_whitespace x o e = false≢true (ap is_operator e ∙ o)
+
+pub past_operator : (t : List ℕ) (from i x : ℕ) → (32 ≡ x → ⊥) → get_or t i 32 ≡ x → is_operator x ≡ true → (IsEnd t from → IsEnd t i) → IsEnd t from → mode_at t (i + 1) ≡ between
+past_operator t from i x n e o f s = let h = here t i x n e in operator_end t i h.0 (ap is_operator h.1 ∙ o) (f s)
+
+pub behind_comma : (t : List ℕ) (i k : ℕ) → k ≡ i + 1 → get_or t i 0 ≡ 44 → mode_at t (i + 1) ≡ between → IsBehindComma t k
+behind_comma t i k e c m =
+    let before : k - 1 ≡ i = omega (arith, e) in
+    record { comma = ap (λ j. get_or t j 0) before ∙ c; begins = ap (mode_at t) e ∙ m }
+
+closes_by : (o : Bool) (x : ℕ) → is_operator x ≡ true → operator_lexeme x ≡ closing o → is_closing x ≡ true
+closes_by true x h e = each_operator (λ y. kind (operator_lexeme y ∷ []) ≡ 125 → is_closing y ≡ true) (λ z. absurd (omega (arith, z))) (λ z. refl) (λ z. absurd (omega (arith, z))) (λ z. absurd (omega (arith, z))) (λ z. absurd (omega (arith, z))) (λ z. absurd (omega (arith, z))) x h (ap (λ l. kind (l ∷ [])) e)
+closes_by false x h e = each_operator (λ y. kind (operator_lexeme y ∷ []) ≡ 93 → is_closing y ≡ true) (λ z. absurd (omega (arith, z))) (λ z. absurd (omega (arith, z))) (λ z. absurd (omega (arith, z))) (λ z. refl) (λ z. absurd (omega (arith, z))) (λ z. absurd (omega (arith, z))) x h (ap (λ l. kind (l ∷ [])) e)
+
+pub behind_bracket : (t : List ℕ) (i x : ℕ) (o : Bool) → get_or t i 0 ≡ x → operator_lexeme x ≡ closing o → is_operator x ≡ true → mode_at t (i + 1) ≡ between → IsBehindBracket t (i + 1)
+behind_bracket t i x o c l h m =
+    let before : i + 1 - 1 ≡ i = omega arith in
+    record { bracket = ap is_closing (ap (λ j. get_or t j 0) before ∙ c) ∙ closes_by o x h l; begins = m }
+
+pub bracket_ends : (t : List ℕ) (i c : ℕ) → Bracket t i c → IsEnd t i → mode_at t (i + 1) ≡ between
+bracket_ends t i c b = by_byte b.either
+  where
+    by_byte : (get_or t i 0 ≡ 123) ⊎ (get_or t i 0 ≡ 91) → IsEnd t i → mode_at t (i + 1) ≡ between
+    by_byte (inl e) = operator_end t i b.here (ap is_operator e)
+    by_byte (inr e) = operator_end t i b.here (ap is_operator e)
 
 pub empty_whole : (t : List ℕ) (room : Bool) (i k c x : ℕ) → room ≡ true → Bracket t i c → left_at t k ≡ left_at t (i + 1) → get_or t k 32 ≡ x → operator_lexeme x ≡ closing (c == 123) → is_operator x ≡ true
     → Spells t (cond room 1 0) i (k + 1)

@@ -29,7 +29,7 @@ pub not_this : (c x : ℕ) (t : Bool) → (t ≡ true → x ≡ c) → is_digit 
 not_this c x false e never h = refl
 not_this c x true e never h = absurd (false≢true (sym never ∙ ap (λ y. is_digit y 16) (sym (e refl)) ∙ h))
 
-hex_mode : (x : ℕ) → is_digit x 16 ≡ true → next_mode in_string (class x) ≡ in_string
+pub hex_mode : (x : ℕ) → is_digit x 16 ≡ true → next_mode in_string (class x) ≡ in_string
 hex_mode x h = plain_mode x (not_this 34 x (x == 34) (eqb-true x 34) refl h) (not_this 92 x (x == 92) (eqb-true x 92) refl h)
 
 hex_after : (x : ℕ) (xs : List ℕ) → is_digit x 16 ≡ true → after in_string (x ∷ xs) ≡ after in_string xs

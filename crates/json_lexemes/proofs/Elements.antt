@@ -1,11 +1,13 @@
 -- The elements of an array, from one to the next.
-use Rattle.std.proofs.Common.{◌≡◌, ℕ, zero, suc, ◌-◌, ◌<◌, false, List, [], ◌∷◌, ◌++◌, length, get_or, refl, sym, ap, ◌∙◌, arith, append_assoc}
+use Rattle.std.proofs.Common.{◌≡◌, ℕ, zero, suc, ◌+◌, ◌-◌, ◌<◌, ◌≤◌, false, List, [], ◌∷◌, ◌++◌, length, get_or, None, refl, sym, ap, ◌∙◌, arith, append_assoc}
 use Rattle.std.proofs.lemmas.List.{get_or_default}
 use Rattle.json.specs.Json.{Json, null, boolean, number, string, array, object, Items, no_items, item}
 use Rattle.json.specs.Word.{is_space}
 use Rattle.json.specs.Token.{end_array}
 use Rattle.json.specs.Lex.{Lexeme, token, comma}
-use Rattle.json_lexemes.specs.Found.{ReachesNumbered, numbered}
+use Rattle.json_lexemes.specs.Found.{AreAhead, ReachesNumbered, later, numbered}
+use Rattle.json_lexemes.specs.Signposts.{IsStep}
+use Rattle.json_lexemes.specs.declared.signposts.Step.{Step}
 use Rattle.json_lexemes.specs.Places.{left_at}
 use Rattle.json_lexemes.specs.Skipped.{skip}
 use Rattle.json_lexemes.specs.Spelled.{spelled, first_elements, more_elements}
@@ -26,10 +28,6 @@ no_end (number s) ls e = absurd (omega (arith, e))
 no_end (string s) ls e = absurd (omega (arith, e))
 no_end (array js) ls e = absurd (omega (arith, e))
 no_end (object ms) ls e = absurd (omega (arith, e))
-
--- of the elements js those of rest are still ahead at i, and the one of number n is there that of number m
-abbrev pub AreAhead : List ℕ → ℕ → Items → List Lexeme → ℕ → ℕ → Type 0
-AreAhead t n js ls i m = (rest : Items) × (left_at t i ≡ first_elements rest ++ ls) × (numbered n js ≡ numbered m rest)
 
 -- at the bracket there is no element
 pub none_ahead : (t : List ℕ) (n : ℕ) (js : Items) (ls : List Lexeme) (i m e : ℕ) → i < length t → get_or t i 32 ≡ 93 → ((xs : List Lexeme) → left_at t i ≡ token end_array ∷ xs → left_at t e ≡ xs) → AreAhead t n js ls i m → ReachesNumbered t (End e) n js ls
@@ -56,6 +54,24 @@ has_element t n js ls i m w z (rest, at, is) = by_rest rest at is
 
 pub element_here : (t : List ℕ) (n : ℕ) (js : Items) (ls : List Lexeme) (i m : ℕ) → m ≡ 0 → HasElement t n js ls i m → ReachesNumbered t (Value i) n js ls
 element_here t n js ls i m z h = (h.value, h.more, h.is ∙ ap (λ k. numbered k (item h.value h.more)) z, h.left)
+
+none_numbered : (m : ℕ) → numbered m no_items ≡ None
+none_numbered zero = refl
+none_numbered (suc m) = refl
+
+numbered_later : (n m : ℕ) (js : Items) → numbered (n + m) js ≡ numbered m (later n js)
+numbered_later zero m js = let same : 0 + m ≡ m = omega arith in ap (λ k. numbered k js) same
+numbered_later (suc n) m no_items = let same : numbered m no_items ≡ None = none_numbered m in none_numbered (suc n + m) ∙ sym same
+numbered_later (suc n) m (item j js) = let same : suc n + m ≡ suc (n + m) = omega arith in ap (λ k. numbered k (item j js)) same ∙ numbered_later n m js
+
+-- from a place that is known, in an array that isn't empty
+pub from_step : (t : List ℕ) (s : Step) (start n i k : ℕ) → (i < length t → is_space (get_or t i 0) ≡ false) → (get_or t i 32 ≡ 93 → ⊥) → left_at t i ≡ left_at t (start + 1) → get_or t start 0 ≡ 91
+    → (s.array ≡ start) × (s.number ≤ n) × IsStep t s → left_at t k ≡ left_at t s.place → (js : Items) (ls : List Lexeme) → left_at t (start + 1) ≡ first_elements js ++ ls → AreAhead t n js ls k (n - s.number)
+from_step t s start n i k w z a q f b no_items ls e = let c = byte_by_kind t i 93 w (ap kind (a ∙ e)) (λ x. absurd (omega (arith, x))) in absurd (z (get_or_default t i 32 0 c.0 ∙ c.1))
+from_step t s start n i k w z a q f b (item j js) ls e =
+    let at = f.2.ahead (ap (λ m. get_or t m 0) f.0 ∙ q) j js ls (ap (λ m. left_at t (m + 1)) f.0 ∙ e) in
+    let same : s.number + (n - s.number) ≡ n = omega (arith, f.1) in
+    (later s.number (item j js), b ∙ at, sym (ap (λ m. numbered m (item j js)) same) ∙ numbered_later s.number (n - s.number) (item j js))
 
 next_is : (m : ℕ) (j : Json) (js : Items) → (m ≡ 0 → ⊥) → numbered m (item j js) ≡ numbered (m - 1) js
 next_is zero j js n = absurd (n refl)

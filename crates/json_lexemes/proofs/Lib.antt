@@ -24,3 +24,6 @@ pub mod Ended
 pub mod Completed
 pub mod Wide
 mod Seen
+mod Strings
+mod Numbers
+mod Following

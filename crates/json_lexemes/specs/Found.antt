@@ -4,7 +4,7 @@ use Rattle.std.specs.Str.{bytes_eq, IsUtf8, IsCharBoundary}
 use Rattle.json.specs.Json.{Json, Items, no_items, item, Members, no_members, member}
 use Rattle.json.specs.Lex.{Lexeme, between}
 use Rattle.json.specs.Word.{is_space}
-use Rattle.json_lexemes.specs.Spelled.{spelled, more_elements, more_members}
+use Rattle.json_lexemes.specs.Spelled.{spelled, first_elements, more_elements, more_members}
 use Rattle.json_lexemes.specs.Places.{mode_at, left_at, IsEnd, HasEnd}
 use Rattle.json_lexemes.specs.declared.span.Span.{Span}
 use Rattle.json_lexemes.specs.declared.span.Next.{Next}
@@ -28,6 +28,12 @@ abbrev pub numbered : ℕ → Items → Option Placed
 numbered n no_items = None
 numbered zero (item j js) = Some (j, more_elements js)
 numbered (suc n) (item j js) = numbered n js
+
+-- the elements behind the first so many
+abbrev pub later : ℕ → Items → Items
+later zero js = js
+later (suc n) no_items = no_items
+later (suc n) (item j js) = later n js
 
 -- in the place found, if any, the value stands, if any
 abbrev pub Stands : List ℕ → Option Span → Option Placed → Type 0
@@ -70,3 +76,7 @@ ReachesNamed t (End i) k ms ls = (named k ms ≡ None) × (left_at t i ≡ ls)
 abbrev pub ReachesNumbered : List ℕ → Next → ℕ → Items → List Lexeme → Type 0
 ReachesNumbered t (Value i) n js ls = (j : Json) × (more : Items) × (numbered n js ≡ Some (j, more_elements more)) × (left_at t i ≡ spelled j ++ (more_elements more ++ ls))
 ReachesNumbered t (End i) n js ls = (numbered n js ≡ None) × (left_at t i ≡ ls)
+
+-- of the elements js those of rest are still ahead at i, and the one of number n is there that of number m
+abbrev pub AreAhead : List ℕ → ℕ → Items → List Lexeme → ℕ → ℕ → Type 0
+AreAhead t n js ls i m = (rest : Items) × (left_at t i ≡ first_elements rest ++ ls) × (numbered n js ≡ numbered m rest)

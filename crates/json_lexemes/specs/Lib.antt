@@ -4,5 +4,7 @@ pub mod Places
 pub mod Runs
 pub mod Spelled
 pub mod Found
+pub mod Signposts
+pub mod Followed
 pub mod Grammar
 pub mod Blocks

@@ -1,16 +1,19 @@
 //! A check of a whole text against the grammar of JSON, in one pass, with no recursion and no memory taken.
 
-ghost use Rattle.std.specs.Prelude.{◌≡◌, ◌<◌, ◌≤◌, ◌+◌, ◌-◌, ◌∷◌, ℕ, IsTrue, [], cond, true, false, length, IfNone, IfSome};
+ghost use Rattle.std.specs.Prelude.{◌≡◌, ◌<◌, ◌≤◌, ◌+◌, ◌-◌, ◌∷◌, ℕ, IsTrue, [], cond, true, false, length, get_or, IfNone, IfSome};
 ghost use Rattle.json.specs.Json.{Json};
 ghost use Rattle.json.specs.Lex.{operator_lexeme};
 ghost use Rattle.json.specs.Word.{is_operator};
 ghost use Rattle.json.specs.Tree.{depth};
-ghost use Rattle.json_lexemes.specs.Places.{left_at};
+ghost use Rattle.json_lexemes.specs.Places.{left_at, IsEnd};
 ghost use Rattle.json_lexemes.specs.Spelled.{Says};
+ghost use Rattle.json_lexemes.specs.Followed.{IsAhead, IsBehind, IsBehindBracket, IsBehindComma};
+ghost use Rattle.json_lexemes.specs.Signposts.{AreSignposts};
 ghost use Rattle.json_lexemes.specs.Grammar.{AreStops, Spells, Named, Opens, Continues, Completes, Begins, closing, innermost};
 
 use crate::leaves::{closed_string, leaf_end};
 use crate::lexemes::{behind_operator, behind_quote, next_byte, whitespace_end};
+use crate::signposts::Signposts;
 use crate::stops::Stops;
 
 /// The most objects and arrays that may be open at once.
@@ -23,6 +26,7 @@ fn named_value(text: &[u8], from: usize, stops: &mut Stops) -> Option<usize>
     requires stops { AreStops text.now stops.old.base stops.old.bits }
     ensures bounds { IfSome result (λ i. (from < i) × (i ≤ length text.now)) }
     ensures named { IfSome result (λ i. Named true (left_at text.now from) (left_at text.now i)) }
+    ensures end { IfSome result (λ i. IsEnd text.now from → IsEnd text.now i) }
     ensures stops { AreStops text.now stops.new.base stops.new.bits }
 {
     let inside = behind_quote(text, from)?;
@@ -37,6 +41,8 @@ fn value_in(text: &[u8], from: usize, object: bool, stops: &mut Stops) -> Option
     requires stops { AreStops text.now stops.old.base stops.old.bits }
     ensures bounds { IfSome result (λ i. (from ≤ i) × (i ≤ length text.now)) }
     ensures named { IfSome result (λ i. Named object (left_at text.now from) (left_at text.now i)) }
+    ensures end { IfSome result (λ i. IsEnd text.now from → IsEnd text.now i) }
+    ensures element { object ≡ false → IfSome result (λ i. i ≡ from) }
     ensures stops { AreStops text.now stops.new.base stops.new.bits }
 {
     if object {
@@ -55,22 +61,33 @@ fn closing(object: bool) -> u8
     if object { b'}' } else { b']' }
 }
 
+/// An object or an array that opens.
+#[derive(Clone, Copy, Drop)]
+struct Opened {
+    /// Its bracket.
+    start: usize,
+    object: bool,
+}
+
 /// The place after the value that is to come from `from` on, and `None`; or, if it is an object or an array that
-/// isn't empty, the place from which the first value in it is to come, and whether it is an object. `room` says
-/// whether one more may open.
+/// isn't empty, the place from which the first value in it is to come, and what opens. `room` says whether one more
+/// may open.
 #[inline(always)]
 fn past_begin(
     text: &[u8],
     from: usize,
     room: bool,
     stops: &mut Stops,
-) -> Option<(usize, Option<bool>)>
+) -> Option<(usize, Option<Opened>)>
     requires within { from ≤ length text.now }
     requires stops { AreStops text.now stops.old.base stops.old.bits }
     ensures bounds { IfSome result (λ r. (from < r.0) × (r.0 ≤ length text.now)) }
     ensures whole { IfSome result (λ r. IfNone r.1 (Spells text.now (cond room 1 0) from r.0)) }
-    ensures opens { IfSome result (λ r. IfSome r.1 (λ object. Opens text.now object from r.0)) }
-    ensures room { IfSome result (λ r. IfSome r.1 (λ object. room ≡ true)) }
+    ensures opens { IfSome result (λ r. IfSome r.1 (λ o. Opens text.now o.object from r.0)) }
+    ensures start { IfSome result (λ r. IfSome r.1 (λ o. (o.start < r.0)
+        × (left_at text.now o.start ≡ left_at text.now from))) }
+    ensures end { IfSome result (λ r. IsEnd text.now from → IsEnd text.now r.0) }
+    ensures room { IfSome result (λ r. IfSome r.1 (λ o. room ≡ true)) }
     ensures stops { AreStops text.now stops.new.base stops.new.bits }
 {
     let (start, c) = next_byte(text, from);
@@ -88,7 +105,7 @@ fn past_begin(
         return Some((inside + 1, None));
     }
     let place = value_in(text, inside, object, stops)?;
-    Some((place, Some(object)))
+    Some((place, Some(Opened { start, object })))
 }
 
 /// Behind a value in an object or an array: the place from which the next one is to come, and `true`, or that
@@ -101,6 +118,9 @@ fn past_value(text: &[u8], from: usize, object: bool, stops: &mut Stops) -> Opti
     ensures next { IfSome result (λ r. r.1 ≡ true → Continues text.now object from r.0) }
     ensures closes { IfSome result (λ r. r.1 ≡ false
         → left_at text.now from ≡ closing object ∷ left_at text.now r.0) }
+    ensures end { IfSome result (λ r. IsEnd text.now from → IsEnd text.now r.0) }
+    ensures comma { IfSome result (λ r. r.1 ≡ true → object ≡ false → IsEnd text.now from → IsBehindComma text.now r.0) }
+    ensures bracket { IfSome result (λ r. r.1 ≡ false → IsEnd text.now from → IsBehindBracket text.now r.0) }
     ensures stops { AreStops text.now stops.new.base stops.new.bits }
 {
     let (i, c) = next_byte(text, from);
@@ -115,6 +135,13 @@ fn past_value(text: &[u8], from: usize, object: bool, stops: &mut Stops) -> Opti
     }
 }
 
+/// What a check has seen on its way.
+#[derive(Drop)]
+struct Seen {
+    stops: Stops,
+    signposts: Signposts,
+}
+
 /// Behind a value: past the closing brackets and a comma, the place from which the next value is to come and how
 /// many brackets are open there; or the place where none is any more, and 0.
 #[inline(always)]
@@ -123,63 +150,89 @@ fn past_closing(
     from: usize,
     objects: &[bool],
     depth: usize,
-    stops: &mut Stops,
+    seen: &mut Seen,
 ) -> Option<(usize, usize)>
     requires within { from ≤ length text.now }
     requires fits { depth ≤ length objects.now }
-    requires stops { AreStops text.now stops.old.base stops.old.bits }
+    requires end { IsEnd text.now from }
+    requires behind { IsBehind text.now seen.old.signposts depth from }
+    requires stops { AreStops text.now seen.old.stops.base seen.old.stops.bits }
     ensures bounds { IfSome result (λ r. (from ≤ r.0) × (r.0 ≤ length text.now) × (r.1 ≤ depth)) }
     ensures next { IfSome result (λ r. (0 < r.1) → (from < r.0) × ((n : ℕ)
         → Begins (n + (depth - r.1)) (innermost objects.now r.1) (left_at text.now r.0)
         → Completes n (innermost objects.now depth) (left_at text.now from))) }
     ensures last { IfSome result (λ r. r.1 ≡ 0 → left_at text.now r.0 ≡ [] → (n : ℕ)
         → Completes n (innermost objects.now depth) (left_at text.now from)) }
-    ensures stops { AreStops text.now stops.new.base stops.new.bits }
+    ensures end { IfSome result (λ r. IsEnd text.now r.0) }
+    ensures ahead { IfSome result (λ r. 0 < r.1 → IsAhead text.now seen.new.signposts r.1 r.0) }
+    ensures signposts { IfSome result (λ r. AreSignposts text.now seen.new.signposts) }
+    ensures stops { AreStops text.now seen.new.stops.base seen.new.stops.bits }
 {
     let mut nested = depth;
     let mut i = from;
     while nested > 0 {
-        let (next, more) = past_value(text, i, objects[nested - 1], stops)?;
-        i = next;
+        let object = objects[nested - 1];
+        let (next, more) = past_value(text, i, object, &mut seen.stops)?;
         if more {
-            return Some((i, nested));
+            if object {
+                return Some((next, nested));
+            }
+            seen.signposts.go_on(next, nested);
+            return Some((next, nested));
         }
+        seen.signposts.leave(next, nested);
+        i = next;
         nested -= 1;
     }
     Some((i, nested))
 }
 
-/// Whether the text is JSON (RFC 8259), with no unpaired surrogate such as `"\ud800"`, and opens at most
+/// The places of a text that is JSON (RFC 8259), with no unpaired surrogate such as `"\ud800"`, and opens at most
 /// `levels` objects and arrays at once, 128 at the most: `[[1], 2]` is within 2 levels, and not within 1.
 ///
-/// `true` is proved to mean this; `false` isn't proved to mean the opposite. It is meant to come for a text
+/// An answer is proved to mean this; `None` isn't proved to mean the opposite. It is meant to come for a text
 /// that isn't JSON and for one that opens more, so a caller may ask a slower check before it refuses one.
 /// Whether the bytes are UTF-8 isn't looked at. One pass, and no memory is taken.
-pub fn is_json_within(text: &[u8], levels: usize) -> bool
-    ensures { IsTrue result → (j : Json) × Says text.now j × (depth j ≤ levels) }
+pub fn signposts_within(text: &[u8], levels: usize) -> Option<Signposts>
+    ensures says { IfSome result (λ _. (j : Json) × Says text.now j × (depth j ≤ levels)) }
+    ensures signposts { IfSome result (AreSignposts text.now) }
 {
     let most = if levels < MOST { levels } else { MOST };
     let mut objects = [false; MOST];
     let mut depth = 0;
-    let mut stops = Stops { base: 0, bits: 0 };
+    let stops = Stops { base: 0, bits: 0 };
+    let signposts = Signposts::new(text.len());
+    let mut seen = Seen { stops, signposts };
     let mut i = 0;
     loop {
-        let Some((next, opened)) = past_begin(text, i, depth < most, &mut stops) else {
-            return false;
+        let Some((next, opened)) = past_begin(text, i, depth < most, &mut seen.stops) else {
+            return None;
         };
-        if let Some(object) = opened {
-            objects[depth] = object;
+        if let Some(opened) = opened {
+            seen.signposts.enter(opened.start, depth);
+            objects[depth] = opened.object;
             depth += 1;
             i = next;
         } else {
-            let Some((place, nested)) = past_closing(text, next, &objects, depth, &mut stops) else {
-                return false;
+            let Some((place, nested)) = past_closing(text, next, &objects, depth, &mut seen) else {
+                return None;
             };
             if nested == 0 {
-                return whitespace_end(text, place) == text.len();
+                return if whitespace_end(text, place) == text.len() {
+                    Some(seen.signposts)
+                } else {
+                    None
+                };
             }
             i = place;
             depth = nested;
         }
     }
+}
+
+/// Whether [`signposts_within`] finds the text to be so.
+pub fn is_json_within(text: &[u8], levels: usize) -> bool
+    ensures { IsTrue result → (j : Json) × Says text.now j × (depth j ≤ levels) }
+{
+    signposts_within(text, levels).is_some()
 }

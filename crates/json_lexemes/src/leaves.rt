@@ -4,10 +4,10 @@
 ghost use Rattle.std.specs.Prelude.{◌≡◌, ◌<◌, ◌≤◌, ◌+◌, ◌∷◌, true, length, drop, get_or, IfSome};
 ghost use Rattle.std.specs.List.{prefix_len};
 ghost use Rattle.std.specs.Char.{is_ascii_digit};
-ghost use Rattle.json.specs.Lex.{in_string, lex};
+ghost use Rattle.json.specs.Lex.{between, in_string, lex};
 ghost use Rattle.json.specs.Run.{EndsAt};
 ghost use Rattle.json.specs.Word.{after_digits, after_minus, after_sign, after_whole, after_fraction, after_exponent, after_number, ends_word};
-ghost use Rattle.json_lexemes.specs.Places.{left_at};
+ghost use Rattle.json_lexemes.specs.Places.{left_at, mode_at, IsEnd};
 ghost use Rattle.json_lexemes.specs.Grammar.{is_no_digit, is_stop, AreStops, HasContent, IsFree, Spells};
 
 use crate::lexemes::{byte_at, is_operator, is_whitespace};
@@ -69,6 +69,7 @@ fn escaped_string(text: &[u8], from: usize) -> Option<usize>
     ensures bounds { IfSome result (λ i. (from < i) × (i ≤ length text.now)) }
     ensures left { IfSome result (λ i. lex in_string (drop from text.now) ≡ left_at text.now i) }
     ensures content { IfSome result (λ _. HasContent text.now from) }
+    ensures closes { IfSome result (λ i. mode_at text.now from ≡ in_string → mode_at text.now i ≡ between) }
 {
     let mut i = from;
     while byte_at(text, i) == b'\\' {
@@ -93,6 +94,7 @@ pub(crate) fn closed_string(text: &[u8], from: usize, stops: &mut Stops) -> Opti
     ensures bounds { IfSome result (λ i. (from < i) × (i ≤ length text.now)) }
     ensures left { IfSome result (λ i. lex in_string (drop from text.now) ≡ left_at text.now i) }
     ensures content { IfSome result (λ _. HasContent text.now from) }
+    ensures closes { IfSome result (λ i. mode_at text.now from ≡ in_string → mode_at text.now i ≡ between) }
     ensures stops { AreStops text.now stops.new.base stops.new.bits }
 {
     let (end, c) = stop_from(text, from, stops);
@@ -256,6 +258,7 @@ fn number_close(text: &[u8], from: usize) -> Option<usize>
     requires { from < length text.now }
     ensures bounds { IfSome result (λ i. (from < i) × (i ≤ length text.now)) }
     ensures spells { IfSome result (λ i. Spells text.now 0 from i) }
+    ensures end { IfSome result (λ i. IsEnd text.now from → IsEnd text.now i) }
 {
     let end = number_end(text, from)?;
     if_ended(text, end)
@@ -267,6 +270,7 @@ fn literal_close(text: &[u8], from: usize) -> Option<usize>
     requires { from < length text.now }
     ensures bounds { IfSome result (λ i. (from < i) × (i ≤ length text.now)) }
     ensures spells { IfSome result (λ i. Spells text.now 0 from i) }
+    ensures end { IfSome result (λ i. IsEnd text.now from → IsEnd text.now i) }
 {
     let c = text[from];
     if c == b't' && stand(text, from + 1, b'r', b'u', b'e') {
@@ -291,6 +295,7 @@ pub(crate) fn leaf_end(text: &[u8], from: usize, c: u8, stops: &mut Stops) -> Op
     requires stops { AreStops text.now stops.old.base stops.old.bits }
     ensures bounds { IfSome result (λ i. (from < i) × (i ≤ length text.now)) }
     ensures spells { IfSome result (λ i. Spells text.now 0 from i) }
+    ensures end { IfSome result (λ i. IsEnd text.now from → IsEnd text.now i) }
     ensures stops { AreStops text.now stops.new.base stops.new.bits }
 {
     if c == b'"' {

@@ -144,6 +144,7 @@ pub(crate) fn behind_operator(text: &[u8], from: usize, c: u8) -> Option<usize>
     ensures bounds { IfSome result (λ i. (from < i) × (i ≤ length text.now)) }
     ensures left { IfSome result (λ i.
         left_at text.now from ≡ operator_lexeme c ∷ left_at text.now i) }
+    ensures begins { IfSome result (λ i. IsEnd text.now from → mode_at text.now i ≡ between) }
 {
     // Mostly it stands here.
     if from < text.len() && text[from] == c {
@@ -164,6 +165,7 @@ pub(crate) fn behind_quote(text: &[u8], from: usize) -> Option<usize>
     ensures bounds { IfSome result (λ i. (from < i) × (i ≤ length text.now)) }
     ensures left { IfSome result (λ i. left_at text.now (i - 1) ≡ left_at text.now from) }
     ensures quote { IfSome result (λ i. get_or text.now (i - 1) 0 ≡ 34) }
+    ensures opens { IfSome result (λ i. IsEnd text.now from → mode_at text.now i ≡ in_string) }
 {
     // Mostly it stands here.
     if from < text.len() && text[from] == b'"' {
@@ -183,6 +185,7 @@ pub(crate) fn next_byte(text: &[u8], from: usize) -> (usize, u8)
     requires { from ≤ length text.now }
     ensures bounds { (from ≤ result.0) × (result.0 ≤ length text.now) }
     ensures left { left_at text.now result.0 ≡ left_at text.now from }
+    ensures end { IsEnd text.now from → IsEnd text.now result.0 }
     ensures value { result.1 ≡ get_or text.now result.0 32 }
     ensures within { result.1 ≢ 32 → result.0 < length text.now }
 {
@@ -318,7 +321,7 @@ fn lexeme_end(text: &[u8], from: usize) -> usize
 
 /// Whether this opens an object or an array.
 #[inline(always)]
-fn is_opening(c: u8) -> bool
+pub(crate) fn is_opening(c: u8) -> bool
     ensures { result ≡ is_opening c }
 {
     c == b'{' || c == b'['

@@ -4,6 +4,7 @@ ghost use Rattle.std.specs.Prelude.{◌≡◌, ◌<◌, ◌≤◌, ◌+◌, leng
 ghost use Rattle.std.specs.Bool.{Decides};
 ghost use Rattle.std.specs.Char.{encode_utf8, digit_value};
 ghost use Rattle.json.specs.Lex.{in_string, in_escape, lex};
+ghost use Rattle.json_lexemes.specs.Places.{mode_at};
 ghost use Rattle.json.specs.Text.{content, plain, after_backslash, after_u, after_high, code_unit, short_escape, prepend};
 
 /// The value of a digit or a letter, and 36 for any other byte.
@@ -68,6 +69,7 @@ fn second_half(text: &[u8], i: usize, high: u32) -> Option<(char, usize)>
         ≡ prepend (encode_utf8 r.0) (content plain (drop r.1 text.now))) }
     ensures passes { IfSome result (λ r. lex in_string (drop i text.now)
         ≡ lex in_string (drop r.1 text.now)) }
+    ensures mode { IfSome result (λ r. mode_at text.now i ≡ in_string → mode_at text.now r.1 ≡ in_string) }
     ensures bounds { IfSome result (λ r. (i < r.1) × (r.1 ≤ length text.now)) }
     ensures none { IfNone result (content (after_high high) (drop i text.now) ≡ None) }
 {
@@ -96,6 +98,7 @@ fn unicode(text: &[u8], i: usize) -> Option<(char, usize)>
         ≡ prepend (encode_utf8 r.0) (content plain (drop r.1 text.now))) }
     ensures passes { IfSome result (λ r. lex in_string (drop i text.now)
         ≡ lex in_string (drop r.1 text.now)) }
+    ensures mode { IfSome result (λ r. mode_at text.now i ≡ in_string → mode_at text.now r.1 ≡ in_string) }
     ensures bounds { IfSome result (λ r. (i < r.1) × (r.1 ≤ length text.now)) }
     ensures none { IfNone result (content after_u (drop i text.now) ≡ None) }
 {
@@ -121,6 +124,7 @@ pub(crate) fn escaped(text: &[u8], i: usize) -> Option<(char, usize)>
         ≡ prepend (encode_utf8 r.0) (content plain (drop r.1 text.now))) }
     ensures passes { IfSome result (λ r. lex in_escape (drop i text.now)
         ≡ lex in_string (drop r.1 text.now)) }
+    ensures mode { IfSome result (λ r. mode_at text.now i ≡ in_escape → mode_at text.now r.1 ≡ in_string) }
     ensures bounds { IfSome result (λ r. (i < r.1) × (r.1 ≤ length text.now)) }
     ensures none { IfNone result (content after_backslash (drop i text.now) ≡ None) }
 {

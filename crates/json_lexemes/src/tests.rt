@@ -1,9 +1,11 @@
 //! Places of one text, and names.
 
+ghost use Rattle.json_lexemes.specs.Signposts.{ArePlaces};
+
 use crate::{
-    Next, Span, after, array_end, byte_at, first_named, is_deeper, is_json_within, is_name,
-    is_operator, is_whitespace, last_end, next_named, numbered, string_end, value_end, value_from,
-    whitespace_end, word_end,
+    Next, Places, Span, after, array_end, byte_at, first_named, is_deeper, is_json_within, is_name,
+    is_operator, is_whitespace, last_end, next_named, numbered, signposts_within, string_end,
+    value_end, value_from, whitespace_end, word_end,
 };
 use std::test::Fail;
 
@@ -44,14 +46,62 @@ fn at(place: Option<Span>) -> Option<&'static str> {
 #[test]
 fn values(rt: HostRuntime) -> Result<(), Fail> {
     let text = TEXT.as_bytes();
-    assert_eq!(rt; at(Some(value_from(text, 8))), Some("[1.50,\"]\"]"));
-    assert!(rt; matches!(first_named(text, 2, b"a"), Next::Value(8)));
-    assert!(rt; matches!(first_named(text, 2, b"b"), Next::End(_)));
-    assert!(rt; matches!(next_named(text, 18, b"a"), Next::Value(29)));
-    assert!(rt; matches!(numbered(text, 8, 1), Next::Value(14)));
-    assert!(rt; matches!(numbered(text, 8, 2), Next::End(18)));
+    let none = Places::none();
+    assert_eq!(rt; at(Some(value_from(text, 8, none))), Some("[1.50,\"]\"]"));
+    assert!(rt; matches!(first_named(text, 2, b"a", none), Next::Value(8)));
+    assert!(rt; matches!(first_named(text, 2, b"b", none), Next::End(_)));
+    assert!(rt; matches!(next_named(text, 18, b"a", none), Next::Value(29)));
+    assert!(rt; matches!(numbered(text, 8, 1, none), Next::Value(14)));
+    assert!(rt; matches!(numbered(text, 8, 2, none), Next::End(18)));
     assert_eq!(rt; array_end(text, 13), 18);
     Ok(())
+}
+
+/// A thousand arrays of six bytes with their commas, in an array.
+fn long_array() -> [u8; 6001] {
+    let mut text = [b','; 6001];
+    text[0] = b'[';
+    for i in 0..1000 {
+        text[6 * i + 1] = b'[';
+        text[6 * i + 2] = b'1';
+        text[6 * i + 4] = b'2';
+        text[6 * i + 5] = b']';
+    }
+    text[6000] = b']';
+    text
+}
+
+/// Whether each element of [`long_array`] is found, and where none is any more.
+fn are_found(text: &[u8], places: Places) -> bool
+    requires { ArePlaces text.now places }
+{
+    if byte_at(text, 0) != b'[' {
+        return false;
+    }
+    for number in 0..1000 {
+        let place = 6 * number + 1;
+        if !matches!(numbered(text, 0, number, places), Next::Value(i) if i == place) {
+            return false;
+        }
+    }
+    matches!(numbered(text, 0, 1000, places), Next::End(6001))
+}
+
+#[test]
+fn places(rt: HostRuntime) {
+    let text = long_array();
+    let signposts = signposts_within(&text, 2);
+    assert!(rt; signposts.is_some());
+    if let Some(signposts) = signposts {
+        let places = signposts.places();
+        assert_eq!(rt; places.end_of(0), Some(6001));
+        assert_eq!(rt; places.end_of(1), None);
+        assert!(rt; are_found(&text, places) && are_found(&text, Places::none()));
+        assert_eq!(rt;
+            places.step_to(0, 500).map(|step| step.number > 300),
+            Some(true)
+        );
+    }
 }
 
 #[test]

@@ -5,19 +5,22 @@ ghost use Rattle.std.specs.Str.{IsUtf8, IsCharBoundary};
 ghost use Rattle.json.specs.Json.{Items, Members};
 ghost use Rattle.json.specs.Lex.{Lexeme, between, operator_lexeme};
 ghost use Rattle.json.specs.Word.{is_operator, is_space};
-ghost use Rattle.json_lexemes.specs.Found.{IsCut, IsReached, IsWithin, ReachesNamed, ReachesNumbered};
+ghost use Rattle.json_lexemes.specs.Found.{AreAhead, IsCut, IsReached, IsWithin, ReachesNamed, ReachesNumbered};
+ghost use Rattle.json_lexemes.specs.Signposts.{ArePlaces};
 ghost use Rattle.json_lexemes.specs.Places.{mode_at, left_at, IsEnd};
 ghost use Rattle.json_lexemes.specs.Skipped.{skip};
 ghost use Rattle.json_lexemes.specs.Spelled.{first_elements, first_members, more_elements, more_members};
 
 use crate::lexemes::{after, byte_at, container_end, string_end, value_end, whitespace_end};
 use crate::names::is_name;
+use crate::signposts::Places;
 use crate::span::{Next, Span};
 
 /// The value that begins at `start`, where no whitespace stands.
 #[inline(always)]
-pub fn value_from(text: &[u8], start: usize) -> Span
+pub fn value_from(text: &[u8], start: usize, places: Places) -> Span
     requires within { start ≤ length text.now }
+    requires places { ArePlaces text.now places }
     requires stops { start < length text.now → is_space (get_or text.now start 0) ≡ false }
     ensures start { result.start ≡ start }
     ensures bounds { (start ≤ result.end) × (result.end ≤ length text.now) }
@@ -27,7 +30,7 @@ pub fn value_from(text: &[u8], start: usize) -> Span
 {
     Span {
         start,
-        end: value_end(text, start),
+        end: places.value_end(text, start),
     }
 }
 
@@ -48,8 +51,9 @@ fn behind(text: &[u8], from: usize, c: u8) -> usize
 
 /// The value of the first member of this name from `from` on, inside of an object behind its bracket or
 /// a comma. Of several the last is meant: [`next_named`] tells whether this is it.
-pub fn first_named(text: &[u8], from: usize, name: &[u8]) -> Next
+pub fn first_named(text: &[u8], from: usize, name: &[u8], places: Places) -> Next
     requires within { from ≤ length text.now }
+    requires places { ArePlaces text.now places }
     requires begins { mode_at text.now from ≡ between }
     ensures reaches { (ms : Members) (ls : List Lexeme)
         → left_at text.now from ≡ first_members ms ++ ls
@@ -64,7 +68,7 @@ pub fn first_named(text: &[u8], from: usize, name: &[u8]) -> Next
         if is_name(text, i + 1, name) {
             return Next::Value(start);
         }
-        let end = value_end(text, start);
+        let end = places.value_end(text, start);
         let Some(next) = after(text, end, b',') else {
             return Next::End(behind(text, end, b'}'));
         };
@@ -74,8 +78,9 @@ pub fn first_named(text: &[u8], from: usize, name: &[u8]) -> Next
 }
 
 /// As [`first_named`], from the end of a member's value on.
-pub fn next_named(text: &[u8], from: usize, name: &[u8]) -> Next
+pub fn next_named(text: &[u8], from: usize, name: &[u8], places: Places) -> Next
     requires within { from ≤ length text.now }
+    requires places { ArePlaces text.now places }
     requires ends { IsEnd text.now from }
     ensures reaches { (ms : Members) (ls : List Lexeme)
         → left_at text.now from ≡ more_members ms ++ ls
@@ -83,14 +88,39 @@ pub fn next_named(text: &[u8], from: usize, name: &[u8]) -> Next
     ensures place { IsReached text.now from result }
 {
     match after(text, from, b',') {
-        Some(next) => first_named(text, next, name),
+        Some(next) => first_named(text, next, name, places),
         None => Next::End(behind(text, from, b'}')),
     }
 }
 
-/// The element of this number, in an array whose bracket stands at `start`.
-pub fn numbered(text: &[u8], start: usize, number: usize) -> Next
+/// How many elements stand before that of this number, in an array whose bracket stands at `start`, from the last
+/// place on that is known; and that place, at which one begins or the array ends.
+fn nearest(text: &[u8], start: usize, number: usize, places: Places) -> (usize, usize)
     requires within { start < length text.now }
+    requires places { ArePlaces text.now places }
+    requires bracket { get_or text.now start 0 ≡ 91 }
+    requires begins { mode_at text.now start ≡ between }
+    ensures bounds { (start < result.1) × (result.1 ≤ length text.now) }
+    ensures boundary { IsUtf8 text.now → IsCharBoundary text.now result.1 }
+    ensures stops { result.1 < length text.now → is_space (get_or text.now result.1 0) ≡ false }
+    ensures mode { mode_at text.now result.1 ≡ between }
+    ensures ahead { (js : Items) (ls : List Lexeme) → left_at text.now (start + 1) ≡ first_elements js ++ ls
+        → AreAhead text.now number js ls result.1 result.0 }
+{
+    let first = whitespace_end(text, start + 1);
+    if byte_at(text, first) == b']' {
+        return (number, first);
+    }
+    match places.step_to(start, number) {
+        Some(step) => (number - step.number, whitespace_end(text, step.place)),
+        None => (number, first),
+    }
+}
+
+/// The element of this number, in an array whose bracket stands at `start`.
+pub fn numbered(text: &[u8], start: usize, number: usize, places: Places) -> Next
+    requires within { start < length text.now }
+    requires places { ArePlaces text.now places }
     requires bracket { get_or text.now start 0 ≡ 91 }
     requires begins { mode_at text.now start ≡ between }
     ensures reaches { (js : Items) (ls : List Lexeme)
@@ -98,8 +128,7 @@ pub fn numbered(text: &[u8], start: usize, number: usize) -> Next
         → ReachesNumbered text.now result number js ls }
     ensures place { IsReached text.now start result }
 {
-    let mut left = number;
-    let mut i = whitespace_end(text, start + 1);
+    let (mut left, mut i) = nearest(text, start, number, places);
     while byte_at(text, i) != b']' {
         if left == 0 {
             return Next::Value(i);

@@ -1,7 +1,10 @@
 //! A JSON text patched by the text of a patch (RFC 6902).
 
-ghost use Rattle.std.specs.Prelude.{◌≡◌, ◌<◌, ◌≤◌, IfErr, IfOk, IfSome, List, length};
+ghost use Rattle.std.specs.Prelude.{◌≡◌, ◌<◌, ◌≤◌, IfErr, IfOk, IfSome, List, OnSome, length};
 ghost use Rattle.std.specs.String.{string_bytes};
+ghost use Rattle.json.specs.Json.{Json};
+ghost use Rattle.json_lexemes.specs.Signposts.{AreSignposts};
+ghost use Rattle.json_lexemes.specs.Spelled.{IsShallowText};
 ghost use Rattle.json_patch_text.specs.Operations.{SaysOperations, TreeOperation};
 ghost use Rattle.json_patch_text.specs.Patched.{AcceptsPatch, HasTexts, IsPatchTextFault, IsPatchedText};
 ghost use Rattle.json_patch_text.specs.Stopped.{IsNoDocument, IsUnread, as_document, as_patch};
@@ -17,6 +20,8 @@ use crate::log::Log;
 use crate::operation::TextOperation;
 use crate::reading::read;
 use crate::run::run;
+use json::MAX_DEPTH;
+use json_lexemes::Signposts;
 use json_patch_limits::limits::Limits;
 use json_patch_operation::ReadFault;
 use json_text::{CheckedText, TextFault, is_deeper};
@@ -63,21 +68,37 @@ pub(crate) fn document<'a>(
     }
 }
 
-/// The document's text, where it is found to be within so many levels without the reader.
+/// The signposts of the document's text, where it is found to be within so many levels without the reader.
 pub(crate) fn document_within(
     text: &str,
     levels: usize,
-) -> Result<Option<CheckedText<'_>>, PatchTextFault>
-    ensures text { IfOk result (λ found. IfSome found (λ checked. text_in checked ≡ text.now)) }
+) -> Result<Option<Signposts>, PatchTextFault>
+    ensures signposts { IfOk result (λ found. IfSome found (AreSignposts text.now)) }
+    ensures shallow { IfOk result (λ found. OnSome found ((j : Json) × IsShallowText text.now j)) }
     ensures depth { IfOk result (λ found. nesting text.now ≤ levels) }
     ensures fault { IfErr result (λ fault. (fault ≡ Document TooDeep) × (levels < nesting text.now)) }
 {
     // One pass checks the text and how deep it nests, where nothing is wrong with it.
-    let checked = CheckedText::within(text, levels);
-    if checked.is_none() && is_deeper(text, levels) {
+    let signposts = CheckedText::signposts(text, levels);
+    if signposts.is_none() && is_deeper(text, levels) {
         return Err(PatchTextFault::Document(TextFault::TooDeep));
     }
-    Ok(checked)
+    Ok(signposts)
+}
+
+/// The text with its signposts, where it has them.
+pub(crate) fn signposted<'a>(
+    text: &'a str,
+    signposts: &'a Option<Signposts>,
+) -> Option<CheckedText<'a>>
+    requires signposts { IfSome signposts.now (AreSignposts text.now) }
+    requires shallow { OnSome signposts.now ((j : Json) × IsShallowText text.now j) }
+    ensures { IfSome result (λ checked. text_in checked ≡ text.now) }
+{
+    match signposts {
+        Some(signposts) => Some(CheckedText::signposted(text, signposts)),
+        None => None,
+    }
 }
 
 /// The operations that the patch's text says.
@@ -128,7 +149,8 @@ pub fn patch_text(alloc: Global, text: &str, patch: &str) -> Result<String, Patc
     ensures fault { IfErr result (IsPatchTextFault text.now patch.now) }
 {
     let operations = operations_in(alloc, patch)?;
-    let document = document(alloc, text, None)?;
+    let signposts = CheckedText::signposts(text, MAX_DEPTH);
+    let document = document(alloc, text, signposted(text, &signposts))?;
     let mut log = Log::new(alloc, false);
     match run(&mut log, document, operations.as_slice(), None) {
         Ok(new) => Ok(new),
@@ -178,8 +200,8 @@ pub fn patch_text_within(
         (λ new. IsTextWithin limits (most_bytes limits text.now patch.now) (string_bytes new)) }
     ensures fault { IfErr result (IsTextLimitFault limits text.now patch.now) }
 {
-    let checked = document_within(text, limits.depth)?;
-    patched(alloc, text, checked, patch, limits)
+    let signposts = document_within(text, limits.depth)?;
+    patched(alloc, text, signposted(text, &signposts), patch, limits)
 }
 
 /// The same, of a text that nests no deeper than the limits say, and is checked here where it wasn't before.

@@ -12,8 +12,9 @@ ghost use Rattle.json_text.specs.Checked.{text_in};
 use crate::bounds::Bounds;
 use crate::fault::{PatchTextFault, TextLimitFault};
 use crate::log::Log;
-use crate::patch::{document, document_within, operations_in};
+use crate::patch::{document, document_within, operations_in, signposted};
 use crate::run::run;
+use json::MAX_DEPTH;
 use json_patch_limits::limits::Limits;
 use json_text::CheckedText;
 use std::alloc::Global;
@@ -54,7 +55,8 @@ pub fn record_text(alloc: Global, text: &str, patch: &str) -> Result<Recorded, P
     ensures fault { IfErr result (IsPatchTextFault text.now patch.now) }
 {
     let operations = operations_in(alloc, patch)?;
-    let document = document(alloc, text, None)?;
+    let signposts = CheckedText::signposts(text, MAX_DEPTH);
+    let document = document(alloc, text, signposted(text, &signposts))?;
     let mut log = Log::new(alloc, true);
     match run(&mut log, document, operations.as_slice(), None) {
         Ok(text) => {
@@ -104,8 +106,8 @@ pub fn record_text_within(
         (λ r. IsUndoWithin limits (most_bytes limits text.now patch.now) (string_bytes r.undo)) }
     ensures fault { IfErr result (IsRecordLimitFault limits text.now patch.now) }
 {
-    let checked = document_within(text, limits.depth)?;
-    recording(alloc, text, checked, patch, limits)
+    let signposts = document_within(text, limits.depth)?;
+    recording(alloc, text, signposted(text, &signposts), patch, limits)
 }
 
 /// The same, of a text that nests no deeper than the limits say, and is checked here where it wasn't before.

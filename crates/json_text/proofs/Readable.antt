@@ -1,15 +1,16 @@
 -- What is known of a text that was checked, and of a part of it.
-use Rattle.std.proofs.Common.{◌≡◌, ◌≤◌, ◌+◌, ℕ, List, length, Some, refl, sym, subst, arith}
-use Rattle.std.specs.Prelude.{IsSome}
+use Rattle.std.proofs.Common.{◌≡◌, ◌≤◌, ◌+◌, ℕ, List, length, Option, Some, None, refl, sym, subst, arith}
+use Rattle.std.specs.Prelude.{IfSome, IsSome, OnSome}
 use Rattle.json.specs.Json.{Json, document, max_depth}
 use Rattle.json.specs.Tree.{depth}
 use Rattle.jsonptr.specs.Text.{Pointer}
 use Rattle.json_text.specs.Changed.{remove_at}
 use Rattle.json_text.specs.Pointed.{StandsBetween, tree_at}
 use Rattle.json_text.specs.Removed.{IsRemoved}
-use Rattle.json_lexemes.specs.Spelled.{IsShallowText}
+use Rattle.json_lexemes.specs.Skipped.{nesting}
+use Rattle.json_lexemes.specs.Spelled.{IsShallowText, Says}
 use Rattle.json_text.proofs.Depths.{part_inside, remove_nests}
-use Rattle.json_lexemes.proofs.Nests.{read_is}
+use Rattle.json_lexemes.proofs.Nests.{nests, read_is}
 
 pub readable : (text : List ℕ) → (j : Json) × IsShallowText text j → IsSome (document text)
 readable text (j, s) = subst IsSome (sym ((read_is text j).1 s)) refl
@@ -25,3 +26,8 @@ less_says text less P r =
     let lower : depth (remove_at P r.tree) ≤ depth r.tree = remove_nests P r.tree in
     let most : depth r.tree ≤ max_depth = r.says.1 in
     (remove_at P r.tree, (r.after, omega arith))
+
+-- how deep a text nests that is known to be within so many levels
+pub within_levels : {A : Type 0} (r : Option A) (t : List ℕ) (n m : ℕ) → n ≤ m → IfSome r (λ _. (j : Json) × Says t j × (depth j ≤ n)) → OnSome r (nesting t ≤ m)
+within_levels None t n m h k = tt
+within_levels (Some a) t n m h (j, says, d) = omega (arith, nests t j says, d, h)

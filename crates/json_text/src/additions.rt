@@ -6,6 +6,7 @@ ghost use Rattle.json.specs.Json.{Json};
 ghost use Rattle.jsonptr.specs.Pointers.{tokens_of};
 ghost use Rattle.json_text.specs.Added.{IsAdded, IsAddFault};
 ghost use Rattle.json_lexemes.specs.Found.{IsWithin};
+ghost use Rattle.json_lexemes.specs.Signposts.{ArePlaces};
 ghost use Rattle.json_text.specs.Less.{IsObject};
 ghost use Rattle.json_text.specs.Pointed.{tree_at, StandsBetween};
 ghost use Rattle.json_lexemes.specs.Spelled.{Says};
@@ -16,7 +17,7 @@ use crate::growing::with_child;
 use crate::parts::is_object;
 use crate::reading::find;
 use crate::{ChangeFault, CheckedText};
-use json_lexemes::Span;
+use json_lexemes::{Places, Span};
 use jsonptr::Pointer;
 use std::alloc::{AllocError, Global};
 
@@ -26,7 +27,9 @@ fn standing_member(
     text: &str,
     pointer: Pointer,
     parent: &str,
+    places: Places,
 ) -> Result<Option<Span>, AllocError>
+    requires { ArePlaces text.now places }
     ensures stands { IfOk result (λ found. (j : Json) → Says text.now j → IfSome found
         (λ s. StandsBetween (take s.start text.now)
         (take (s.end - s.start) (drop s.start text.now)) (drop s.end text.now) j
@@ -38,7 +41,7 @@ fn standing_member(
     ensures within { IfOk result (λ found. IfSome found (IsWithin text.now)) }
 {
     if is_object(parent.as_bytes()) {
-        find(alloc, text, pointer)
+        find(alloc, text, pointer, places)
     } else {
         Ok(None)
     }
@@ -110,14 +113,14 @@ impl<'a> CheckedText<'a> {
             return self.replace(alloc, pointer, value);
         };
         let text = self.as_str();
-        let Some(place) = find(alloc, text, parent)? else {
+        let Some(place) = find(alloc, text, parent, self.places())? else {
             return Ok(None);
         };
         let here = &text[place.start..place.end];
         let value = value.as_str();
         let put = whole(value.as_bytes());
         let put = &value[put.start..put.end];
-        if let Some(old) = standing_member(alloc, text, pointer, here)? {
+        if let Some(old) = standing_member(alloc, text, pointer, here, self.places())? {
             let new = exchanged(alloc, text, old, put)?;
             return Ok(Some(new));
         }

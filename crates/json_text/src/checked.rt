@@ -2,11 +2,12 @@
 
 ghost use Rattle.std.specs.Prelude.{IsSome};
 ghost use Rattle.json.specs.Json.{document};
+ghost use Rattle.json_lexemes.specs.Signposts.{ArePlaces, ArePlaces-prop};
 
 use crate::TextFault;
 use crate::reading::{find, is_deeper};
 use json::{MAX_DEPTH, Scratch, is_valid};
-use json_lexemes::is_json_within;
+use json_lexemes::{Places, Signposts, signposts_within};
 use jsonptr::Pointer;
 use std::alloc::{AllocError, Global};
 
@@ -15,7 +16,9 @@ use std::alloc::{AllocError, Global};
 #[derive(Clone, Copy, Debug)]
 pub struct CheckedText<'a> {
     text: &'a str,
+    places: Places<'a>,
     ghost read: { IsSome (document text.now) },
+    ghost known: { ArePlaces text.now places } by { ArePlaces-prop text.now places },
 }
 
 impl<'a> CheckedText<'a> {
@@ -25,6 +28,7 @@ impl<'a> CheckedText<'a> {
     ghost use Rattle.json_text.specs.Checked.{text_in};
     ghost use Rattle.json_text.specs.Faults.{IsTextFault};
     ghost use Rattle.json_text.specs.Pointed.{tree_at, IsWrittenAt};
+    ghost use Rattle.json_lexemes.specs.Signposts.{AreSignposts};
     ghost use Rattle.json_lexemes.specs.Skipped.{nesting};
     ghost use Rattle.json_lexemes.specs.Spelled.{IsShallowText};
 
@@ -43,7 +47,8 @@ impl<'a> CheckedText<'a> {
         }
         let mut scratch = Scratch::new(alloc);
         if is_valid(text, &mut scratch)? {
-            return Ok(CheckedText { text });
+            let places = Places::none();
+            return Ok(CheckedText { text, places });
         }
         if is_deeper(text, MAX_DEPTH) {
             Err(TextFault::TooDeep)
@@ -66,11 +71,40 @@ impl<'a> CheckedText<'a> {
         ensures text { IfSome result (λ checked. text_in checked ≡ text.now) }
         ensures depth { OnSome result (nesting text.now ≤ levels) }
     {
-        if is_json_within(text.as_bytes(), levels.min(MAX_DEPTH)) {
-            Some(CheckedText::known(text))
-        } else {
-            None
+        match CheckedText::signposts(text, levels) {
+            Some(_) => Some(CheckedText::known(text)),
+            None => None,
         }
+    }
+
+    /// What [`CheckedText::signposted`] needs, where [`CheckedText::within`] finds that the text is JSON.
+    ///
+    /// ```rust
+    /// let signposts = CheckedText::signposts(r#"{"list": [1.50, 2] }"#, 2);
+    /// // Some: the array stands in the object
+    /// ```
+    pub fn signposts(text: &str, levels: usize) -> Option<Signposts>
+        ensures signposts { IfSome result (AreSignposts text.now) }
+        ensures shallow { OnSome result ((j : Json) × IsShallowText text.now j) }
+        ensures depth { OnSome result (nesting text.now ≤ levels) }
+    {
+        signposts_within(text.as_bytes(), levels.min(MAX_DEPTH))
+    }
+
+    /// A text with its signposts, so that its calls pass over few of the bytes before their places where it is long.
+    pub fn signposted(text: &'a str, signposts: &'a Signposts) -> CheckedText<'a>
+        requires shallow { (j : Json) × IsShallowText text.now j }
+        requires signposts { AreSignposts text.now signposts.now }
+        ensures { text_in result ≡ text.now }
+    {
+        let places = signposts.places();
+        CheckedText { text, places }
+    }
+
+    pub(crate) fn places(&self) -> Places<'a>
+        ensures { ArePlaces (text_in self.now) result }
+    {
+        self.places
     }
 
     /// A text that is known to be JSON and to nest no deeper than 128 levels, so that it needs no check.
@@ -78,7 +112,10 @@ impl<'a> CheckedText<'a> {
         requires { (j : Json) × IsShallowText text.now j }
         ensures { text_in result ≡ text.now }
     {
-        CheckedText { text }
+        CheckedText {
+            text,
+            places: Places::none(),
+        }
     }
 
     /// The text itself.
@@ -106,7 +143,7 @@ impl<'a> CheckedText<'a> {
             × MatchOption found (tree_at (tokens_of pointer.entry) j ≡ None)
             (λ s. IsWrittenAt (text_in self.now) j (tokens_of pointer.entry) (text_in s))) }
     {
-        let Some(place) = find(alloc, self.text, pointer)? else {
+        let Some(place) = find(alloc, self.text, pointer, self.places)? else {
             return Ok(None);
         };
         Ok(Some(CheckedText::known(&self.text[place.start..place.end])))

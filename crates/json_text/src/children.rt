@@ -5,13 +5,14 @@ ghost use Rattle.json.specs.Json.{Json};
 ghost use Rattle.json.specs.Lex.{Lexeme, between};
 ghost use Rattle.jsonptr.specs.Pointers.{token_of, tokens_left};
 ghost use Rattle.json_lexemes.specs.Found.{IsFront, IsReached, IsWithin};
+ghost use Rattle.json_lexemes.specs.Signposts.{ArePlaces};
 ghost use Rattle.json_lexemes.specs.Places.{left_at, mode_at, IsEnd};
 ghost use Rattle.json_lexemes.specs.Spelled.{spelled, Says};
 ghost use Rattle.json_text.specs.Pointed.{IsStretch};
 ghost use Rattle.json_text.specs.Ways.{AreOpen, IsOn, Leads, ReachesElement};
 
 use json_lexemes::{
-    Next, Span, array_end, byte_at, first_named, last_end, next_named, numbered, value_end,
+    Next, Places, Span, array_end, byte_at, first_named, last_end, next_named, numbered,
     value_from, whitespace_end,
 };
 use jsonptr::index::Index;
@@ -48,7 +49,8 @@ fn arrays_end(text: &[u8], from: usize, arrays: usize) -> usize
 }
 
 /// The element that a token names in the value that begins at `start`, which is no object.
-fn element(text: &[u8], start: usize, token: Token) -> Next
+fn element(text: &[u8], start: usize, token: Token, places: Places) -> Next
+    requires places { ArePlaces text.now places }
     requires front { IsFront text.now start }
     requires other { get_or text.now start 32 ≢ 123 }
     ensures reaches { (v : Json) (ls : List Lexeme) → left_at text.now start ≡ spelled v ++ ls
@@ -56,14 +58,32 @@ fn element(text: &[u8], start: usize, token: Token) -> Next
     ensures place { IsReached text.now start result }
 {
     if byte_at(text, start) != b'[' {
-        return Next::End(value_end(text, start));
+        return Next::End(places.value_end(text, start));
     }
     // The length of a text fits a `usize`, so a place that doesn't has no element.
     let _fits = text.len();
     match token.to_index() {
-        Ok(Index::Num(number)) => numbered(text, start, number),
-        Ok(Index::Next) => Next::End(value_end(text, start)),
-        Err(_) => Next::End(value_end(text, start)),
+        Ok(Index::Num(number)) => numbered(text, start, number, places),
+        Ok(Index::Next) => Next::End(places.value_end(text, start)),
+        Err(_) => Next::End(places.value_end(text, start)),
+    }
+}
+
+/// The place behind a member's value, which begins at `start` and is passed so far.
+fn member_end(text: &[u8], start: usize, passed: Way, places: Places) -> usize
+    requires on { IsOn text.now start passed }
+    requires places { ArePlaces text.now places }
+    ensures bounds { (start ≤ result) × (result ≤ length text.now) }
+    ensures left { (v : Json) (ls : List Lexeme) → left_at text.now start ≡ spelled v ++ ls
+        → AreOpen passed.arrays (left_at text.now passed.end) ls → left_at text.now result ≡ ls }
+    ensures end { IsEnd text.now result }
+{
+    if passed.arrays == 0 {
+        return passed.end;
+    }
+    match places.end_of(start) {
+        Some(end) => end,
+        None => arrays_end(text, passed.end, passed.arrays),
     }
 }
 
@@ -77,8 +97,10 @@ pub(crate) fn follow(
     start: usize,
     tokens: Tokens,
     name: &mut String,
+    places: Places,
 ) -> Result<Way, AllocError>
-    requires { IsFront text.now start }
+    requires front { IsFront text.now start }
+    requires places { ArePlaces text.now places }
     ensures leads { IfOk result (λ w. (v : Json) (ls : List Lexeme)
         → left_at text.now start ≡ spelled v ++ ls
         → Leads text.now w (tokens_left tokens.entry) v ls) }
@@ -86,14 +108,14 @@ pub(crate) fn follow(
 {
     let mut rest = tokens;
     let Some(token) = rest.next() else {
-        let value = value_from(text, start);
+        let value = value_from(text, start, places);
         let (found, end, arrays) = (Some(value), value.end, 0);
         return Ok(Way { found, end, arrays });
     };
     if byte_at(text, start) != b'{' {
-        return match element(text, start, token) {
+        return match element(text, start, token, places) {
             Next::Value(value) => {
-                let inner = follow(text, value, rest, name)?;
+                let inner = follow(text, value, rest, name, places)?;
                 let (found, end, arrays) = (inner.found, inner.end, inner.arrays + 1);
                 Ok(Way { found, end, arrays })
             }
@@ -105,15 +127,15 @@ pub(crate) fn follow(
     }
     token.decode_into(name)?;
     let mut found = None;
-    let mut next = first_named(text, start + 1, name.as_bytes());
+    let mut next = first_named(text, start + 1, name.as_bytes(), places);
     'members: loop {
         match next {
             Next::Value(value) => {
-                let inner = follow(text, value, rest, name)?;
+                let inner = follow(text, value, rest, name, places)?;
                 found = inner.found;
-                let end = arrays_end(text, inner.end, inner.arrays);
+                let end = member_end(text, value, inner, places);
                 token.decode_into(name)?;
-                next = next_named(text, end, name.as_bytes());
+                next = next_named(text, end, name.as_bytes(), places);
             }
             Next::End(end) => {
                 let arrays = 0;

@@ -12,7 +12,7 @@ ghost use Rattle.json_text.specs.Rows.{ArePlaces, AreInOrder, Child, CutNone, Fi
 ghost use Rattle.json_text.specs.Rows.{IsInside, IsLast, IsNumbered, IsSolid, inside, last_named, tree_in};
 ghost use Rattle.json_lexemes.specs.Spelled.{Says};
 
-use json_lexemes::{Span, after, byte_at, is_name, string_end, value_from, whitespace_end};
+use json_lexemes::{Places, Span, after, byte_at, is_name, string_end, value_from, whitespace_end};
 use jsonptr::index::Index;
 
 /// A member or an element.
@@ -72,7 +72,7 @@ pub(crate) fn part_from(text: &[u8], start: usize, named: bool) -> Option<Part>
     ensures boundary { (IsUtf8 text.now → IsCharBoundary text.now start)
         → IfSome result (CutNone text.now) }
 {
-    let value = value_from(text, value_start(text, start, named)?);
+    let value = value_from(text, value_start(text, start, named)?, Places::none());
     let next = after(text, value.end, b',');
     Some(Part { start, value, next })
 }

@@ -7,12 +7,13 @@ ghost use Rattle.jsonptr.specs.Pointers.{tokens_of};
 ghost use Rattle.json_text.specs.Faults.{IsTextFault};
 ghost use Rattle.json_lexemes.specs.Skipped.{nesting};
 ghost use Rattle.json_lexemes.specs.Found.{IsWithin};
+ghost use Rattle.json_lexemes.specs.Signposts.{ArePlaces};
 ghost use Rattle.json_text.specs.Pointed.{tree_at, IsWrittenAt, StandsBetween};
 ghost use Rattle.json_lexemes.specs.Spelled.{IsShallowText, Says};
 
 use crate::children::{follow, whole};
 use crate::{CheckedText, TextFault};
-use json_lexemes::{Span, whitespace_end};
+use json_lexemes::{Places, Span, whitespace_end};
 use jsonptr::Pointer;
 use std::alloc::{AllocError, Global};
 
@@ -30,7 +31,13 @@ pub fn is_deeper(text: &str, most: usize) -> bool
 }
 
 /// Where the stretch stands to which the pointer leads, in a text that is JSON.
-pub(crate) fn find(alloc: Global, text: &str, pointer: Pointer) -> Result<Option<Span>, AllocError>
+pub(crate) fn find(
+    alloc: Global,
+    text: &str,
+    pointer: Pointer,
+    places: Places,
+) -> Result<Option<Span>, AllocError>
+    requires { ArePlaces text.now places }
     ensures found { IfOk result (λ found. (j : Json) → Says text.now j
         → MatchOption found (tree_at (tokens_of pointer.entry) j ≡ None)
         (λ s. StandsBetween (take s.start text.now)
@@ -44,7 +51,7 @@ pub(crate) fn find(alloc: Global, text: &str, pointer: Pointer) -> Result<Option
     }
     let mut name = String::new(alloc);
     let start = whitespace_end(bytes, 0);
-    let way = follow(bytes, start, pointer.tokens(), &mut name)?;
+    let way = follow(bytes, start, pointer.tokens(), &mut name, places)?;
     Ok(way.found)
 }
 

@@ -37,6 +37,7 @@ pub(crate) fn answer(alloc: Global, call: &str, place: Pointer) -> Result<String
 fn of_checked(alloc: Global, call: &str, place: Pointer) -> Result<String, AllocError> {
     match call {
         "CheckedText::within" => told(alloc, found(alloc, is_of_two_levels().then_some("yes"))),
+        "CheckedText::signposts" => told(alloc, found(alloc, has_signposts().then_some("yes"))),
         "CheckedText::value" => told(alloc, array_in_checked(alloc, place)),
         "CheckedText::add" => told(alloc, added_to_checked(alloc, place)),
         "CheckedText::remove" => told(alloc, removed_from_checked(alloc, place)),
@@ -104,6 +105,11 @@ fn plain_name(alloc: Global) -> Result<String, AllocError> {
 fn is_of_two_levels() -> bool {
     let text = CheckedText::within(r#"{"list": [1.50, 2] }"#, 2);
     text.is_some()
+}
+
+fn has_signposts() -> bool {
+    let signposts = CheckedText::signposts(r#"{"list": [1.50, 2] }"#, 2);
+    signposts.is_some()
 }
 
 fn array_in_checked(alloc: Global, place: Pointer) -> Result<String, TextFault> {

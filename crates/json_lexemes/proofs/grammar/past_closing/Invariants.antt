@@ -1,5 +1,6 @@
 use Rattle.std.proofs.Common.{◌+◌, ◌-◌, ◌≤◌, ℕ, length}
-use Rattle.json_lexemes.specs.Places.{left_at}
+use Rattle.json_lexemes.specs.Places.{left_at, IsEnd}
+use Rattle.json_lexemes.specs.Followed.{IsBehind}
 use Rattle.json_lexemes.specs.Grammar.{AreStops, Completes, innermost}
 use Rattle.json_lexemes.proofs.grammar.past_closing.Given as goal
 
@@ -8,7 +9,9 @@ invariant-loop-nested l = record {
   low : l.from ≤ l.i;
   high : l.i ≤ length l.text;
   fewer : l.nested ≤ l.depth;
-  stops : AreStops l.text l.stops.base l.stops.bits;
+  end : IsEnd l.text l.i;
+  behind : IsBehind l.text l.seen.signposts l.nested l.i;
+  stops : AreStops l.text l.seen.stops.base l.seen.stops.bits;
   follows : (n : ℕ) → Completes (n + (l.depth - l.nested)) (innermost l.objects l.nested) (left_at l.text l.i) → Completes n (innermost l.objects l.depth) (left_at l.text l.from);
 }
 

@@ -1,9 +1,12 @@
-use Rattle.std.proofs.Common.{arith, ◌+◌, sym, ap, ◌∙◌, drop, Some, None}
+use Rattle.std.proofs.Common.{arith, ◌+◌, ◌≡◌, sym, ap, ◌∙◌, drop, Some, None}
 use Rattle.std.proofs.lemmas.Str.{encode_ascii}
 use Rattle.json.specs.Text.{content, plain, prepend}
 use Rattle.json_lexemes.proofs.Inside.{backslash_end, backslash_u, backslash_short, some_by, none_by}
 use Rattle.json_lexemes.proofs.Ended.{passes_by}
 use Rattle.json_lexemes.proofs.Steps.{escape_passes}
+use Rattle.json.specs.Lex.{in_string}
+use Rattle.json_lexemes.specs.Places.{mode_at}
+use Rattle.json_lexemes.proofs.Strings.{escape_closes, mode_by}
 use Rattle.json_lexemes.proofs.names.escaped.Goals as goal
 
 pub returns-then-i-text-clause-none : goal.returns-then-i-text-clause-none
@@ -28,3 +31,9 @@ returns-then-text-i-eq117-clause-passes c = passes_by c.unicode.result _ _ _ (es
 
 pub returns-in-Some-clause-passes : goal.returns-in-Some-clause-passes
 returns-in-Some-clause-passes c = escape_passes c.args.text.now c.args.i (omega arith)
+
+pub returns-then-text-i-eq117-clause-mode : goal.returns-then-text-i-eq117-clause-mode
+returns-then-text-i-eq117-clause-mode c = mode_by (λ r. mode_at c.args.text.now r.1 ≡ in_string) c.unicode.result (escape_closes c.args.text.now c.args.i (omega arith)) c.unicode.ensures.mode
+
+pub returns-in-Some-clause-mode : goal.returns-in-Some-clause-mode
+returns-in-Some-clause-mode c = escape_closes c.args.text.now c.args.i (omega arith)

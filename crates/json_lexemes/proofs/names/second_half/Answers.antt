@@ -3,6 +3,7 @@ use Rattle.std.specs.Char.{encode_utf8}
 use Rattle.json.specs.Text.{content, plain, prepend}
 use Rattle.json_lexemes.proofs.Inside.{apart_low, unit_there, no_escape_first, no_escape_second, high_short, high_no_escape, high_none, high_apart, high_pair}
 use Rattle.json_lexemes.proofs.Ended.{pair_passes}
+use Rattle.json_lexemes.proofs.Strings.{pair_mode}
 use Rattle.json_lexemes.proofs.names.second_half.Goals as goal
 use Rattle.json_lexemes.proofs.names.second_half.Goals.{then-text-i-ne92-via-then-text-i-ne92, then-text-i-ne92-via-else-text-i-ne92+then-text-i-ne117}
 
@@ -30,3 +31,6 @@ returns-clause-some c =
 
 pub returns-clause-passes : goal.returns-clause-passes
 returns-clause-passes c = pair_passes c.args.text.now c.args.i c.in-Some.low (omega arith) c.if-text-i-ne92.false (unit_there c.args.text.now c.args.i ∙ sym c.code_unit.ensures.value ∙ c.in-Some.is)
+
+pub returns-clause-mode : goal.returns-clause-mode
+returns-clause-mode c = pair_mode c.args.text.now c.args.i c.in-Some.low (omega arith) c.if-text-i-ne92.false (unit_there c.args.text.now c.args.i ∙ sym c.code_unit.ensures.value ∙ c.in-Some.is)

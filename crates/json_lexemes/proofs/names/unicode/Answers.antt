@@ -1,8 +1,11 @@
-use Rattle.std.proofs.Common.{arith, ◌+◌, sym, ap, ◌∙◌, drop}
+use Rattle.std.proofs.Common.{arith, ◌+◌, ◌≡◌, sym, ap, ◌∙◌, drop}
 use Rattle.std.specs.Char.{encode_utf8}
 use Rattle.json.specs.Text.{content, plain, prepend}
 use Rattle.json_lexemes.proofs.Inside.{scalar_plain, u_short, u_none, u_high, u_low, u_plain, some_by, none_by}
 use Rattle.json_lexemes.proofs.Ended.{unit_passes, passes_by}
+use Rattle.json.specs.Lex.{in_string}
+use Rattle.json_lexemes.specs.Places.{mode_at}
+use Rattle.json_lexemes.proofs.Strings.{unit_mode, mode_by}
 use Rattle.json_lexemes.proofs.names.unicode.Goals as goal
 
 pub returns-then-text-i-lt4-clause-none : goal.returns-then-text-i-lt4-clause-none
@@ -34,3 +37,9 @@ returns-then-unit-lt56320-clause-passes c =
 
 pub returns-clause-passes : goal.returns-clause-passes
 returns-clause-passes c = unit_passes c.args.text.now c.args.i c.in-Some.unit (omega arith) (sym c.code_unit.ensures.value ∙ c.in-Some.is)
+
+pub returns-then-unit-lt56320-clause-mode : goal.returns-then-unit-lt56320-clause-mode
+returns-then-unit-lt56320-clause-mode c = mode_by (λ r. mode_at c.args.text.now r.1 ≡ in_string) c.second_half.result (unit_mode c.args.text.now c.args.i c.in-Some.unit (omega arith) (sym c.code_unit.ensures.value ∙ c.in-Some.is)) c.second_half.ensures.mode
+
+pub returns-clause-mode : goal.returns-clause-mode
+returns-clause-mode c = unit_mode c.args.text.now c.args.i c.in-Some.unit (omega arith) (sym c.code_unit.ensures.value ∙ c.in-Some.is)

@@ -7,8 +7,8 @@ use Rattle.json_lexemes.specs.Spelled.{first_members}
 use Rattle.json_lexemes.proofs.Members.{AreAhead}
 use Rattle.json_lexemes.proofs.values.first_named.Given as goal
 
-abbrev pub invariant-loop-start : goal.invariant-loop-start
-invariant-loop-start l = record {
+abbrev pub invariant-loop-places : goal.invariant-loop-places
+invariant-loop-places l = record {
   on : l.from ≤ l.i;
   low : l.i ≤ length l.text;
   stops : l.i < length l.text → is_space (get_or l.text l.i 0) ≡ false;
@@ -16,5 +16,5 @@ invariant-loop-start l = record {
   ahead : (ms : Members) (ls : List Lexeme) → left_at l.text l.from ≡ first_members ms ++ ls → AreAhead l.text l.name ms ls l.i;
 }
 
-abbrev pub decreases-loop-start : goal.decreases-loop-start
-decreases-loop-start l = length l.text - l.i
+abbrev pub decreases-loop-places : goal.decreases-loop-places
+decreases-loop-places l = length l.text - l.i

@@ -1,22 +1,11 @@
-use Rattle.std.proofs.Common.{sym, ap, ◌∙◌, inl, refl, arith}
-use Rattle.std.proofs.lemmas.Str.{IsCharBoundary-after_ascii}
-use Rattle.json.specs.Word.{is_operator}
+use Rattle.std.proofs.Common.{sym, ◌∙◌, inl, arith}
 use Rattle.json_lexemes.proofs.Elements.{element_here, has_element, last_passed, next_ahead, none_ahead}
-use Rattle.json_lexemes.proofs.Steps.{operator_end}
 use Rattle.json_lexemes.proofs.values.numbered.Goals as goal
 
 pub loop-start-init : goal.loop-start-init
 loop-start-init c =
-    let t = c.args.text.now in
-    let s = c.args.start in
-    record {
-      on = omega (arith, c.whitespace_end-i.ensures.bounds);
-      low = c.whitespace_end-i.ensures.bounds.1;
-      boundary = λ u. c.whitespace_end-i.ensures.boundary u (IsCharBoundary-after_ascii t s u c.requires.within (omega (arith, c.requires.bracket)));
-      stops = c.whitespace_end-i.ensures.stops;
-      mode = c.whitespace_end-i.ensures.between (operator_end t s c.requires.within (ap is_operator c.requires.bracket) (inl c.requires.begins));
-      ahead = λ js ls e. (js, c.whitespace_end-i.ensures.left ∙ e, refl);
-    }
+    let e = c.nearest-left.ensures in
+    record { on = e.bounds.0; low = e.bounds.1; boundary = e.boundary; stops = e.stops; mode = e.mode; ahead = e.ahead }
 
 pub returns-then-left-eq0-clause-reaches : goal.returns-then-left-eq0-clause-reaches
 returns-then-left-eq0-clause-reaches c = λ js ls e.

@@ -5,7 +5,7 @@ use Rattle.json.specs.Word.{is_space}
 use Rattle.json.specs.Lex.{Lexeme, between}
 use Rattle.json_lexemes.specs.Places.{mode_at, left_at}
 use Rattle.json_lexemes.specs.Spelled.{first_elements}
-use Rattle.json_lexemes.proofs.Elements.{AreAhead}
+use Rattle.json_lexemes.specs.Found.{AreAhead}
 use Rattle.json_lexemes.proofs.values.numbered.Given as goal
 
 abbrev pub invariant-loop-start : goal.invariant-loop-start

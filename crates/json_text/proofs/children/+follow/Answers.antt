@@ -11,7 +11,7 @@ returns-in_default-clause-leads t c = λ v ls e.
 pub first_named-next-requires-clause-begins : goal.first_named-next-requires-clause-begins
 first_named-next-requires-clause-begins t c =
     let here : c.args.start < length c.args.text.now = c.byte_at.ensures.within (λ z. absurd (omega (arith, z, c.if-byte_at-ne123.false))) in
-    opens_between c.args.text.now c.args.start 123 here (sym c.byte_at.ensures.value ∙ c.if-byte_at-ne123.false) refl c.requires.begins
+    opens_between c.args.text.now c.args.start 123 here (sym c.byte_at.ensures.value ∙ c.if-byte_at-ne123.false) refl c.requires.front.begins
 
 pub returns-in-End-next-clause-leads : goal.returns-in-End-next-clause-leads
 returns-in-End-next-clause-leads t c = λ v ls e.

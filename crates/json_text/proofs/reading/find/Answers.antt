@@ -9,8 +9,8 @@ use Rattle.json_text.specs.Ways.{placed}
 use Rattle.json_text.proofs.Ways.{stands_between}
 use Rattle.json_text.proofs.reading.find.Goals as goal
 
-pub follow-requires : goal.follow-requires
-follow-requires c = record {
+pub follow-requires-clause-front : goal.follow-requires-clause-front
+follow-requires-clause-front c = record {
   fits = c.whitespace_end-start.ensures.bounds.1;
   begins = c.whitespace_end-start.ensures.between refl;
   solid = c.whitespace_end-start.ensures.stops;

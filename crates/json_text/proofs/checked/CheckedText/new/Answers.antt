@@ -12,3 +12,6 @@ returns-then-branch-clause-shallow c = accepted c.args.text.now (c.in_ok-is_vali
 
 pub returns-in-Some-clause-shallow : goal.returns-in-Some-clause-shallow
 returns-in-Some-clause-shallow c = rw c.in-Some.ensures.text at (accepted c.in-Some.checked.text.now c.in-Some.checked.read)
+
+pub invariant_of-result-clause-known : goal.invariant_of-result-clause-known
+invariant_of-result-clause-known c = c.none-places.ensures c.args.text.now

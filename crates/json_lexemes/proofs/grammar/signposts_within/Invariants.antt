@@ -1,10 +1,11 @@
 use Rattle.std.proofs.Common.{◌≡◌, ◌-◌, ◌≤◌, length}
 use Rattle.json.specs.Json.{Json}
 use Rattle.json.specs.Tree.{depth}
-use Rattle.json_lexemes.specs.Places.{left_at}
+use Rattle.json_lexemes.specs.Places.{left_at, IsEnd}
+use Rattle.json_lexemes.specs.Followed.{IsAhead}
 use Rattle.json_lexemes.specs.Spelled.{Says}
 use Rattle.json_lexemes.specs.Grammar.{AreStops, Begins, innermost}
-use Rattle.json_lexemes.proofs.grammar.is_json_within.Given as goal
+use Rattle.json_lexemes.proofs.grammar.signposts_within.Given as goal
 
 abbrev pub invariant-loop-next : goal.invariant-loop-next
 invariant-loop-next l = record {
@@ -13,7 +14,9 @@ invariant-loop-next l = record {
   room : l.depth ≤ l.most;
   most : l.most ≤ 128;
   levels : l.most ≤ l.levels;
-  stops : AreStops l.text l.stops.base l.stops.bits;
+  end : IsEnd l.text l.i;
+  ahead : IsAhead l.text l.seen.signposts l.depth l.i;
+  stops : AreStops l.text l.seen.stops.base l.seen.stops.bits;
   follows : Begins (l.most - l.depth) (innermost l.objects l.depth) (left_at l.text l.i) → (j : Json) × Says l.text j × (depth j ≤ l.levels);
 }
 

@@ -1,0 +1,5 @@
+use Rattle.json_text.proofs.Readable.{readable}
+use Rattle.json_text.proofs.checked.CheckedText.signposted.Goals as goal
+
+pub invariant_of-result : goal.invariant_of-result
+invariant_of-result c = record { read = readable c.args.text.now c.requires.shallow; known = c.places-places.ensures c.args.text.now c.requires.signposts }
