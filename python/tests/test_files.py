@@ -177,6 +177,12 @@ class Replaced(unittest.TestCase):
         self.assertEqual((self.file.read_bytes(), self.backup.read_bytes()), (b"newer", NEW))
         self.assertEqual(len(list(self.folder.iterdir())), 2)
 
+    def test_no_folder_becomes_a_file(self):
+        for name in "new/", "new/.", "new/..":
+            with self.assertRaises(IsADirectoryError):
+                _files.replace(os.path.join(self.folder, name), NEW)
+        self.assertEqual(list(self.folder.iterdir()), [self.file])
+
     def test_faults_leave_nothing(self):
         for name in ("write", "fsync", "fchmod", "replace"):
             with unittest.mock.patch(f"os.{name}", side_effect=OSError(28, "No space left on device")):

@@ -1,6 +1,7 @@
 """Files for the command: read whole, and written so that nothing is lost if it is killed."""
 from __future__ import annotations
 
+import errno
 import os
 import signal
 import stat
@@ -12,6 +13,8 @@ STANDARD = "-"
 _INPUT, OUTPUT, ERRORS = 0, 1, 2
 _SIGNALS = signal.valid_signals()
 _ACL = "system.posix_acl_access"
+# what a folder's name ends with
+_FOLDERS = ("", os.curdir, os.pardir)
 # as many as the system follows
 _MOST_LINKS = 40
 # where a text comes from or goes: a file's name, or the number of one that is open
@@ -110,6 +113,9 @@ def replace(name: str, content: bytes, keeps_old: bool = False) -> None:
     if there and not stat.S_ISREG(there.st_mode):
         _write_over(name, content)
         return
+    # of a folder that isn't there realpath would make a file's name
+    if os.path.basename(name) in _FOLDERS:
+        raise IsADirectoryError(errno.EISDIR, os.strerror(errno.EISDIR))
     name = os.path.realpath(name)
     with _signals_wait():
         like = name if there else None
