@@ -189,7 +189,7 @@ closed_here t o ob i k h fits b l f =
 
 -- ---- of all
 
-pub entered : (t : List ℕ) (x y : Signposts) (ob : Bool) (start d i k : ℕ) → d ≡ x.depth → d < 16 → y.depth ≡ d + 1 → y.nest ≡ set x.nest d (record { start = start; number = 0; kept = start }) → AreSignposts t y
+pub entered : (t : List ℕ) (x y : Signposts) (ob : Bool) (start d i k : ℕ) → d ≡ x.depth → d < 4 → y.depth ≡ d + 1 → y.nest ≡ set x.nest d (record { start = start; number = 0; kept = start }) → AreSignposts t y
     → start < k → i ≤ k → left_at t start ≡ left_at t i → Opens t ob i k → IsAhead t x d i → IsAhead t y (d + 1) k
 entered t x y ob start d i k here room deep nest signposts h le same p a = record {
   few = omega (arith, deep);
@@ -294,10 +294,6 @@ array_on t x y d i k m kept some here same counted low nest signposts h c a = re
         subst (λ z. Ahead t k z (get_or y.nest e o)) (sym n)
         (subst (Ahead t k 0) (sym (ap (λ z. get_or z e o) nest ∙ ap (λ z. get_or (set x.nest (d - 1) put) z o) top ∙ get_or-set_same x.nest (d - 1) put o (omega (arith, a.size, a.room, here, some))))
         (array_top t (get_or x.nest (d - 1) no_open) i k m kept h counted low c (innermost_behind t x d i some here a)))
-
-pub last_low : (a b i k : ℕ) → (a ≡ b) ⊎ (a ≡ k) → b ≤ i → i < k → a ≤ k
-last_low a b i k (inl e) h l = omega (arith, e, h, l)
-last_low a b i k (inr e) h l = omega (arith, e)
 
 -- one is put in the place of another
 pub set_known : {A : Type 0} (P : A → Type 0) (xs : List A) (at n : ℕ) (v : A) → at < length xs → P v → ((k : ℕ) (d : A) → k ≤ n → k ≢ at → P (get_or xs k d)) → (k : ℕ) (d : A) → k ≤ n → P (get_or (set xs at v) k d)

@@ -29,8 +29,8 @@ Behind t i n o = Follows t o i (if_open n (left_at t i) (skip n (left_at t i))) 
 -- d are open at i, of which those that are followed are as R says
 pub record Tracks (R : ℕ → Open → Type 0) (t : List ℕ) (x : Signposts) (d : ℕ) : Type 0 where
   pub few : x.depth ≤ d
-  pub room : x.depth ≤ 16
-  pub size : length x.nest ≡ 16
+  pub room : x.depth ≤ 4
+  pub size : length x.nest ≡ 4
   pub signposts : AreSignposts t x
   pub each : (e : ℕ) (o : Open) → e < x.depth → R (d - suc e) (get_or x.nest e o)
 

@@ -135,11 +135,11 @@ fn past_value(text: &[u8], from: usize, object: bool, stops: &mut Stops) -> Opti
     }
 }
 
-/// What a check has seen on its way.
-#[derive(Drop)]
-struct Seen {
-    stops: Stops,
-    signposts: Signposts,
+/// The objects and arrays that are open, of which each is told whether it is an object.
+#[derive(Clone, Copy, Drop)]
+struct Nest<'a> {
+    objects: &'a [bool],
+    depth: usize,
 }
 
 /// Behind a value: past the closing brackets and a comma, the place from which the next value is to come and how
@@ -148,78 +148,81 @@ struct Seen {
 fn past_closing(
     text: &[u8],
     from: usize,
-    objects: &[bool],
-    depth: usize,
-    seen: &mut Seen,
+    nest: Nest,
+    stops: &mut Stops,
+    signposts: &mut Signposts,
 ) -> Option<(usize, usize)>
     requires within { from ≤ length text.now }
-    requires fits { depth ≤ length objects.now }
+    requires fits { nest.depth ≤ length nest.objects.now }
     requires end { IsEnd text.now from }
-    requires behind { IsBehind text.now seen.old.signposts depth from }
-    requires stops { AreStops text.now seen.old.stops.base seen.old.stops.bits }
-    ensures bounds { IfSome result (λ r. (from ≤ r.0) × (r.0 ≤ length text.now) × (r.1 ≤ depth)) }
+    requires behind { IsBehind text.now signposts.old nest.depth from }
+    requires stops { AreStops text.now stops.old.base stops.old.bits }
+    ensures bounds { IfSome result (λ r. (from ≤ r.0) × (r.0 ≤ length text.now) × (r.1 ≤ nest.entry.depth)) }
     ensures next { IfSome result (λ r. (0 < r.1) → (from < r.0) × ((n : ℕ)
-        → Begins (n + (depth - r.1)) (innermost objects.now r.1) (left_at text.now r.0)
-        → Completes n (innermost objects.now depth) (left_at text.now from))) }
+        → Begins (n + (nest.entry.depth - r.1)) (innermost nest.entry.objects.now r.1) (left_at text.now r.0)
+        → Completes n (innermost nest.entry.objects.now nest.entry.depth) (left_at text.now from))) }
     ensures last { IfSome result (λ r. r.1 ≡ 0 → left_at text.now r.0 ≡ [] → (n : ℕ)
-        → Completes n (innermost objects.now depth) (left_at text.now from)) }
+        → Completes n (innermost nest.entry.objects.now nest.entry.depth) (left_at text.now from)) }
     ensures end { IfSome result (λ r. IsEnd text.now r.0) }
-    ensures ahead { IfSome result (λ r. 0 < r.1 → IsAhead text.now seen.new.signposts r.1 r.0) }
-    ensures signposts { IfSome result (λ r. AreSignposts text.now seen.new.signposts) }
-    ensures stops { AreStops text.now seen.new.stops.base seen.new.stops.bits }
+    ensures ahead { IfSome result (λ r. 0 < r.1 → IsAhead text.now signposts.new r.1 r.0) }
+    ensures signposts { IfSome result (λ r. AreSignposts text.now signposts.new) }
+    ensures stops { AreStops text.now stops.new.base stops.new.bits }
 {
-    let mut nested = depth;
+    let mut nested = nest.depth;
     let mut i = from;
     while nested > 0 {
-        let object = objects[nested - 1];
-        let (next, more) = past_value(text, i, object, &mut seen.stops)?;
+        let object = nest.objects[nested - 1];
+        let (next, more) = past_value(text, i, object, stops)?;
         if more {
             if object {
                 return Some((next, nested));
             }
-            seen.signposts.go_on(next, nested);
+            signposts.go_on(next, nested);
             return Some((next, nested));
         }
-        seen.signposts.leave(next, nested);
+        signposts.leave(next, nested);
         i = next;
         nested -= 1;
     }
     Some((i, nested))
 }
 
-/// The places of a text that is JSON (RFC 8259), with no unpaired surrogate such as `"\ud800"`, and opens at most
+/// The signposts of a text that is JSON (RFC 8259), with no unpaired surrogate such as `"\ud800"`, and opens at most
 /// `levels` objects and arrays at once, 128 at the most: `[[1], 2]` is within 2 levels, and not within 1.
 ///
 /// An answer is proved to mean this; `None` isn't proved to mean the opposite. It is meant to come for a text
 /// that isn't JSON and for one that opens more, so a caller may ask a slower check before it refuses one.
-/// Whether the bytes are UTF-8 isn't looked at. One pass, and no memory is taken.
-pub fn signposts_within(text: &[u8], levels: usize) -> Option<Signposts>
+/// Whether the bytes are UTF-8 isn't looked at. One pass, and no memory is taken. Where signposts aren't `wanted`, or
+/// the text is short, there are none.
+pub fn signposts_within(text: &[u8], levels: usize, wanted: bool) -> Option<Signposts>
     ensures says { IfSome result (λ _. (j : Json) × Says text.now j × (depth j ≤ levels)) }
     ensures signposts { IfSome result (AreSignposts text.now) }
 {
     let most = if levels < MOST { levels } else { MOST };
     let mut objects = [false; MOST];
     let mut depth = 0;
-    let stops = Stops { base: 0, bits: 0 };
-    let signposts = Signposts::new(text.len());
-    let mut seen = Seen { stops, signposts };
+    let mut stops = Stops { base: 0, bits: 0 };
+    let mut signposts = Signposts::new(text.len(), wanted);
     let mut i = 0;
     loop {
-        let Some((next, opened)) = past_begin(text, i, depth < most, &mut seen.stops) else {
+        let Some((next, opened)) = past_begin(text, i, depth < most, &mut stops) else {
             return None;
         };
         if let Some(opened) = opened {
-            seen.signposts.enter(opened.start, depth);
+            signposts.enter(opened.start, depth);
             objects[depth] = opened.object;
             depth += 1;
             i = next;
         } else {
-            let Some((place, nested)) = past_closing(text, next, &objects, depth, &mut seen) else {
+            let objects = &objects;
+            let nest = Nest { objects, depth };
+            let Some((place, nested)) = past_closing(text, next, nest, &mut stops, &mut signposts)
+            else {
                 return None;
             };
             if nested == 0 {
                 return if whitespace_end(text, place) == text.len() {
-                    Some(seen.signposts)
+                    Some(signposts)
                 } else {
                     None
                 };
@@ -230,9 +233,9 @@ pub fn signposts_within(text: &[u8], levels: usize) -> Option<Signposts>
     }
 }
 
-/// Whether [`signposts_within`] finds the text to be so.
+/// Whether [`signposts_within`] finds the text to be so: it is faster where none are wanted.
 pub fn is_json_within(text: &[u8], levels: usize) -> bool
     ensures { IsTrue result → (j : Json) × Says text.now j × (depth j ≤ levels) }
 {
-    signposts_within(text, levels).is_some()
+    signposts_within(text, levels, false).is_some()
 }

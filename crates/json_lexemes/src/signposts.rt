@@ -16,7 +16,7 @@ use crate::span::Span;
 const ROOM: usize = 32;
 
 /// So many objects and arrays that are open at once are followed, the outermost first.
-const LEVELS: usize = 16;
+const LEVELS: usize = 4;
 
 /// What is shorter is passed over sooner than looked up.
 const LEAST: usize = 1024;
@@ -55,6 +55,8 @@ pub struct Signposts {
     depth: usize,
     /// What is shorter isn't kept.
     apart: usize,
+    /// So many that are open are followed, the outermost first.
+    levels: usize,
 }
 
 /// Puts one more among so many, in the order of the starts.
@@ -72,8 +74,8 @@ fn insert(spans: &mut [Span; ROOM], count: usize, span: Span)
 }
 
 impl Signposts {
-    /// One for a text of so many bytes, with no places as yet.
-    pub(crate) fn new(len: usize) -> Signposts
+    /// None as yet, for a text of so many bytes; and none to come, unless they are wanted and it is long.
+    pub(crate) fn new(len: usize, wanted: bool) -> Signposts
         ensures { (t : List ℕ) → IsAhead t result 0 0 }
     {
         Signposts {
@@ -92,6 +94,7 @@ impl Signposts {
             }; LEVELS],
             depth: 0,
             apart: (len / ROOM).max(LEAST),
+            levels: if wanted && len > LEAST { LEVELS } else { 0 },
         }
     }
 
@@ -102,7 +105,7 @@ impl Signposts {
             → start < k → i ≤ k → left_at t start ≡ left_at t i → Opens t object i k
             → IsAhead t self.new (depth + 1) k }
     {
-        if depth == self.depth && depth < LEVELS {
+        if depth == self.depth && depth < self.levels && depth < LEVELS {
             self.nest[depth] = Open {
                 start,
                 number: 0,
@@ -112,16 +115,15 @@ impl Signposts {
         }
     }
 
-    /// Keeps a place of an array, if it is far from the last one, and tells which is the last now.
-    fn keep_step(&mut self, array: Open, place: usize) -> usize
+    /// Keeps a place of an array, if there is room.
+    fn keep_step(&mut self, array: Open, place: usize)
         ensures signposts { (t : List ℕ) → AreSignposts t self.old
             → IsStep t (record { array = array.start; number = array.number; place = place })
             → AreSignposts t self.new }
         ensures nest { (self.new.nest ≡ self.old.nest) × (self.new.depth ≡ self.old.depth) }
-        ensures last { (result ≡ array.kept) ⊎ (result ≡ place) }
     {
-        if place.saturating_sub(array.kept) < self.apart || self.stepped >= ROOM {
-            return array.kept;
+        if self.stepped >= ROOM {
+            return;
         }
         let (array, number) = (array.start, array.number);
         self.steps[self.stepped] = Step {
@@ -130,13 +132,12 @@ impl Signposts {
             place,
         };
         self.stepped += 1;
-        place
     }
 
     /// An array, the innermost of so many that are open, goes on at `place`, behind a comma.
     #[inline(always)]
     pub(crate) fn go_on(&mut self, place: usize, depth: usize)
-        requires { (0 < depth) × (self.old.depth ≤ 16) }
+        requires { (0 < depth) × (self.old.depth ≤ 4) }
         ensures { (t : List ℕ) (i : ℕ) → IsBehind t self.old depth i → i < place → place ≤ length t
             → IsBehindComma t place → Continues t false i place → IsAhead t self.new depth place }
     {
@@ -145,17 +146,23 @@ impl Signposts {
         }
         let mut array = self.nest[depth - 1];
         array.number = array.number.saturating_add(1);
-        array.kept = self.keep_step(array, place);
+        // Most are near the last that is kept.
+        if place.wrapping_sub(array.kept) < self.apart {
+            self.nest[depth - 1] = array;
+            return;
+        }
+        self.keep_step(array, place);
+        array.kept = place;
         self.nest[depth - 1] = array;
     }
 
-    /// Keeps where something long ends.
+    /// Keeps where something long ends, if there is room.
     fn keep_end(&mut self, start: usize, end: usize)
         ensures signposts { (t : List ℕ) → AreSignposts t self.old → IsPassed t (record { start = start; end = end })
             → AreSignposts t self.new }
         ensures nest { (self.new.nest ≡ self.old.nest) × (self.new.depth ≡ self.old.depth) }
     {
-        if end.saturating_sub(start) < self.apart || self.ended >= ROOM {
+        if self.ended >= ROOM {
             return;
         }
         insert(&mut self.spans, self.ended, Span { start, end });
@@ -165,15 +172,21 @@ impl Signposts {
     /// The innermost of so many that are open is closed before `end`.
     #[inline(always)]
     pub(crate) fn leave(&mut self, end: usize, depth: usize)
-        requires { (0 < depth) × (self.old.depth ≤ 16) }
+        requires { (0 < depth) × (self.old.depth ≤ 4) }
         ensures { (t : List ℕ) (object : Bool) (i : ℕ) → IsBehind t self.old depth i → i < end → end ≤ length t
-            → IsBehindBracket t end → left_at t i ≡ closing object ∷ left_at t end → IsBehind t self.new (depth - 1) end }
+            → IsBehindBracket t end → left_at t i ≡ closing object ∷ left_at t end
+            → IsBehind t self.new (depth - 1) end }
     {
         if depth != self.depth {
             return;
         }
         self.depth = depth - 1;
-        self.keep_end(self.nest[depth - 1].start, end);
+        let start = self.nest[depth - 1].start;
+        // Most are short.
+        if end.wrapping_sub(start) < self.apart {
+            return;
+        }
+        self.keep_end(start, end);
     }
 
     /// The places.

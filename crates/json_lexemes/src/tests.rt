@@ -90,7 +90,7 @@ fn are_found(text: &[u8], places: Places) -> bool
 #[test]
 fn places(rt: HostRuntime) {
     let text = long_array();
-    let signposts = signposts_within(&text, 2);
+    let signposts = signposts_within(&text, 2, true);
     assert!(rt; signposts.is_some());
     if let Some(signposts) = signposts {
         let places = signposts.places();

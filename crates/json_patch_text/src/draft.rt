@@ -42,7 +42,10 @@ impl WholeText<'_> {
         requires { (j : Json) × IsShallowText (whole_text self.now) j }
         ensures { text_in result ≡ whole_text self.now }
     {
-        CheckedText::known(self.as_str())
+        match self {
+            WholeText::Kept(text) => *text,
+            WholeText::Made(text) => CheckedText::known(text.as_str()),
+        }
     }
 
     /// A copy of the text of the value where the pointer leads.

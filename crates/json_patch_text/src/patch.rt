@@ -68,9 +68,17 @@ pub(crate) fn document<'a>(
     }
 }
 
+/// A patch of more bytes has more operations than are made on a text as a whole, by its signposts, or long values.
+const SHORT: usize = 1024;
+
+pub(crate) fn is_short(patch: &str) -> bool {
+    patch.len() <= SHORT
+}
+
 /// The signposts of the document's text, where it is found to be within so many levels without the reader.
 pub(crate) fn document_within(
     text: &str,
+    patch: &str,
     levels: usize,
 ) -> Result<Option<Signposts>, PatchTextFault>
     ensures signposts { IfOk result (λ found. IfSome found (AreSignposts text.now)) }
@@ -79,7 +87,7 @@ pub(crate) fn document_within(
     ensures fault { IfErr result (λ fault. (fault ≡ Document TooDeep) × (levels < nesting text.now)) }
 {
     // One pass checks the text and how deep it nests, where nothing is wrong with it.
-    let signposts = CheckedText::signposts(text, levels);
+    let signposts = CheckedText::signposts(text, levels, is_short(patch));
     if signposts.is_none() && is_deeper(text, levels) {
         return Err(PatchTextFault::Document(TextFault::TooDeep));
     }
@@ -149,7 +157,7 @@ pub fn patch_text(alloc: Global, text: &str, patch: &str) -> Result<String, Patc
     ensures fault { IfErr result (IsPatchTextFault text.now patch.now) }
 {
     let operations = operations_in(alloc, patch)?;
-    let signposts = CheckedText::signposts(text, MAX_DEPTH);
+    let signposts = CheckedText::signposts(text, MAX_DEPTH, is_short(patch));
     let document = document(alloc, text, signposted(text, &signposts))?;
     let mut log = Log::new(alloc, false);
     match run(&mut log, document, operations.as_slice(), None) {
@@ -200,7 +208,7 @@ pub fn patch_text_within(
         (λ new. IsTextWithin limits (most_bytes limits text.now patch.now) (string_bytes new)) }
     ensures fault { IfErr result (IsTextLimitFault limits text.now patch.now) }
 {
-    let signposts = document_within(text, limits.depth)?;
+    let signposts = document_within(text, patch, limits.depth)?;
     patched(alloc, text, signposted(text, &signposts), patch, limits)
 }
 

@@ -12,7 +12,7 @@ ghost use Rattle.json_text.specs.Checked.{text_in};
 use crate::bounds::Bounds;
 use crate::fault::{PatchTextFault, TextLimitFault};
 use crate::log::Log;
-use crate::patch::{document, document_within, operations_in, signposted};
+use crate::patch::{document, document_within, is_short, operations_in, signposted};
 use crate::run::run;
 use json::MAX_DEPTH;
 use json_patch_limits::limits::Limits;
@@ -55,7 +55,7 @@ pub fn record_text(alloc: Global, text: &str, patch: &str) -> Result<Recorded, P
     ensures fault { IfErr result (IsPatchTextFault text.now patch.now) }
 {
     let operations = operations_in(alloc, patch)?;
-    let signposts = CheckedText::signposts(text, MAX_DEPTH);
+    let signposts = CheckedText::signposts(text, MAX_DEPTH, is_short(patch));
     let document = document(alloc, text, signposted(text, &signposts))?;
     let mut log = Log::new(alloc, true);
     match run(&mut log, document, operations.as_slice(), None) {
@@ -106,7 +106,7 @@ pub fn record_text_within(
         (λ r. IsUndoWithin limits (most_bytes limits text.now patch.now) (string_bytes r.undo)) }
     ensures fault { IfErr result (IsRecordLimitFault limits text.now patch.now) }
 {
-    let signposts = document_within(text, limits.depth)?;
+    let signposts = document_within(text, patch, limits.depth)?;
     recording(alloc, text, signposted(text, &signposts), patch, limits)
 }
 

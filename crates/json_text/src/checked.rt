@@ -7,7 +7,7 @@ ghost use Rattle.json_lexemes.specs.Signposts.{ArePlaces, ArePlaces-prop};
 use crate::TextFault;
 use crate::reading::{find, is_deeper};
 use json::{MAX_DEPTH, Scratch, is_valid};
-use json_lexemes::{Places, Signposts, signposts_within};
+use json_lexemes::{Places, Signposts, is_json_within, signposts_within};
 use jsonptr::Pointer;
 use std::alloc::{AllocError, Global};
 
@@ -71,24 +71,26 @@ impl<'a> CheckedText<'a> {
         ensures text { IfSome result (λ checked. text_in checked ≡ text.now) }
         ensures depth { OnSome result (nesting text.now ≤ levels) }
     {
-        match CheckedText::signposts(text, levels) {
-            Some(_) => Some(CheckedText::known(text)),
-            None => None,
+        if is_json_within(text.as_bytes(), levels.min(MAX_DEPTH)) {
+            Some(CheckedText::known(text))
+        } else {
+            None
         }
     }
 
-    /// What [`CheckedText::signposted`] needs, where [`CheckedText::within`] finds that the text is JSON.
+    /// What [`CheckedText::signposted`] needs, where [`CheckedText::within`] finds that the text is JSON. Signposts that
+    /// aren't wanted take no time.
     ///
     /// ```rust
-    /// let signposts = CheckedText::signposts(r#"{"list": [1.50, 2] }"#, 2);
+    /// let signposts = CheckedText::signposts(r#"{"list": [1.50, 2] }"#, 2, true);
     /// // Some: the array stands in the object
     /// ```
-    pub fn signposts(text: &str, levels: usize) -> Option<Signposts>
+    pub fn signposts(text: &str, levels: usize, wanted: bool) -> Option<Signposts>
         ensures signposts { IfSome result (AreSignposts text.now) }
         ensures shallow { OnSome result ((j : Json) × IsShallowText text.now j) }
         ensures depth { OnSome result (nesting text.now ≤ levels) }
     {
-        signposts_within(text.as_bytes(), levels.min(MAX_DEPTH))
+        signposts_within(text.as_bytes(), levels.min(MAX_DEPTH), wanted)
     }
 
     /// A text with its signposts, so that its calls pass over few of the bytes before their places where it is long.

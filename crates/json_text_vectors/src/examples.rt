@@ -108,7 +108,7 @@ fn is_of_two_levels() -> bool {
 }
 
 fn has_signposts() -> bool {
-    let signposts = CheckedText::signposts(r#"{"list": [1.50, 2] }"#, 2);
+    let signposts = CheckedText::signposts(r#"{"list": [1.50, 2] }"#, 2, true);
     signposts.is_some()
 }
 

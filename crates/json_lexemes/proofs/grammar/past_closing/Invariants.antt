@@ -8,11 +8,11 @@ abbrev pub invariant-loop-nested : goal.invariant-loop-nested
 invariant-loop-nested l = record {
   low : l.from ≤ l.i;
   high : l.i ≤ length l.text;
-  fewer : l.nested ≤ l.depth;
+  fewer : l.nested ≤ l.nest.depth;
   end : IsEnd l.text l.i;
-  behind : IsBehind l.text l.seen.signposts l.nested l.i;
-  stops : AreStops l.text l.seen.stops.base l.seen.stops.bits;
-  follows : (n : ℕ) → Completes (n + (l.depth - l.nested)) (innermost l.objects l.nested) (left_at l.text l.i) → Completes n (innermost l.objects l.depth) (left_at l.text l.from);
+  behind : IsBehind l.text l.signposts l.nested l.i;
+  stops : AreStops l.text l.stops.base l.stops.bits;
+  follows : (n : ℕ) → Completes (n + (l.nest.depth - l.nested)) (innermost l.nest.objects.now l.nested) (left_at l.text l.i) → Completes n (innermost l.nest.objects.now l.nest.depth) (left_at l.text l.from);
 }
 
 abbrev pub decreases-loop-nested : goal.decreases-loop-nested

@@ -15,7 +15,7 @@ past_closing-requires-clause-behind c =
     let d = c.loop-next.depth in
     let most = c.if-levels-lt-MOST.most in
     let whole = subst (λ r. IfNone r (Spells t (cond (nat_lt d most) 1 0) c.loop-next.i c.in-Some.next)) c.in_default-opened.is c.in-Some.ensures.whole in
-    valued t c.loop-next.seen.signposts _ d c.loop-next.i c.in-Some.next (omega (arith, c.in-Some.ensures.bounds)) whole c.loop-next.invariant.ahead
+    valued t c.loop-next.signposts _ d c.loop-next.i c.in-Some.next (omega (arith, c.in-Some.ensures.bounds)) whole c.loop-next.invariant.ahead
 
 pub loop-next-preserved-in-Some-opened : goal.loop-next-preserved-in-Some-opened
 loop-next-preserved-in-Some-opened c =

@@ -15,8 +15,8 @@ invariant-loop-next l = record {
   most : l.most ≤ 128;
   levels : l.most ≤ l.levels;
   end : IsEnd l.text l.i;
-  ahead : IsAhead l.text l.seen.signposts l.depth l.i;
-  stops : AreStops l.text l.seen.stops.base l.seen.stops.bits;
+  ahead : IsAhead l.text l.signposts l.depth l.i;
+  stops : AreStops l.text l.stops.base l.stops.bits;
   follows : Begins (l.most - l.depth) (innermost l.objects l.depth) (left_at l.text l.i) → (j : Json) × Says l.text j × (depth j ≤ l.levels);
 }
 

@@ -8,6 +8,6 @@ returns-clause-signposts c = λ t a s.
     let n = c.args.self.now.stepped in
     record {
       spans = a.spans;
-      steps = λ k d l. set_known (IsStep t) c.args.self.now.steps n n _ (omega (arith, c.fits-self)) s (λ m e le other. a.steps m e (grind (arith, le, other))) k d (omega (arith, l));
+      steps = λ k d l. set_known (IsStep t) c.args.self.now.steps n n _ (omega arith) s (λ m e le other. a.steps m e (grind (arith, le, other))) k d (omega (arith, l));
       room = (a.room.0, omega arith);
     }

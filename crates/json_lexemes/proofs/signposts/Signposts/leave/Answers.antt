@@ -7,6 +7,10 @@ returns-then-depth-self c = λ t object i a h l b p.
     let x = c.args.self.now in
     bracket_passed t x x object c.args.depth i c.args.end (grind (arith, a.few, c.if-depth-self.true)) (omega arith) refl a.signposts (omega (arith, h)) p a
 
+pub returns-then-end-start : goal.returns-then-end-start
+returns-then-end-start c = λ t object i a h l b p.
+    bracket_passed t c.args.self.now _ object c.args.depth i c.args.end (omega arith) (omega (arith, a.few, c.if-depth-self.false)) refl (record { spans = a.signposts.spans; steps = a.signposts.steps; room = a.signposts.room }) (omega (arith, h)) p a
+
 pub returns : goal.returns
 returns c = λ t object i a h l b p.
     let x = c.args.self.now in
