@@ -78,8 +78,8 @@ impl<'a> CheckedText<'a> {
         }
     }
 
-    /// What [`CheckedText::signposted`] needs, where [`CheckedText::within`] finds that the text is JSON. Signposts that
-    /// aren't wanted take no time.
+    /// What [`CheckedText::signposted`] needs, where [`CheckedText::within`] finds that the text is JSON. That it
+    /// has any isn't proved, and where they aren't `wanted` it has none, and is made sooner.
     ///
     /// ```rust
     /// let signposts = CheckedText::signposts(r#"{"list": [1.50, 2] }"#, 2, true);
