@@ -24,10 +24,11 @@ IMPORTS = ("pass", "import json_patch", "import jsonpatch", "import json")
 OBJECT = {"name": "row", "tags": ["a", "b"], "done": False}
 
 
-def made(rows):
-    """A document of so many rows, and the same with another row in its middle."""
+def made(rows, *places):
+    """A document of so many rows, and the same with another row at each of these places, or in its middle."""
     document, other = workloads.rows(rows), workloads.rows(rows)
-    other["rows"][rows // 2] = OBJECT
+    for place in places or (rows // 2,):
+        other["rows"][place] = OBJECT
     return document, other
 
 
@@ -51,6 +52,7 @@ CALLS = [
     ("make_patch, one row alone", "make", 2_000, made(1)),
     ("make_patch, one row of 1 kB", "make", 500, made(14)),
     ("make_patch, one row of 100 kB", "make", 10, made(1_450)),
+    ("make_patch, two rows of 100 kB", "make", 10, made(1_450, 100, 1_300)),
 ]
 
 

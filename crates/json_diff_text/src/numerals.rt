@@ -1,6 +1,6 @@
 //! The numerals of texts, each at a place that stands for it.
 
-ghost use Rattle.std.specs.Prelude.{◌≡◌, [], IfOk, IfSome, List, OnOk, Some, map, slice_get, ℕ};
+ghost use Rattle.std.specs.Prelude.{◌≡◌, [], IfOk, IfSome, List, OnOk, Some, slice_get, ℕ};
 ghost use Rattle.json.specs.Print.{IsNumber};
 ghost use Rattle.json_number.specs.Numbers.{SameNumber};
 ghost use Rattle.json_diff_text.specs.Numerals.{AreNumbers, Grows};

@@ -1,6 +1,6 @@
 //! Documents written with the numerals in the place of the numbers.
 
-ghost use Rattle.std.specs.Prelude.{◌≡◌, ◌≤◌, IfOk};
+ghost use Rattle.std.specs.Prelude.{◌≤◌, IfOk};
 ghost use Rattle.std.specs.String.{string_bytes};
 ghost use Rattle.json.specs.Json.{max_depth};
 ghost use Rattle.json_lexemes.specs.Spelled.{Says};

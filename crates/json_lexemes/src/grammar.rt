@@ -1,6 +1,6 @@
 //! A check of a whole text against the grammar of JSON, in one pass, with no recursion and no memory taken.
 
-ghost use Rattle.std.specs.Prelude.{◌≡◌, ◌<◌, ◌≤◌, ◌+◌, ◌-◌, ◌∷◌, ℕ, IsTrue, [], cond, true, false, length, get_or, IfNone, IfSome};
+ghost use Rattle.std.specs.Prelude.{◌≡◌, ◌<◌, ◌≤◌, ◌+◌, ◌-◌, ◌∷◌, ℕ, IsTrue, [], cond, true, false, length, IfNone, IfSome};
 ghost use Rattle.json.specs.Json.{Json};
 ghost use Rattle.json.specs.Lex.{operator_lexeme};
 ghost use Rattle.json.specs.Word.{is_operator};
@@ -135,11 +135,13 @@ fn past_value(text: &[u8], from: usize, object: bool, stops: &mut Stops) -> Opti
     }
 }
 
-/// The objects and arrays that are open, of which each is told whether it is an object.
+/// The objects and arrays that are open, of which each is told whether it is an object, and whether signposts are
+/// wanted of them.
 #[derive(Clone, Copy, Drop)]
 struct Nest<'a> {
     objects: &'a [bool],
     depth: usize,
+    wanted: bool,
 }
 
 /// Behind a value: past the closing brackets and a comma, the place from which the next value is to come and how
@@ -155,7 +157,7 @@ fn past_closing(
     requires within { from ≤ length text.now }
     requires fits { nest.depth ≤ length nest.objects.now }
     requires end { IsEnd text.now from }
-    requires behind { IsBehind text.now signposts.old nest.depth from }
+    requires behind { nest.wanted ≡ true → IsBehind text.now signposts.old nest.depth from }
     requires stops { AreStops text.now stops.old.base stops.old.bits }
     ensures bounds { IfSome result (λ r. (from ≤ r.0) × (r.0 ≤ length text.now) × (r.1 ≤ nest.entry.depth)) }
     ensures next { IfSome result (λ r. (0 < r.1) → (from < r.0) × ((n : ℕ)
@@ -164,8 +166,8 @@ fn past_closing(
     ensures last { IfSome result (λ r. r.1 ≡ 0 → left_at text.now r.0 ≡ [] → (n : ℕ)
         → Completes n (innermost nest.entry.objects.now nest.entry.depth) (left_at text.now from)) }
     ensures end { IfSome result (λ r. IsEnd text.now r.0) }
-    ensures ahead { IfSome result (λ r. 0 < r.1 → IsAhead text.now signposts.new r.1 r.0) }
-    ensures signposts { IfSome result (λ r. AreSignposts text.now signposts.new) }
+    ensures ahead { IfSome result (λ r. nest.entry.wanted ≡ true → 0 < r.1 → IsAhead text.now signposts.new r.1 r.0) }
+    ensures signposts { IfSome result (λ r. nest.entry.wanted ≡ true → AreSignposts text.now signposts.new) }
     ensures stops { AreStops text.now stops.new.base stops.new.bits }
 {
     let mut nested = nest.depth;
@@ -174,58 +176,49 @@ fn past_closing(
         let object = nest.objects[nested - 1];
         let (next, more) = past_value(text, i, object, stops)?;
         if more {
-            if object {
-                return Some((next, nested));
-            }
-            signposts.go_on(next, nested);
+            signposts.go_on(nest.wanted, object, next, nested);
             return Some((next, nested));
         }
-        signposts.leave(next, nested);
+        signposts.leave(nest.wanted, next, nested);
         i = next;
         nested -= 1;
     }
     Some((i, nested))
 }
 
-/// The signposts of a text that is JSON (RFC 8259), with no unpaired surrogate such as `"\ud800"`, and opens at most
-/// `levels` objects and arrays at once, 128 at the most: `[[1], 2]` is within 2 levels, and not within 1.
-///
-/// An answer is proved to mean this; `None` isn't proved to mean the opposite. It is meant to come for a text
-/// that isn't JSON and for one that opens more, so a caller may ask a slower check before it refuses one.
-/// Whether the bytes are UTF-8 isn't looked at. One pass, and no memory is taken. Where signposts aren't `wanted`, or
-/// the text is short, there are none.
-pub fn signposts_within(text: &[u8], levels: usize, wanted: bool) -> Option<Signposts>
-    ensures says { IfSome result (λ _. (j : Json) × Says text.now j × (depth j ≤ levels)) }
-    ensures signposts { IfSome result (AreSignposts text.now) }
+/// Whether a text is so, and its signposts, where they are wanted.
+#[inline(always)]
+fn is_checked(text: &[u8], levels: usize, wanted: bool, signposts: &mut Signposts) -> bool
+    requires { wanted ≡ true → IsAhead text.now signposts.old 0 0 }
+    ensures says { IsTrue result → (j : Json) × Says text.now j × (depth j ≤ levels) }
+    ensures signposts { IsTrue result → wanted ≡ true → AreSignposts text.now signposts.new }
 {
     let most = if levels < MOST { levels } else { MOST };
     let mut objects = [false; MOST];
     let mut depth = 0;
     let mut stops = Stops { base: 0, bits: 0 };
-    let mut signposts = Signposts::new(text.len(), wanted);
     let mut i = 0;
     loop {
         let Some((next, opened)) = past_begin(text, i, depth < most, &mut stops) else {
-            return None;
+            return false;
         };
         if let Some(opened) = opened {
-            signposts.enter(opened.start, depth);
+            signposts.enter(wanted, opened.start, depth);
             objects[depth] = opened.object;
             depth += 1;
             i = next;
         } else {
             let objects = &objects;
-            let nest = Nest { objects, depth };
-            let Some((place, nested)) = past_closing(text, next, nest, &mut stops, &mut signposts)
-            else {
-                return None;
+            let nest = Nest {
+                objects,
+                depth,
+                wanted,
+            };
+            let Some((place, nested)) = past_closing(text, next, nest, &mut stops, signposts) else {
+                return false;
             };
             if nested == 0 {
-                return if whitespace_end(text, place) == text.len() {
-                    Some(signposts)
-                } else {
-                    None
-                };
+                return whitespace_end(text, place) == text.len();
             }
             i = place;
             depth = nested;
@@ -233,9 +226,25 @@ pub fn signposts_within(text: &[u8], levels: usize, wanted: bool) -> Option<Sign
     }
 }
 
-/// Whether [`signposts_within`] finds the text to be so: it is faster where none are wanted.
+/// Whether a text is JSON (RFC 8259), with no unpaired surrogate such as `"\ud800"`, and opens at most `levels`
+/// objects and arrays at once, 128 at the most: `[[1], 2]` is within 2 levels, and not within 1.
+///
+/// `true` is proved to mean this; `false` isn't proved to mean the opposite. It is meant to come for a text
+/// that isn't JSON and for one that opens more, so a caller may ask a slower check before it refuses one.
+/// Whether the bytes are UTF-8 isn't looked at. One pass, and no memory is taken.
 pub fn is_json_within(text: &[u8], levels: usize) -> bool
     ensures { IsTrue result → (j : Json) × Says text.now j × (depth j ≤ levels) }
 {
-    signposts_within(text, levels, false).is_some()
+    let mut none = Signposts::new();
+    is_checked(text, levels, false, &mut none)
+}
+
+/// As [`is_json_within`], and where it is `true`, the signposts are the text's. It takes longer, by as much as
+/// there are commas and brackets.
+pub fn leaves_signposts(text: &[u8], levels: usize, signposts: &mut Signposts) -> bool
+    ensures says { IsTrue result → (j : Json) × Says text.now j × (depth j ≤ levels) }
+    ensures signposts { IsTrue result → AreSignposts text.now signposts.new }
+{
+    signposts.restart(text.len());
+    is_checked(text, levels, true, signposts)
 }

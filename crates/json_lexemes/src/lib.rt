@@ -7,8 +7,8 @@
 //!
 //! [`value_end`] passes over a value by counting brackets, [`first_named`], [`next_named`] and [`numbered`]
 //! find one in an object or an array, and [`is_name`] compares a name with its escapes read. [`is_json_within`] is the one
-//! check: that a whole text is JSON and nests no deeper than so many levels. It leaves [`Signposts`], by which the others
-//! need not pass over the long values before a place.
+//! check: that a whole text is JSON and nests no deeper than so many levels. [`leaves_signposts`] is the same check, and
+//! leaves what the others need so as not to pass over the long values before a place.
 #![tactic(auto)]
 
 mod grammar;
@@ -24,7 +24,7 @@ mod stops;
 mod tests;
 mod values;
 
-pub use grammar::{is_json_within, signposts_within};
+pub use grammar::{is_json_within, leaves_signposts};
 pub use lexemes::{
     after, byte_at, is_deeper, is_operator, is_whitespace, last_end, string_end, value_end,
     whitespace_end, word_end,

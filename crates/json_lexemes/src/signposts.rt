@@ -55,8 +55,6 @@ pub struct Signposts {
     depth: usize,
     /// What is shorter isn't kept.
     apart: usize,
-    /// So many that are open are followed, the outermost first.
-    levels: usize,
 }
 
 /// Puts one more among so many, in the order of the starts.
@@ -74,10 +72,9 @@ fn insert(spans: &mut [Span; ROOM], count: usize, span: Span)
 }
 
 impl Signposts {
-    /// None as yet, for a text of so many bytes; and none to come, unless they are wanted and it is long.
-    pub(crate) fn new(len: usize, wanted: bool) -> Signposts
-        ensures { (t : List ℕ) → IsAhead t result 0 0 }
-    {
+    /// Room for them, and none as yet.
+    #[inline(always)]
+    pub fn new() -> Signposts {
         Signposts {
             spans: [Span { start: 0, end: 0 }; ROOM],
             ended: 0,
@@ -93,19 +90,31 @@ impl Signposts {
                 kept: 0,
             }; LEVELS],
             depth: 0,
-            apart: (len / ROOM).max(LEAST),
-            levels: if wanted && len > LEAST { LEVELS } else { 0 },
+            apart: LEAST,
         }
+    }
+
+    /// None again, for a text of so many bytes.
+    pub(crate) fn restart(&mut self, len: usize)
+        ensures { (t : List ℕ) → IsAhead t self.new 0 0 }
+    {
+        self.ended = 0;
+        self.stepped = 0;
+        self.depth = 0;
+        self.apart = (len / ROOM).max(LEAST);
     }
 
     /// An object or an array opens at `start`, within so many others.
     #[inline(always)]
-    pub(crate) fn enter(&mut self, start: usize, depth: usize)
-        ensures { (t : List ℕ) (object : Bool) (i k : ℕ) → IsAhead t self.old depth i
+    pub(crate) fn enter(&mut self, wanted: bool, start: usize, depth: usize)
+        ensures { wanted ≡ true → (t : List ℕ) (object : Bool) (i k : ℕ) → IsAhead t self.old depth i
             → start < k → i ≤ k → left_at t start ≡ left_at t i → Opens t object i k
             → IsAhead t self.new (depth + 1) k }
     {
-        if depth == self.depth && depth < self.levels && depth < LEVELS {
+        if !wanted {
+            return;
+        }
+        if depth == self.depth && depth < LEVELS {
             self.nest[depth] = Open {
                 start,
                 number: 0,
@@ -134,14 +143,17 @@ impl Signposts {
         self.stepped += 1;
     }
 
-    /// An array, the innermost of so many that are open, goes on at `place`, behind a comma.
+    /// An object or an array, the innermost of so many that are open, goes on at `place`, an array behind a comma.
     #[inline(always)]
-    pub(crate) fn go_on(&mut self, place: usize, depth: usize)
-        requires { (0 < depth) × (self.old.depth ≤ 4) }
-        ensures { (t : List ℕ) (i : ℕ) → IsBehind t self.old depth i → i < place → place ≤ length t
-            → IsBehindComma t place → Continues t false i place → IsAhead t self.new depth place }
+    pub(crate) fn go_on(&mut self, wanted: bool, object: bool, place: usize, depth: usize)
+        requires { (0 < depth) × (wanted ≡ true → self.old.depth ≤ 4) }
+        ensures { wanted ≡ true → (t : List ℕ) (i : ℕ) → IsBehind t self.old depth i → i < place → place ≤ length t
+            → (object ≡ false → IsBehindComma t place) → Continues t object i place → IsAhead t self.new depth place }
     {
-        if depth != self.depth {
+        if !wanted {
+            return;
+        }
+        if object || depth != self.depth {
             return;
         }
         let mut array = self.nest[depth - 1];
@@ -171,12 +183,15 @@ impl Signposts {
 
     /// The innermost of so many that are open is closed before `end`.
     #[inline(always)]
-    pub(crate) fn leave(&mut self, end: usize, depth: usize)
-        requires { (0 < depth) × (self.old.depth ≤ 4) }
-        ensures { (t : List ℕ) (object : Bool) (i : ℕ) → IsBehind t self.old depth i → i < end → end ≤ length t
+    pub(crate) fn leave(&mut self, wanted: bool, end: usize, depth: usize)
+        requires { (0 < depth) × (wanted ≡ true → self.old.depth ≤ 4) }
+        ensures { wanted ≡ true → (t : List ℕ) (object : Bool) (i : ℕ) → IsBehind t self.old depth i → i < end → end ≤ length t
             → IsBehindBracket t end → left_at t i ≡ closing object ∷ left_at t end
             → IsBehind t self.new (depth - 1) end }
     {
+        if !wanted {
+            return;
+        }
         if depth != self.depth {
             return;
         }

@@ -3,9 +3,9 @@
 ghost use Rattle.json_lexemes.specs.Signposts.{ArePlaces};
 
 use crate::{
-    Next, Places, Span, after, array_end, byte_at, first_named, is_deeper, is_json_within, is_name,
-    is_operator, is_whitespace, last_end, next_named, numbered, signposts_within, string_end,
-    value_end, value_from, whitespace_end, word_end,
+    Next, Places, Signposts, Span, after, array_end, byte_at, first_named, is_deeper,
+    is_json_within, is_name, is_operator, is_whitespace, last_end, leaves_signposts, next_named,
+    numbered, string_end, value_end, value_from, whitespace_end, word_end,
 };
 use std::test::Fail;
 
@@ -90,9 +90,10 @@ fn are_found(text: &[u8], places: Places) -> bool
 #[test]
 fn places(rt: HostRuntime) {
     let text = long_array();
-    let signposts = signposts_within(&text, 2, true);
-    assert!(rt; signposts.is_some());
-    if let Some(signposts) = signposts {
+    let mut signposts = Signposts::new();
+    let found = leaves_signposts(&text, 2, &mut signposts);
+    assert!(rt; found);
+    if found {
         let places = signposts.places();
         assert_eq!(rt; places.end_of(0), Some(6001));
         assert_eq!(rt; places.end_of(1), None);

@@ -22,8 +22,8 @@ use Rattle.json_patch_operation.specs.PatchValue.{IfUnreadAlone, IsObject, OfKin
 use Rattle.json_patch_operation.specs.declared.read_error.ReadFault.{ReadFault}
 use Rattle.json_patch_operation.specs.declared.read_error.ReadFault.TheVariants.{Refused, Memory}
 use Rattle.json_patch_operation.specs.declared.read_error.ReadKind.{ReadKind}
-use Rattle.json_patch_text.specs.Operations.{add, remove, replace, move, copy, test, pointer_tree}
-use Rattle.json_patch_text.specs.Outline.{outline, AreFields, Asked, HasField, IsAhead, IsLast, IsObjectTree, IsOutline, IsReadAs, IsWritten, field_of, its_from, its_op, its_path, its_value, name_asked, put_if, text_in}
+use Rattle.json_patch_text.specs.Operations.{HasFields, add, remove, replace, move, copy, test, pointer_tree}
+use Rattle.json_patch_text.specs.Outline.{outline, AreFields, Asked, HasField, IsAhead, IsLast, IsObjectTree, IsOutline, IsReadAs, IsWritten, field_of, its_from, its_op, its_path, its_value, name_asked, put_if, bytes_in}
 use Rattle.json_patch_text.specs.TextOperations.{IsTexted, IsValueText}
 use Rattle.json_patch_text.specs.declared.operation.TextOperation.{TextOperation}
 use Rattle.json_patch_text.specs.declared.operation.TextOperation.TheVariants.{Add, Remove, Replace, Move, Copy, Test}
@@ -71,7 +71,7 @@ one_seen text j all l w more k t s h said here = record {
   stands = stands_at text j l w more k t s (bytes_eq l k) refl here h.stands;
 }
 
-chosen : (b : Bool) (x : Bor (List ℕ)) (found : Option (Bor (List ℕ))) → (if b then Some x.now else text_in found) ≡ text_in (if b then Some x else found)
+chosen : (b : Bool) (x : Bor (List ℕ)) (found : Option (Bor (List ℕ))) → (if b then Some x.now else bytes_in found) ≡ bytes_in (if b then Some x else found)
 chosen true x found = refl
 chosen false x found = refl
 
@@ -98,19 +98,19 @@ next_seen text j e es f g h is = by h.rest h.texts h.shallow h.stretches h.seen
 
 pub latest_is : (e : Texts) (f g : Fields) → ((l : List ℕ) → IsTextOf e.0.now (string l) → g.op ≡ (if bytes_eq l (codes "op") then Some e.1 else f.op)) → ((l : List ℕ) → IsTextOf e.0.now (string l) → g.from ≡ (if bytes_eq l (codes "from") then Some e.1 else f.from))
     → ((l : List ℕ) → IsTextOf e.0.now (string l) → g.path ≡ (if bytes_eq l (codes "path") then Some e.1 else f.path)) → ((l : List ℕ) → IsTextOf e.0.now (string l) → g.value ≡ (if bytes_eq l (codes "value") then Some e.1 else f.value)) → Follows e f g
-latest_is e f g o r p v its_op l h = ap text_in (o l h) ∙ sym (chosen (bytes_eq l (codes "op")) e.1 f.op)
-latest_is e f g o r p v its_from l h = ap text_in (r l h) ∙ sym (chosen (bytes_eq l (codes "from")) e.1 f.from)
-latest_is e f g o r p v its_path l h = ap text_in (p l h) ∙ sym (chosen (bytes_eq l (codes "path")) e.1 f.path)
-latest_is e f g o r p v its_value l h = ap text_in (v l h) ∙ sym (chosen (bytes_eq l (codes "value")) e.1 f.value)
+latest_is e f g o r p v its_op l h = ap bytes_in (o l h) ∙ sym (chosen (bytes_eq l (codes "op")) e.1 f.op)
+latest_is e f g o r p v its_from l h = ap bytes_in (r l h) ∙ sym (chosen (bytes_eq l (codes "from")) e.1 f.from)
+latest_is e f g o r p v its_path l h = ap bytes_in (p l h) ∙ sym (chosen (bytes_eq l (codes "path")) e.1 f.path)
+latest_is e f g o r p v its_value l h = ap bytes_in (v l h) ∙ sym (chosen (bytes_eq l (codes "value")) e.1 f.value)
 
 pub member_seen : (text : List ℕ) (j : Json) (es : List Texts) (i : ℕ) (d : Texts) (f g : Fields) → IsAhead text j (drop i es) f → i < length es → Follows (get_or es i d) f g → IsAhead text j (drop (i + 1) es) g
 member_seen text j es i d f g h low is = next_seen text j (get_or es i d) (drop (i + 1) es) f g (subst (λ x. IsAhead text j x f) (drop_more es i d low) h) is
 
 none_asked : (f : Fields) → f.op ≡ None → f.from ≡ None → f.path ≡ None → f.value ≡ None → (a : Asked) → field_of f a ≡ None
-none_asked f o r p v its_op = ap text_in o
-none_asked f o r p v its_from = ap text_in r
-none_asked f o r p v its_path = ap text_in p
-none_asked f o r p v its_value = ap text_in v
+none_asked f o r p v its_op = ap bytes_in o
+none_asked f o r p v its_from = ap bytes_in r
+none_asked f o r p v its_path = ap bytes_in p
+none_asked f o r p v its_value = ap bytes_in v
 
 -- of an object all members are ahead
 pub none_seen : (text : List ℕ) (j : Json) (es : List Texts) (f : Fields) → IsShallowText text j → shape_of j ≡ ObjectShape → AreTextsIn j es → AreStretchesIn text j es → ((a : Asked) → field_of f a ≡ None) → IsAhead text j es f
@@ -162,8 +162,8 @@ no_fields text j f n none a = subst (HasField text j (name_asked a)) (sym (none 
 
 -- ---- an operation by its texts
 
-pub value_had : (text : List ℕ) (j : Json) (o : Option (Bor (List ℕ))) (s : Bor (List ℕ)) → o ≡ Some s → HasField text j (codes "value") (text_in o) → HasField text j (codes "value") (Some s.now)
-value_had text j o s e h = subst (HasField text j (codes "value")) (ap text_in e) h
+pub value_had : (text : List ℕ) (j : Json) (o : Option (Bor (List ℕ))) (s : Bor (List ℕ)) → o ≡ Some s → HasField text j (codes "value") (bytes_in o) → HasField text j (codes "value") (Some s.now)
+value_had text j o s e h = subst (HasField text j (codes "value")) (ap bytes_in e) h
 
 pub is_named : {n m : List ℕ} (j : Json) → tree.get (codes "op") j ≡ Some (string n) → n ≡ m → tree.get (codes "op") j ≡ Some (string m)
 is_named j h e = h ∙ ap (λ l. Some (string l)) e
@@ -174,6 +174,9 @@ Points s P = (t k : List ℕ) (j : Json) → HasField t j k s → tree.get k j �
 
 pub points : (s : Option (List ℕ)) (o : Option Pointer) (P : Pointer) → o ≡ Some P → IfSome o (Points s) → Points s P
 points s o P e h = subst (λ x. IfSome x (Points s)) e h
+
+pub from_and_path : (t : List ℕ) (j : Json) (f : Fields) (o p : Option Pointer) (F P : Pointer) → AreFields t j f → o ≡ Some F → IfSome o (Points (bytes_in f.from)) → p ≡ Some P → IfSome p (Points (bytes_in f.path)) → HasFields j ((codes "from", pointer_tree F) ∷ (codes "path", pointer_tree P) ∷ [])
+from_and_path t j f o p F P fields here from there path = (points (bytes_in f.from) o F here from t (codes "from") j (fields its_from), (points (bytes_in f.path) p P there path t (codes "path") j (fields its_path), tt))
 
 pub some_weaker : {A : Type 0} {P Q : A → Type 0} (o : Option A) → IfSome o P → ((x : A) → P x → Q x) → IfSome o Q
 some_weaker None h g = tt
@@ -215,10 +218,10 @@ object_tree r (object ms) h = (ms, refl)
 
 -- ---- the outline, made of the texts
 
-outline_put : (text k : List ℕ) (j : Json) (s : Bor (List ℕ)) (d : Data) (before : values.Members) → HasField text j k (text_in (Some s)) → ((w : Json) → IsShallowText s.now w → d ≡ outline w) → put k d before ≡ put_if k (option_map outline (tree.get k j)) before
+outline_put : (text k : List ℕ) (j : Json) (s : Bor (List ℕ)) (d : Data) (before : values.Members) → HasField text j k (bytes_in (Some s)) → ((w : Json) → IsShallowText s.now w → d ≡ outline w) → put k d before ≡ put_if k (option_map outline (tree.get k j)) before
 outline_put text k j s d before h is = let (w, at, said, stands) = h in ap (λ x. put k x before) (is w said.0) ∙ ap (λ o. put_if k (option_map outline o) before) (sym at)
 
-pub one_put : (text k : List ℕ) (j : Json) (s : Bor (List ℕ)) (d : Data) (before after : values.Members) → after ≡ put k d before → ((w : Json) → IsShallowText s.now w → d ≡ outline w) → HasField text j k (text_in (Some s)) → after ≡ put_if k (option_map outline (tree.get k j)) before
+pub one_put : (text k : List ℕ) (j : Json) (s : Bor (List ℕ)) (d : Data) (before after : values.Members) → after ≡ put k d before → ((w : Json) → IsShallowText s.now w → d ≡ outline w) → HasField text j k (bytes_in (Some s)) → after ≡ put_if k (option_map outline (tree.get k j)) before
 one_put text k j s d before after e is h = e ∙ outline_put text k j s d before h is
 
 pub none_put : (text k : List ℕ) (j : Json) (before : values.Members) → HasField text j k None → before ≡ put_if k (option_map outline (tree.get k j)) before

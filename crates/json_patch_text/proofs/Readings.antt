@@ -8,10 +8,10 @@ use Rattle.json.specs.Json.{Json, null, boolean, number, string, array, object, 
 use Rattle.json.specs.Tree.{items_depth}
 use Rattle.json_patch_operation.specs.PatchValue.{OfKind, OfRefusal, RefusesItem, RefusesOperation, RefusesPatch}
 use Rattle.json_patch_operation.specs.declared.read_error.ReadKind.{ReadKind}
-use Rattle.json_patch_text.specs.Operations.{TreeOperation, tree_fields, under, HasFields, ReadsTrees, ReadsTreePatch}
+use Rattle.json_patch_text.specs.Operations.{TreeOperation, under, ReadsTrees, ReadsTreePatch}
 use Rattle.json_patch_operation.specs.declared.read_error.ReadFault.{ReadFault}
 use Rattle.json_patch_operation.specs.declared.read_error.ReadFault.TheVariants as f
-use Rattle.json_patch_text.specs.Outline.{IsRead, IsReadPatch, at_number}
+use Rattle.json_patch_text.specs.Outline.{IsRead, IsReadAs, IsReadPatch, at_number}
 use Rattle.json_patch_text.specs.TextOperations.{AreWrittenAs, HasValueAt, HaveValuesIn, IsWrittenAs}
 use Rattle.json_patch_text.specs.declared.operation.TextOperation.{TextOperation}
 use Rattle.json_patch_text.proofs.Patches.{operation_read}
@@ -43,7 +43,7 @@ both_written (x ∷ os) (p ∷ ops) o op h g = (h.0, both_written os ops o op h.
 
 -- what is said of an operation's text
 abbrev pub Reads : List ℕ → TextOperation → Type 0
-Reads text o = (j : Json) → IsShallowText text j → (op : TreeOperation) × HasFields j (tree_fields op) × IsWrittenAs o op × HasValueAt text j (codes "value" ∷ []) o
+Reads text o = (j : Json) → IsShallowText text j → IsReadAs text j o
 
 abbrev pub Refused : List ℕ → ReadKind → Type 0
 Refused text kind = (j : Json) → IsShallowText text j → (r : Reading) → RefusesOperation (data_of r j) kind

@@ -51,18 +51,19 @@ pub record IsOutline (d : Data) (j : json.Json) : Type 0 where
 
 -- ---- their texts
 
-abbrev pub text_in : Option (Bor (List ℕ)) → Option (List ℕ)
-text_in s = option_map (λ t. t.now) s
+-- the bytes of a text, if there is one
+abbrev pub bytes_in : Option (Bor (List ℕ)) → Option (List ℕ)
+bytes_in s = option_map (λ t. t.now) s
 
 -- s is what the text, which says j, has as its member k, as it is written there, if it has one
 abbrev pub HasField : List ℕ → json.Json → List ℕ → Option (List ℕ) → Type 0
 HasField text j k s = MatchOption s (tree.get k j ≡ None) (λ t. (w : json.Json) × (tree.get k j ≡ Some w) × IsValueText t w × IsWrittenAt text j (k ∷ []) t)
 
 abbrev pub field_of : Fields → Asked → Option (List ℕ)
-field_of f its_op = text_in f.op
-field_of f its_from = text_in f.from
-field_of f its_path = text_in f.path
-field_of f its_value = text_in f.value
+field_of f its_op = bytes_in f.op
+field_of f its_from = bytes_in f.from
+field_of f its_path = bytes_in f.path
+field_of f its_value = bytes_in f.value
 
 abbrev pub AreFields : List ℕ → json.Json → Fields → Type 0
 AreFields text j f = (a : Asked) → HasField text j (name_asked a) (field_of f a)

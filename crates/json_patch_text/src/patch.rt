@@ -2,9 +2,6 @@
 
 ghost use Rattle.std.specs.Prelude.{◌≡◌, ◌<◌, ◌≤◌, IfErr, IfOk, IfSome, List, OnSome, length};
 ghost use Rattle.std.specs.String.{string_bytes};
-ghost use Rattle.json.specs.Json.{Json};
-ghost use Rattle.json_lexemes.specs.Signposts.{AreSignposts};
-ghost use Rattle.json_lexemes.specs.Spelled.{IsShallowText};
 ghost use Rattle.json_patch_text.specs.Operations.{SaysOperations, TreeOperation};
 ghost use Rattle.json_patch_text.specs.Patched.{AcceptsPatch, HasTexts, IsPatchTextFault, IsPatchedText};
 ghost use Rattle.json_patch_text.specs.Stopped.{IsNoDocument, IsUnread, as_document, as_patch};
@@ -68,45 +65,52 @@ pub(crate) fn document<'a>(
     }
 }
 
+/// A text of fewer bytes is passed over sooner than signposts are made.
+const LONG: usize = 4096;
+
 /// A patch of more bytes has more operations than are made on a text as a whole, by its signposts, or long values.
 const SHORT: usize = 1024;
 
-pub(crate) fn is_short(patch: &str) -> bool {
-    patch.len() <= SHORT
+/// Room for the signposts of the document's text, where the patch has use for them.
+pub(crate) fn room(text: &str, patch: &str) -> Option<Signposts> {
+    if text.len() >= LONG && patch.len() <= SHORT {
+        Some(Signposts::new())
+    } else {
+        None
+    }
 }
 
-/// The signposts of the document's text, where it is found to be within so many levels without the reader.
-pub(crate) fn document_within(
-    text: &str,
-    patch: &str,
+/// The document's text, where it is found to be within so many levels without the reader.
+pub(crate) fn checked<'a>(
+    text: &'a str,
     levels: usize,
-) -> Result<Option<Signposts>, PatchTextFault>
-    ensures signposts { IfOk result (λ found. IfSome found (AreSignposts text.now)) }
-    ensures shallow { IfOk result (λ found. OnSome found ((j : Json) × IsShallowText text.now j)) }
+    room: &'a mut Option<Signposts>,
+) -> Option<CheckedText<'a>>
+    ensures text { IfSome result (λ checked. text_in checked ≡ text.now) }
+    ensures depth { OnSome result (nesting text.now ≤ levels) }
+{
+    match room {
+        Some(signposts) => CheckedText::signposted(text, levels, signposts),
+        None => CheckedText::within(text, levels),
+    }
+}
+
+/// The same, or the fault where the text nests deeper.
+pub(crate) fn checked_within<'a>(
+    text: &'a str,
+    levels: usize,
+    room: &'a mut Option<Signposts>,
+) -> Result<Option<CheckedText<'a>>, PatchTextFault>
+    ensures text { IfOk result (λ found. IfSome found (λ checked. text_in checked ≡ text.now)) }
     ensures depth { IfOk result (λ found. nesting text.now ≤ levels) }
     ensures fault { IfErr result (λ fault. (fault ≡ Document TooDeep) × (levels < nesting text.now)) }
 {
     // One pass checks the text and how deep it nests, where nothing is wrong with it.
-    let signposts = CheckedText::signposts(text, levels, is_short(patch));
-    if signposts.is_none() && is_deeper(text, levels) {
+    let checked = checked(text, levels, room);
+    if checked.is_none() && is_deeper(text, levels) {
         return Err(PatchTextFault::Document(TextFault::TooDeep));
     }
-    Ok(signposts)
-}
-
-/// The text with its signposts, where it has them.
-pub(crate) fn signposted<'a>(
-    text: &'a str,
-    signposts: &'a Option<Signposts>,
-) -> Option<CheckedText<'a>>
-    requires signposts { IfSome signposts.now (AreSignposts text.now) }
-    requires shallow { OnSome signposts.now ((j : Json) × IsShallowText text.now j) }
-    ensures { IfSome result (λ checked. text_in checked ≡ text.now) }
-{
-    match signposts {
-        Some(signposts) => Some(CheckedText::signposted(text, signposts)),
-        None => None,
-    }
+    Ok(checked)
 }
 
 /// The operations that the patch's text says.
@@ -157,8 +161,8 @@ pub fn patch_text(alloc: Global, text: &str, patch: &str) -> Result<String, Patc
     ensures fault { IfErr result (IsPatchTextFault text.now patch.now) }
 {
     let operations = operations_in(alloc, patch)?;
-    let signposts = CheckedText::signposts(text, MAX_DEPTH, is_short(patch));
-    let document = document(alloc, text, signposted(text, &signposts))?;
+    let mut room = room(text, patch);
+    let document = document(alloc, text, checked(text, MAX_DEPTH, &mut room))?;
     let mut log = Log::new(alloc, false);
     match run(&mut log, document, operations.as_slice(), None) {
         Ok(new) => Ok(new),
@@ -208,8 +212,9 @@ pub fn patch_text_within(
         (λ new. IsTextWithin limits (most_bytes limits text.now patch.now) (string_bytes new)) }
     ensures fault { IfErr result (IsTextLimitFault limits text.now patch.now) }
 {
-    let signposts = document_within(text, patch, limits.depth)?;
-    patched(alloc, text, signposted(text, &signposts), patch, limits)
+    let mut room = room(text, patch);
+    let checked = checked_within(text, limits.depth, &mut room)?;
+    patched(alloc, text, checked, patch, limits)
 }
 
 /// The same, of a text that nests no deeper than the limits say, and is checked here where it wasn't before.

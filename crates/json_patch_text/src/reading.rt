@@ -8,7 +8,7 @@ ghost use Rattle.serde_json.specs.View.{members_view, view};
 ghost use Rattle.json_patch_operation.specs.Operation.{operation_of};
 ghost use Rattle.json_patch_operation.specs.PatchValue.{IfUnreadAlone, IfUnreadable, RefusesOperation, RefusesPatch};
 ghost use Rattle.json_patch_text.specs.Operations.{ReadsTreePatch, TreeOperation, pointer_tree};
-ghost use Rattle.json_patch_text.specs.Outline.{AreFields, HasField, IsOutline, IsReadAs, at_number, outline, put_if, text_in};
+ghost use Rattle.json_patch_text.specs.Outline.{AreFields, HasField, IsOutline, IsReadAs, at_number, outline, put_if, bytes_in};
 ghost use Rattle.json_patch_text.specs.TextOperations.{AreWrittenAs, HaveValuesIn, IsTexted};
 ghost use Rattle.json_text.specs.Listing.{IsTextOf};
 ghost use Rattle.json_reading.specs.Reading.{Reading};
@@ -81,7 +81,7 @@ fn fields_of<'a>(alloc: Global, text: &'a str) -> Result<Fields<'a>, AllocError>
 
 /// The string that a member's text says, if it stands there as it is.
 fn plain_text(text: Option<&str>) -> Option<&str>
-    ensures { IfSome result (λ said. (t k : List ℕ) (j : Json) → HasField t j k (text_in text.entry)
+    ensures { IfSome result (λ said. (t k : List ℕ) (j : Json) → HasField t j k (bytes_in text.entry)
         → get k j ≡ Some (string said.now)) }
 {
     plain_string(text?)
@@ -90,7 +90,7 @@ fn plain_text(text: Option<&str>) -> Option<&str>
 /// The pointer that a member's text says, if it stands there as it is.
 fn plain_pointer(alloc: Global, text: Option<&str>) -> Result<Option<PointerBuf>, AllocError>
     ensures { IfOk result (λ found. IfSome found (λ pointer. (t k : List ℕ) (j : Json)
-        → HasField t j k (text_in text.entry) → get k j ≡ Some (pointer_tree pointer))) }
+        → HasField t j k (bytes_in text.entry) → get k j ≡ Some (pointer_tree pointer))) }
 {
     let Some(said) = plain_text(text) else {
         return Ok(None);
@@ -105,7 +105,7 @@ fn plain_pointer(alloc: Global, text: Option<&str>) -> Result<Option<PointerBuf>
 fn with_value<'a>(name: &str, path: PointerBuf, value: Option<&'a str>) -> Option<TextOperation<'a>>
     ensures { IfSome result (λ o. (t : List ℕ) (j : Json) → get (codes "op") j ≡ Some (string name.now)
         → get (codes "path") j ≡ Some (pointer_tree path)
-        → HasField t j (codes "value") (text_in value.entry) → IsReadAs t j o) }
+        → HasField t j (codes "value") (bytes_in value.entry) → IsReadAs t j o) }
 {
     let value = value?;
     match name {
@@ -156,7 +156,7 @@ fn put_outlined(
     name: &str,
     text: Option<&str>,
 ) -> Result<(), AllocError>
-    ensures { OnOk result ((t : List ℕ) (j : Json) → HasField t j name.now (text_in text.entry)
+    ensures { OnOk result ((t : List ℕ) (j : Json) → HasField t j name.now (bytes_in text.entry)
         → members_view members.new.entries
         ≡ put_if name.now (option_map outline (get name.now j)) (members_view members.old.entries)) }
 {
@@ -184,7 +184,7 @@ fn outline_of(alloc: Global, text: &str, fields: Fields<'_>) -> Result<Value, Al
 
 /// The operation with its value as it is written.
 fn texted<'a>(operation: PatchOperation, value: Option<&'a str>) -> TextOperation<'a>
-    ensures { IsTexted (operation_of operation) (unwrap_or (text_in value.entry) []) result }
+    ensures { IsTexted (operation_of operation) (unwrap_or (bytes_in value.entry) []) result }
 {
     let value = value.unwrap_or("");
     match operation {

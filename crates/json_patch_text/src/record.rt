@@ -12,7 +12,7 @@ ghost use Rattle.json_text.specs.Checked.{text_in};
 use crate::bounds::Bounds;
 use crate::fault::{PatchTextFault, TextLimitFault};
 use crate::log::Log;
-use crate::patch::{document, document_within, is_short, operations_in, signposted};
+use crate::patch::{checked, checked_within, document, operations_in, room};
 use crate::run::run;
 use json::MAX_DEPTH;
 use json_patch_limits::limits::Limits;
@@ -55,8 +55,8 @@ pub fn record_text(alloc: Global, text: &str, patch: &str) -> Result<Recorded, P
     ensures fault { IfErr result (IsPatchTextFault text.now patch.now) }
 {
     let operations = operations_in(alloc, patch)?;
-    let signposts = CheckedText::signposts(text, MAX_DEPTH, is_short(patch));
-    let document = document(alloc, text, signposted(text, &signposts))?;
+    let mut room = room(text, patch);
+    let document = document(alloc, text, checked(text, MAX_DEPTH, &mut room))?;
     let mut log = Log::new(alloc, true);
     match run(&mut log, document, operations.as_slice(), None) {
         Ok(text) => {
@@ -106,8 +106,9 @@ pub fn record_text_within(
         (λ r. IsUndoWithin limits (most_bytes limits text.now patch.now) (string_bytes r.undo)) }
     ensures fault { IfErr result (IsRecordLimitFault limits text.now patch.now) }
 {
-    let signposts = document_within(text, patch, limits.depth)?;
-    recording(alloc, text, signposted(text, &signposts), patch, limits)
+    let mut room = room(text, patch);
+    let checked = checked_within(text, limits.depth, &mut room)?;
+    recording(alloc, text, checked, patch, limits)
 }
 
 /// The same, of a text that nests no deeper than the limits say, and is checked here where it wasn't before.

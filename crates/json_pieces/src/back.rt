@@ -1,11 +1,10 @@
 //! What takes a change of a value in pieces back, with no memory.
 
-ghost use Rattle.std.specs.Prelude.{◌≡◌, ◌+◌, ◌<◌, ◌^◌, ◌≤◌, [], ℕ, length, IsTrue};
+ghost use Rattle.std.specs.Prelude.{◌≡◌, ◌<◌, [], length, IsTrue};
 ghost use Rattle.json_pieces.specs.Backs.{AreBack, IsAloneAgain, IsBack, IsBackAt, IsBackIn, IsBackOut, IsBackValue, IsInRow, LogLeads, Moves, PutsWhole, step_of};
 ghost use Rattle.json_pieces.specs.Held.{Held, held, row_held};
 ghost use Rattle.json_pieces.specs.Logged.{AreInRow};
 ghost use Rattle.json_pieces.specs.declared.node.Node.{Node};
-ghost use Rattle.long_vec.specs.Items.{items_of};
 
 use crate::node::{Node, Row};
 use crate::row::{Slot, swap_at};

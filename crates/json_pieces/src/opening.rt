@@ -1,6 +1,6 @@
 //! An object or an array, opened: one pass over its text.
 
-ghost use Rattle.std.specs.Prelude.{◌≡◌, IfOk, MatchOption, OnOk, List, length, ℕ};
+ghost use Rattle.std.specs.Prelude.{◌≡◌, IfOk, MatchOption, OnOk, List, length};
 ghost use Rattle.json.specs.Json.{Json};
 ghost use Rattle.json_pieces.specs.Nodes.{IsOpened, IsRowOf, IsWhole, piece_with, row_view, text_bytes, tree_text, view};
 ghost use Rattle.json_pieces.specs.Finer.{IsOpenedFrom};

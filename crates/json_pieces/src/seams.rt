@@ -218,7 +218,7 @@ fn index_again(
     }
 }
 
-/// Lets the index go. To set there is none where there was none takes longer than to look.
+/// Drops the index, if there is one: most rows have none, and to look is sooner done than to assign.
 #[inline(always)]
 fn let_go(index: &mut Option<NameIndex>)
     ensures { index.new ≡ None }

@@ -1,6 +1,6 @@
 -- What is known of a text that was checked, and of a part of it.
-use Rattle.std.proofs.Common.{◌≡◌, ◌≤◌, ◌+◌, ℕ, List, length, Option, Some, None, refl, sym, subst, arith}
-use Rattle.std.specs.Prelude.{IfSome, IsSome, OnSome}
+use Rattle.std.proofs.Common.{◌≡◌, ◌≤◌, ◌+◌, ℕ, List, length, Some, refl, sym, subst, arith}
+use Rattle.std.specs.Prelude.{IsSome}
 use Rattle.json.specs.Json.{Json, document, max_depth}
 use Rattle.json.specs.Tree.{depth}
 use Rattle.jsonptr.specs.Text.{Pointer}
@@ -27,7 +27,9 @@ less_says text less P r =
     let most : depth r.tree ≤ max_depth = r.says.1 in
     (remove_at P r.tree, (r.after, omega arith))
 
--- how deep a text nests that is known to be within so many levels
-pub within_levels : {A : Type 0} (r : Option A) (t : List ℕ) (n m : ℕ) → n ≤ m → IfSome r (λ _. (j : Json) × Says t j × (depth j ≤ n)) → OnSome r (nesting t ≤ m)
-within_levels None t n m h k = tt
-within_levels (Some a) t n m h (j, says, d) = omega (arith, nests t j says, d, h)
+-- a text that is known to be within so many levels
+pub nests_within : (t : List ℕ) (n m : ℕ) → n ≤ m → (j : Json) × Says t j × (depth j ≤ n) → nesting t ≤ m
+nests_within t n m h (j, says, d) = omega (arith, nests t j says, d, h)
+
+pub shallow_within : (t : List ℕ) (n : ℕ) → n ≤ max_depth → (j : Json) × Says t j × (depth j ≤ n) → (j : Json) × IsShallowText t j
+shallow_within t n h (j, says, d) = (j, (says, omega (arith, d, h)))

@@ -7,7 +7,7 @@ ghost use Rattle.json_lexemes.specs.Signposts.{ArePlaces, ArePlaces-prop};
 use crate::TextFault;
 use crate::reading::{find, is_deeper};
 use json::{MAX_DEPTH, Scratch, is_valid};
-use json_lexemes::{Places, Signposts, is_json_within, signposts_within};
+use json_lexemes::{Places, Signposts, is_json_within, leaves_signposts};
 use jsonptr::Pointer;
 use std::alloc::{AllocError, Global};
 
@@ -28,7 +28,6 @@ impl<'a> CheckedText<'a> {
     ghost use Rattle.json_text.specs.Checked.{text_in};
     ghost use Rattle.json_text.specs.Faults.{IsTextFault};
     ghost use Rattle.json_text.specs.Pointed.{tree_at, IsWrittenAt};
-    ghost use Rattle.json_lexemes.specs.Signposts.{AreSignposts};
     ghost use Rattle.json_lexemes.specs.Skipped.{nesting};
     ghost use Rattle.json_lexemes.specs.Spelled.{IsShallowText};
 
@@ -78,29 +77,27 @@ impl<'a> CheckedText<'a> {
         }
     }
 
-    /// What [`CheckedText::signposted`] needs, where [`CheckedText::within`] finds that the text is JSON. That it
-    /// has any isn't proved, and where they aren't `wanted` it has none, and is made sooner.
+    /// As [`CheckedText::within`], and the check leaves its signposts, so that the text's calls pass over few of the
+    /// bytes before their places where it is long. That there are any isn't proved.
     ///
     /// ```rust
-    /// let signposts = CheckedText::signposts(r#"{"list": [1.50, 2] }"#, 2, true);
+    /// let mut signposts = Signposts::new();
+    /// let text = CheckedText::signposted(r#"{"list": [1.50, 2] }"#, 2, &mut signposts);
     /// // Some: the array stands in the object
     /// ```
-    pub fn signposts(text: &str, levels: usize, wanted: bool) -> Option<Signposts>
-        ensures signposts { IfSome result (AreSignposts text.now) }
-        ensures shallow { OnSome result ((j : Json) × IsShallowText text.now j) }
+    pub fn signposted(
+        text: &'a str,
+        levels: usize,
+        signposts: &'a mut Signposts,
+    ) -> Option<CheckedText<'a>>
+        ensures text { IfSome result (λ checked. text_in checked ≡ text.now) }
         ensures depth { OnSome result (nesting text.now ≤ levels) }
     {
-        signposts_within(text.as_bytes(), levels.min(MAX_DEPTH), wanted)
-    }
-
-    /// A text with its signposts, so that its calls pass over few of the bytes before their places where it is long.
-    pub fn signposted(text: &'a str, signposts: &'a Signposts) -> CheckedText<'a>
-        requires shallow { (j : Json) × IsShallowText text.now j }
-        requires signposts { AreSignposts text.now signposts.now }
-        ensures { text_in result ≡ text.now }
-    {
+        if !leaves_signposts(text.as_bytes(), levels.min(MAX_DEPTH), signposts) {
+            return None;
+        }
         let places = signposts.places();
-        CheckedText { text, places }
+        Some(CheckedText { text, places })
     }
 
     pub(crate) fn places(&self) -> Places<'a>

@@ -1,11 +1,11 @@
 //! The texts of the values in an object or in an array.
 
-ghost use Rattle.std.specs.Prelude.{◌≡◌, ◌≤◌, true, length, IfOk, IfSome, List};
+ghost use Rattle.std.specs.Prelude.{◌≡◌, ◌≤◌, length, IfOk, List};
 ghost use Rattle.std.specs.Str.{IsUtf8, IsCharBoundary};
 ghost use Rattle.json.specs.Json.{Json};
-ghost use Rattle.json.specs.Lex.{between, colon};
+ghost use Rattle.json.specs.Lex.{between};
 ghost use Rattle.json_lexemes.specs.Found.{IsCut, IsWithin};
-ghost use Rattle.json_text.specs.Listing.{AreStretchesIn, AreTextsIn, AreListed, NamesAt, shape_of};
+ghost use Rattle.json_text.specs.Listing.{AreStretchesIn, AreTextsIn, NamesAt, shape_of};
 ghost use Rattle.json_lexemes.specs.Places.{mode_at, left_at};
 ghost use Rattle.json_text.specs.Rows.{Child, IsSolid, inside};
 ghost use Rattle.json_lexemes.specs.Spelled.{Says};

@@ -1,7 +1,7 @@
 //! The members of an object, or the elements of an array, by their places in a text.
 
-ghost use Rattle.std.specs.Prelude.{◌≡◌, ◌<◌, ◌≤◌, ◌+◌, ◌^◌, true, length, drop, List, Some, None, [], if◌then◌else◌, Option};
-ghost use Rattle.std.specs.Prelude.{IfNone, IfSome, MatchOption, false, ℕ};
+ghost use Rattle.std.specs.Prelude.{◌≡◌, ◌<◌, ◌≤◌, ◌+◌, true, length, drop, List, Some, None, [], if◌then◌else◌, Option};
+ghost use Rattle.std.specs.Prelude.{IfNone, IfSome, MatchOption, false};
 ghost use Rattle.std.specs.Str.{IsUtf8, IsCharBoundary};
 ghost use Rattle.json.specs.Json.{Json};
 ghost use Rattle.json.specs.Lex.{between};

@@ -3,6 +3,7 @@
 use crate::places::{found, shape_name};
 use crate::rows::told;
 use crate::{differences, keeps, merges, patches, records};
+use json_lexemes::Signposts;
 use json_pieces::{Pieces, Taken};
 use json_text::{
     ChangeFault, CheckedText, TextFault, add, child_texts, is_deeper, plain_string, remove,
@@ -37,7 +38,7 @@ pub(crate) fn answer(alloc: Global, call: &str, place: Pointer) -> Result<String
 fn of_checked(alloc: Global, call: &str, place: Pointer) -> Result<String, AllocError> {
     match call {
         "CheckedText::within" => told(alloc, found(alloc, is_of_two_levels().then_some("yes"))),
-        "CheckedText::signposts" => told(alloc, found(alloc, has_signposts().then_some("yes"))),
+        "CheckedText::signposted" => told(alloc, found(alloc, is_signposted().then_some("yes"))),
         "CheckedText::value" => told(alloc, array_in_checked(alloc, place)),
         "CheckedText::add" => told(alloc, added_to_checked(alloc, place)),
         "CheckedText::remove" => told(alloc, removed_from_checked(alloc, place)),
@@ -107,9 +108,10 @@ fn is_of_two_levels() -> bool {
     text.is_some()
 }
 
-fn has_signposts() -> bool {
-    let signposts = CheckedText::signposts(r#"{"list": [1.50, 2] }"#, 2, true);
-    signposts.is_some()
+fn is_signposted() -> bool {
+    let mut signposts = Signposts::new();
+    let text = CheckedText::signposted(r#"{"list": [1.50, 2] }"#, 2, &mut signposts);
+    text.is_some()
 }
 
 fn array_in_checked(alloc: Global, place: Pointer) -> Result<String, TextFault> {

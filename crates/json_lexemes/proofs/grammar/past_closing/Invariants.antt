@@ -1,4 +1,4 @@
-use Rattle.std.proofs.Common.{◌+◌, ◌-◌, ◌≤◌, ℕ, length}
+use Rattle.std.proofs.Common.{true, ◌≡◌, ◌+◌, ◌-◌, ◌≤◌, ℕ, length}
 use Rattle.json_lexemes.specs.Places.{left_at, IsEnd}
 use Rattle.json_lexemes.specs.Followed.{IsBehind}
 use Rattle.json_lexemes.specs.Grammar.{AreStops, Completes, innermost}
@@ -10,7 +10,7 @@ invariant-loop-nested l = record {
   high : l.i ≤ length l.text;
   fewer : l.nested ≤ l.nest.depth;
   end : IsEnd l.text l.i;
-  behind : IsBehind l.text l.signposts l.nested l.i;
+  behind : l.nest.wanted ≡ true → IsBehind l.text l.signposts l.nested l.i;
   stops : AreStops l.text l.stops.base l.stops.bits;
   follows : (n : ℕ) → Completes (n + (l.nest.depth - l.nested)) (innermost l.nest.objects.now l.nested) (left_at l.text l.i) → Completes n (innermost l.nest.objects.now l.nest.depth) (left_at l.text l.from);
 }

@@ -1,6 +1,6 @@
 use Rattle.json_patch_operation.specs.Operation.{operation_of}
 use Rattle.serde_json.specs.View.{view}
-use Rattle.json_patch_text.specs.Outline.{its_value, text_in}
+use Rattle.json_patch_text.specs.Outline.{its_value, bytes_in}
 use Rattle.json_patch_text.proofs.Outlines.{alone_weaker, operation_there, refused_too, unread}
 use Rattle.json_patch_text.proofs.reading.read_operation.Goals as goal
 
@@ -12,4 +12,4 @@ returns-in_err-operation-2-clause-refused c =
 pub returns-clause-read : goal.returns-clause-read
 returns-clause-read c = λ j says.
     let f = c.in_ok-fields.ensures j says in
-    operation_there (view c.in_ok-outline.outline) j (c.in_ok-outline.ensures j says f) c.args.text.now (text_in c.in_ok-fields.fields.value) (operation_of c.in_ok-operation-2.operation) c.texted.result (f its_value) c.in_ok-operation-2.ensures.read c.texted.ensures
+    operation_there (view c.in_ok-outline.outline) j (c.in_ok-outline.ensures j says f) c.args.text.now (bytes_in c.in_ok-fields.fields.value) (operation_of c.in_ok-operation-2.operation) c.texted.result (f its_value) c.in_ok-operation-2.ensures.read c.texted.ensures

@@ -1,21 +1,21 @@
 use Rattle.std.proofs.Common.{rules, ◌≡◌, ◌<◌, ◌+◌, ◌-◌, [], true, cond, length, refl, inl, ◌∙◌, sym, subst, arith}
 use Rattle.std.specs.Prelude.{IfSome, IfNone, nat_lt}
-use Rattle.std.proofs.lemmas.Bool.Decides.{Decides-ltb}
+use Rattle.std.proofs.lemmas.Bool.Decides.{Decides-eqb, Decides-ltb}
 use Rattle.std.proofs.lemmas.List.{length-set}
 use Rattle.json_lexemes.specs.Places.{left_at}
 use Rattle.json_lexemes.specs.Grammar.{Begins, Opens, Spells, innermost}
 use Rattle.json_lexemes.proofs.Trimmed.{end_left}
 use Rattle.json_lexemes.proofs.Completed.{opens_on, whole_begins, room_for}
 use Rattle.json_lexemes.proofs.Following.{valued}
-use Rattle.json_lexemes.proofs.grammar.signposts_within.Goals as goal
+use Rattle.json_lexemes.proofs.grammar.is_checked.Goals as goal
 
 pub past_closing-requires-clause-behind : goal.past_closing-requires-clause-behind
-past_closing-requires-clause-behind c =
+past_closing-requires-clause-behind c = λ w.
     let t = c.args.text.now in
     let d = c.loop-next.depth in
     let most = c.if-levels-lt-MOST.most in
     let whole = subst (λ r. IfNone r (Spells t (cond (nat_lt d most) 1 0) c.loop-next.i c.in-Some.next)) c.in_default-opened.is c.in-Some.ensures.whole in
-    valued t c.loop-next.signposts _ d c.loop-next.i c.in-Some.next (omega (arith, c.in-Some.ensures.bounds)) whole c.loop-next.invariant.ahead
+    valued t c.loop-next.signposts _ d c.loop-next.i c.in-Some.next (omega (arith, c.in-Some.ensures.bounds)) whole (c.loop-next.invariant.ahead w)
 
 pub loop-next-preserved-in-Some-opened : goal.loop-next-preserved-in-Some-opened
 loop-next-preserved-in-Some-opened c =
@@ -34,18 +34,18 @@ loop-next-preserved-in-Some-opened c =
       most = c.loop-next.invariant.most;
       levels = c.loop-next.invariant.levels;
       end = c.in-Some.ensures.end c.loop-next.invariant.end;
-      ahead = c.enter.ensures t o.object i c.in-Some.next c.loop-next.invariant.ahead start.0 (omega (arith, c.in-Some.ensures.bounds)) start.1 opens;
+      ahead = λ w. c.enter.ensures w t o.object i c.in-Some.next (c.loop-next.invariant.ahead w) start.0 (omega (arith, c.in-Some.ensures.bounds)) start.1 opens;
       stops = c.in-Some.ensures.stops;
       follows = λ b. c.loop-next.invariant.follows (opens_on t c.loop-next.objects o.object most d i c.in-Some.next room (omega (arith, room, c.loop-next.invariant.size, c.loop-next.invariant.most)) opens b);
     }
 
-pub returns-then-whitespace_end-text-clause-says : goal.returns-then-whitespace_end-text-clause-says
-returns-then-whitespace_end-text-clause-says c =
+pub returns-then-nested-eq0-clause-says : goal.returns-then-nested-eq0-clause-says
+returns-then-nested-eq0-clause-says c = λ e.
     let t = c.args.text.now in
     let d = c.loop-next.depth in
     let most = c.if-levels-lt-MOST.most in
     let place = c.in-Some-past_closing.place in
-    let end : c.whitespace_end.result ≡ length t = c.if-whitespace_end-text.true in
+    let end : c.whitespace_end.result ≡ length t = (Decides-eqb c.whitespace_end.result (length t)).0 e in
     let nothing : left_at t place ≡ [] = sym c.whitespace_end.ensures.left ∙ end_left t c.whitespace_end.result (omega (arith, end)) in
     let whole = subst (λ r. IfNone r (Spells t (cond (nat_lt d most) 1 0) c.loop-next.i c.in-Some.next)) c.in_default-opened.is c.in-Some.ensures.whole in
     c.loop-next.invariant.follows
@@ -59,7 +59,7 @@ loop-next-init c = record {
   most = search rules;
   levels = search rules;
   end = inl refl;
-  ahead = c.new-signposts.ensures c.args.text.now;
+  ahead = c.requires;
   stops = λ n. absurd (n refl);
   follows = search rules;
 }
@@ -81,7 +81,7 @@ loop-next-preserved c =
       most = c.loop-next.invariant.most;
       levels = c.loop-next.invariant.levels;
       end = e.end;
-      ahead = e.ahead some;
+      ahead = λ w. e.ahead w some;
       stops = e.stops;
       follows = λ b.
           c.loop-next.invariant.follows
