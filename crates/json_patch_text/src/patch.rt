@@ -66,7 +66,7 @@ pub(crate) fn document<'a>(
 }
 
 /// A text of fewer bytes is passed over sooner than signposts are made.
-const LONG: usize = 4096;
+const LONG: usize = 2048;
 
 /// A patch of more bytes has more operations than are made on a text as a whole, by its signposts, or long values.
 const SHORT: usize = 1024;
