@@ -274,8 +274,8 @@ impl<'a> Places<'a> {
         value_end(text, from)
     }
 
-    /// The last place that is known in the array whose bracket stands at `array`, up to the element of this number.
-    pub(crate) fn step_to(&self, array: usize, number: usize) -> Option<Step>
+    /// The last place that is kept in the array whose bracket stands at `array`, up to the element of this number.
+    pub fn step_to(&self, array: usize, number: usize) -> Option<Step>
         ensures { (t : List ℕ) → ArePlaces t self.now → IfSome result
             (λ s. (s.array ≡ array) × (s.number ≤ number) × IsStep t s) }
     {

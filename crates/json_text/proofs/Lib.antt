@@ -5,6 +5,7 @@ pub mod Depths
 pub mod Stretches
 pub mod Tokens
 pub mod Along
+pub mod Owned
 pub mod Readable
 pub mod Replacing
 pub mod Said

@@ -9,5 +9,6 @@ pub mod Removed
 pub mod Styled
 pub mod Added
 pub mod Less
+pub mod Owned
 pub mod Replaced
 pub mod Ways

@@ -11,6 +11,7 @@ use Rattle.json_lexemes.specs.Spelled.{spelled, Says}
 use Rattle.json_lexemes.specs.Places.{mode_at, left_at, HasEnd, IsEnd}
 use Rattle.json_lexemes.specs.Found.{IsCut, IsWithin, or_else}
 use Rattle.json_text.specs.Styled.{colons_like, whitespace_like}
+use Rattle.json_text.specs.declared.parts.Ahead.{Ahead}
 use Rattle.json_text.specs.declared.parts.Numbered.{Numbered}
 use Rattle.json_text.specs.declared.parts.Part.{Part}
 use Rattle.json_lexemes.specs.declared.span.Span.{Span}
@@ -125,6 +126,11 @@ pub record IsReached (t : List ℕ) (b : Bool) (cs : List Child) (n before start
   pub first : n ≡ 0 → (left_at t before ≡ inside b cs) × (mode_at t before ≡ between)
   pub later : (n ≡ 0 → ⊥) → left_at t before ≡ others b (drop n cs)
 
+-- it is reached, and if others were before it, one stands there
+pub record IsNext (t : List ℕ) (b : Bool) (cs : List Child) (n before start : ℕ) : Type 0 where
+  pub reached : IsReached t b cs n before start
+  pub there : (n ≡ 0 → ⊥) → others b (drop n cs) ≡ comma ∷ inside b (drop n cs)
+
 -- r is the child of number n
 pub record IsNumbered (t : List ℕ) (b : Bool) (cs : List Child) (n : ℕ) (r : Numbered) : Type 0 where
   pub reached : IsReached t b cs n r.before r.part.start
@@ -134,6 +140,15 @@ pub record IsNumbered (t : List ℕ) (b : Bool) (cs : List Child) (n : ℕ) (r :
 -- the inside of an object or an array begins at from
 abbrev pub IsInside : List ℕ → Bool → List Child → ℕ → Type 0
 IsInside t b cs from = (left_at t from ≡ inside b cs) × (mode_at t from ≡ between) × HasEnd t from
+
+-- from a on children are looked for, in an object or an array whose inside begins at from
+pub record IsAhead (t : List ℕ) (b : Bool) (from : ℕ) (a : Ahead) : Type 0 where
+  pub low : a.start ≤ length t
+  pub solid : IsSolid t a.start
+  pub order : a.before ≤ a.start
+  pub passed : a.number ≤ a.start
+  pub boundary : (IsUtf8 t → IsCharBoundary t from) → (IsUtf8 t → IsCharBoundary t a.before) × (IsUtf8 t → IsCharBoundary t a.start)
+  pub next : (cs : List Child) → IsInside t b cs from → IsNext t b cs a.number a.before a.start
 
 -- the piece that goes with the child of number n: up to the next one, or from the one before, or all
 pub record AreEdges (t : List ℕ) (n : ℕ) (r : Numbered) (p : Span) : Type 0 where

@@ -14,6 +14,7 @@ ghost use Rattle.json_lexemes.specs.Spelled.{Says};
 use crate::changes::exchanged;
 use crate::children::whole;
 use crate::growing::with_child;
+use crate::own::Own;
 use crate::parts::is_object;
 use crate::reading::find;
 use crate::{ChangeFault, CheckedText};
@@ -41,7 +42,7 @@ fn standing_member(
     ensures within { IfOk result (λ found. IfSome found (IsWithin text.now)) }
 {
     if is_object(parent.as_bytes()) {
-        find(alloc, text, pointer, places)
+        find(alloc, text, pointer.tokens(), places)
     } else {
         Ok(None)
     }
@@ -113,19 +114,19 @@ impl<'a> CheckedText<'a> {
             return self.replace(alloc, pointer, value);
         };
         let text = self.as_str();
-        let Some(place) = find(alloc, text, parent, self.places())? else {
+        let Some(place) = find(alloc, text, parent.tokens(), self.places())? else {
             return Ok(None);
         };
-        let here = &text[place.start..place.end];
+        let own = Own::at(text, place, self.places());
         let value = value.as_str();
         let put = whole(value.as_bytes());
         let put = &value[put.start..put.end];
-        if let Some(old) = standing_member(alloc, text, pointer, here, self.places())? {
+        if let Some(old) = standing_member(alloc, text, pointer, own.text, self.places())? {
             let new = exchanged(alloc, text, old, put)?;
             return Ok(Some(new));
         }
         let name = last.decoded(alloc)?;
-        let Some(grown) = with_child(alloc, here, name.as_str(), put)? else {
+        let Some(grown) = with_child(alloc, own, name.as_str(), put)? else {
             return Ok(None);
         };
         let new = exchanged(alloc, text, place, grown.as_str())?;

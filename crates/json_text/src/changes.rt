@@ -9,6 +9,7 @@ ghost use Rattle.json_text.specs.Replaced.{IsReplaced, IsReplaceFault};
 
 use crate::children::whole;
 use crate::cutting::without;
+use crate::own::Own;
 use crate::reading::find;
 use crate::{ChangeFault, CheckedText};
 use json_lexemes::Span;
@@ -123,7 +124,7 @@ impl<'a> CheckedText<'a> {
             (string_bytes new))) }
     {
         let text = self.as_str();
-        let Some(place) = find(alloc, text, pointer, self.places())? else {
+        let Some(place) = find(alloc, text, pointer.tokens(), self.places())? else {
             return Ok(None);
         };
         let value = value.as_str();
@@ -149,12 +150,12 @@ impl<'a> CheckedText<'a> {
         let Some((parent, last)) = pointer.split_back() else {
             return Ok(None);
         };
-        let Some(place) = find(alloc, text, parent, self.places())? else {
+        let Some(place) = find(alloc, text, parent.tokens(), self.places())? else {
             return Ok(None);
         };
         let name = last.decoded(alloc)?;
-        let here = &text[place.start..place.end];
-        let Some(less) = without(alloc, here, name.as_str())? else {
+        let own = Own::at(text, place, self.places());
+        let Some(less) = without(alloc, own, name.as_str())? else {
             return Ok(None);
         };
         let new = exchanged(alloc, text, place, less.as_str())?;

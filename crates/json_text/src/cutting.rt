@@ -6,11 +6,13 @@ ghost use Rattle.std.specs.Str.{IsUtf8, IsCharBoundary};
 ghost use Rattle.json.specs.Json.{Json};
 ghost use Rattle.json_lexemes.specs.Found.{IsWithin};
 ghost use Rattle.json_text.specs.Less.{IsLessText, IsWithout};
+ghost use Rattle.json_text.specs.Owned.{IsOwn};
 ghost use Rattle.json_text.specs.Pointed.{child};
 ghost use Rattle.json_text.specs.Rows.{AreEdges, AreInOrder, CutNone};
 ghost use Rattle.json_lexemes.specs.Spelled.{Says};
 
 use crate::changes::exchanged;
+use crate::own::Own;
 use crate::parts::{Numbered, is_object, number_of, part_at, row_in};
 use json_lexemes::{Span, whitespace_end};
 use std::alloc::{AllocError, Global};
@@ -39,44 +41,50 @@ fn edges(text: &[u8], number: usize, found: Numbered) -> Span
 }
 
 /// The piece to cut out, so that what a token names is gone: of several members of one name the last.
-fn piece(text: &[u8], name: &str) -> Option<Span>
-    ensures piece { (v : Json) → Says text.now v → MatchOption result (child name.now v ≡ None)
-        (λ p. IsLessText text.now v name.now (take p.start text.now ++ drop p.end text.now)) }
-    ensures within { IfSome result (IsWithin text.now) }
+fn piece(own: Own<'_>, name: &str) -> Option<Span>
+    requires { IsOwn own }
+    ensures piece { (v : Json) → Says own.entry.text.now v → MatchOption result (child name.now v ≡ None)
+        (λ p. IsLessText own.entry.text.now v name.now
+        (take p.start own.entry.text.now ++ drop p.end own.entry.text.now)) }
+    ensures within { IfSome result (IsWithin own.entry.text.now) }
 {
+    let text = own.text.as_bytes();
     let row = row_in(text)?;
     let number = number_of(text, row, name)?;
-    let found = part_at(text, row.start, row.named, number)?;
+    let ahead = own.ahead(row.start, row.named, number);
+    let found = part_at(text, row.start, row.named, number, ahead)?;
     Some(edges(text, number, found))
 }
 
 /// The text of an object or an array without one thing that a token names.
-fn without_one(alloc: Global, text: &str, name: &str) -> Result<Option<String>, AllocError>
-    ensures { IfOk result (λ less. (v : Json) → Says text.now v
+fn without_one(alloc: Global, own: Own<'_>, name: &str) -> Result<Option<String>, AllocError>
+    requires { IsOwn own }
+    ensures { IfOk result (λ less. (v : Json) → Says own.entry.text.now v
         → MatchOption less (child name.now v ≡ None)
-        (λ new. IsLessText text.now v name.now (string_bytes new))) }
+        (λ new. IsLessText own.entry.text.now v name.now (string_bytes new))) }
 {
-    let Some(cut) = piece(text.as_bytes(), name) else {
+    let Some(cut) = piece(own, name) else {
         return Ok(None);
     };
-    let new = exchanged(alloc, text, cut, "")?;
+    let new = exchanged(alloc, own.text, cut, "")?;
     Ok(Some(new))
 }
 
 /// The text of an object or an array without all that a token names.
-pub(crate) fn without(alloc: Global, text: &str, name: &str) -> Result<Option<String>, AllocError>
-    requires { (v : Json) × Says text.now v }
-    ensures { IfOk result (λ less. (v : Json) → Says text.now v
+pub(crate) fn without(alloc: Global, own: Own<'_>, name: &str) -> Result<Option<String>, AllocError>
+    requires says { (v : Json) × Says own.text.now v }
+    requires own { IsOwn own }
+    ensures { IfOk result (λ less. (v : Json) → Says own.entry.text.now v
         → MatchOption less (child name.now v ≡ None)
-        (λ new. IsWithout text.now v name.now (string_bytes new))) }
+        (λ new. IsWithout own.entry.text.now v name.now (string_bytes new))) }
 {
-    let Some(mut new) = without_one(alloc, text, name)? else {
+    let Some(mut new) = without_one(alloc, own, name)? else {
         return Ok(None);
     };
-    if !is_object(text.as_bytes()) {
+    if !is_object(own.text.as_bytes()) {
         return Ok(Some(new));
     }
-    while let Some(less) = without_one(alloc, new.as_str(), name)? {
+    while let Some(less) = without_one(alloc, Own::alone(new.as_str()), name)? {
         new = less;
     }
     Ok(Some(new))

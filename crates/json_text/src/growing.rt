@@ -8,12 +8,14 @@ ghost use Rattle.json.specs.Print.{quoted};
 ghost use Rattle.json_text.specs.Added.{IsPutInto};
 ghost use Rattle.json_text.specs.Changed.{add_child};
 ghost use Rattle.json_text.specs.Less.{IsObject};
+ghost use Rattle.json_text.specs.Owned.{IsOwn};
 ghost use Rattle.json_text.specs.Pointed.{child};
 ghost use Rattle.json_lexemes.specs.Spelled.{Says};
 ghost use Rattle.json_text.specs.Rows.{AreInOrder, CutNone, Child, HasRow, IsChild, IsComma, IsGap, IsInside};
 ghost use Rattle.json_text.specs.Rows.{IsMember, IsMemberAhead, IsNumbered, IsTrail};
 
-use crate::parts::{Numbered, last_part, part_at, row_in};
+use crate::own::Own;
+use crate::parts::{Numbered, first, last_part, part_at, row_in};
 use crate::style::{colons_like, whitespace_like};
 use json::Writer;
 use json_lexemes::{string_end, whitespace_end};
@@ -123,7 +125,8 @@ fn with_member(
     ensures { IfOk result (λ new. (v : Json) → Says text.now v
         → IsPutInto text.now v name.now value.now (string_bytes new)) }
 {
-    let Some((number, last)) = last_part(text.as_bytes(), start, true) else {
+    let bytes = text.as_bytes();
+    let Some((number, last)) = last_part(bytes, start, true, first(bytes, start)) else {
         let mut ahead = quoted(alloc, name)?;
         ahead.push_str(":")?;
         return put_in(alloc, text, start, (ahead.as_str(), ""), value);
@@ -144,7 +147,7 @@ fn second(text: &[u8], start: usize, number: usize) -> Option<Numbered>
         (λ r. (IsUtf8 text.now → IsCharBoundary text.now r.before) × CutNone text.now r.part) }
 {
     if number == 0 {
-        part_at(text, start, false, 1)
+        part_at(text, start, false, 1, first(text, start))
     } else {
         None
     }
@@ -177,26 +180,30 @@ fn trail(
 /// The text of an array, whose inside begins at `start`, with a new element.
 fn with_element(
     alloc: Global,
-    text: &str,
+    own: Own<'_>,
     start: usize,
     name: &str,
     value: &str,
 ) -> Result<Option<String>, AllocError>
-    requires within { start ≤ length text.now }
-    requires boundary { IsCharBoundary text.now start }
-    requires row { HasRow text.now false start }
-    ensures { IfOk result (λ grown. (v : Json) → Says text.now v
+    requires own { IsOwn own }
+    requires within { start ≤ length own.text.now }
+    requires boundary { IsCharBoundary own.text.now start }
+    requires row { HasRow own.text.now false start }
+    ensures { IfOk result (λ grown. (v : Json) → Says own.entry.text.now v
         → MatchOption grown ((w : Json) → add_child name.now w v ≡ None)
-        (λ new. IsPutInto text.now v name.now value.now (string_bytes new))) }
+        (λ new. IsPutInto own.entry.text.now v name.now value.now (string_bytes new))) }
 {
     let Ok(index) = Index::parse(name) else {
         return Ok(None);
     };
-    let last = last_part(text.as_bytes(), start, false);
+    let text = own.text;
+    let bytes = text.as_bytes();
+    let last = last_part(bytes, start, false, own.ahead(start, false, usize::MAX));
     let Ok(number) = index.for_len_incl(count(last)) else {
         return Ok(None);
     };
-    if let Some(found) = part_at(text.as_bytes(), start, false, number) {
+    let ahead = own.ahead(start, false, number);
+    if let Some(found) = part_at(bytes, start, false, number, ahead) {
         let trail = trail(alloc, text, start, number, found)?;
         let new = put_in(alloc, text, found.part.start, ("", trail.as_str()), value)?;
         return Ok(Some(new));
@@ -225,22 +232,23 @@ fn count(last: Option<(usize, Numbered)>) -> usize
 /// The text of an object or an array with a value put in as what a token names.
 pub(crate) fn with_child(
     alloc: Global,
-    text: &str,
+    own: Own<'_>,
     name: &str,
     value: &str,
 ) -> Result<Option<String>, AllocError>
-    requires says { (v : Json) × Says text.now v }
-    requires new { (v : Json) → Says text.now v → IsObject v → child name.now v ≡ None }
-    ensures { IfOk result (λ grown. (v : Json) → Says text.now v
+    requires says { (v : Json) × Says own.text.now v }
+    requires own { IsOwn own }
+    requires new { (v : Json) → Says own.text.now v → IsObject v → child name.now v ≡ None }
+    ensures { IfOk result (λ grown. (v : Json) → Says own.entry.text.now v
         → MatchOption grown ((w : Json) → add_child name.now w v ≡ None)
-        (λ new. IsPutInto text.now v name.now value.now (string_bytes new))) }
+        (λ new. IsPutInto own.entry.text.now v name.now value.now (string_bytes new))) }
 {
-    let Some(row) = row_in(text.as_bytes()) else {
+    let Some(row) = row_in(own.text.as_bytes()) else {
         return Ok(None);
     };
     if !row.named {
-        return with_element(alloc, text, row.start, name, value);
+        return with_element(alloc, own, row.start, name, value);
     }
-    let new = with_member(alloc, text, row.start, name, value)?;
+    let new = with_member(alloc, own.text, row.start, name, value)?;
     Ok(Some(new))
 }

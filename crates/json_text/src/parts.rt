@@ -1,6 +1,6 @@
 //! The members of an object, or the elements of an array, by their places in a text.
 
-ghost use Rattle.std.specs.Prelude.{◌≡◌, ◌<◌, ◌≤◌, ◌+◌, true, length, drop, List, Some, None, [], if◌then◌else◌, Option};
+ghost use Rattle.std.specs.Prelude.{◌≡◌, ◌<◌, ◌≤◌, ◌+◌, Bool, true, length, drop, List, Some, None, [], if◌then◌else◌, Option};
 ghost use Rattle.std.specs.Prelude.{IfNone, IfSome, MatchOption, false};
 ghost use Rattle.std.specs.Str.{IsUtf8, IsCharBoundary};
 ghost use Rattle.json.specs.Json.{Json};
@@ -9,7 +9,7 @@ ghost use Rattle.json_text.specs.Less.{HasInside, IsLeaf, IsNumberOf, IsObject};
 ghost use Rattle.json_lexemes.specs.Places.{mode_at, left_at};
 ghost use Rattle.json_text.specs.Pointed.{child};
 ghost use Rattle.json_text.specs.Rows.{ArePlaces, AreInOrder, Child, CutNone, FindsPart, FindsValue};
-ghost use Rattle.json_text.specs.Rows.{IsInside, IsLast, IsNumbered, IsSolid, inside, last_named, tree_in};
+ghost use Rattle.json_text.specs.Rows.{IsAhead, IsInside, IsLast, IsNumbered, IsSolid, inside, last_named, tree_in};
 ghost use Rattle.json_lexemes.specs.Spelled.{Says};
 
 use json_lexemes::{Places, Span, after, byte_at, is_name, string_end, value_from, whitespace_end};
@@ -31,6 +31,30 @@ pub(crate) struct Numbered {
     /// The end of the one before, or of the bracket.
     pub before: usize,
     pub part: Part,
+}
+
+/// From where on members or elements are looked for.
+#[derive(Clone, Copy, Debug, Drop)]
+pub(crate) struct Ahead {
+    /// How many stand before it.
+    pub number: usize,
+    /// The end of the one before, or of the bracket.
+    pub before: usize,
+    pub start: usize,
+}
+
+/// From the first on, in an object or an array whose inside begins at `from`.
+pub(crate) fn first(text: &[u8], from: usize) -> Ahead
+    requires { from ≤ length text.now }
+    ensures ahead { (b : Bool) → IsAhead text.now b from result }
+    ensures number { result.number ≡ 0 }
+{
+    let start = whitespace_end(text, from);
+    Ahead {
+        number: 0,
+        before: from,
+        start,
+    }
 }
 
 /// Where the value of the member begins whose name begins at `start`, or of the element there.
@@ -78,17 +102,24 @@ pub(crate) fn part_from(text: &[u8], start: usize, named: bool) -> Option<Part>
 }
 
 /// The member or element of this number, in an object or an array whose inside begins at `from`.
-pub(crate) fn part_at(text: &[u8], from: usize, named: bool, number: usize) -> Option<Numbered>
-    requires { from ≤ length text.now }
+pub(crate) fn part_at(
+    text: &[u8],
+    from: usize,
+    named: bool,
+    number: usize,
+    ahead: Ahead,
+) -> Option<Numbered>
+    requires ahead { IsAhead text.now named from ahead }
+    requires passed { ahead.number ≤ number }
     ensures found { (cs : List Child) → IsInside text.now named cs from
         → MatchOption result (drop number cs ≡ []) (IsNumbered text.now named cs number) }
     ensures order { IfSome result (λ r. (r.before ≤ r.part.start) × AreInOrder text.now r.part) }
     ensures boundary { (IsUtf8 text.now → IsCharBoundary text.now from) → IfSome result
         (λ r. (IsUtf8 text.now → IsCharBoundary text.now r.before) × CutNone text.now r.part) }
 {
-    let mut before = from;
-    let mut start = whitespace_end(text, from);
-    let mut passed = 0;
+    let mut before = ahead.before;
+    let mut start = ahead.start;
+    let mut passed = ahead.number;
     while let Some(part) = part_from(text, start, named) {
         if passed == number {
             return Some(Numbered { before, part });
@@ -104,8 +135,13 @@ pub(crate) fn part_at(text: &[u8], from: usize, named: bool, number: usize) -> O
 }
 
 /// The last member or element and its number, in an object or an array whose inside begins at `from`.
-pub(crate) fn last_part(text: &[u8], from: usize, named: bool) -> Option<(usize, Numbered)>
-    requires { from ≤ length text.now }
+pub(crate) fn last_part(
+    text: &[u8],
+    from: usize,
+    named: bool,
+    ahead: Ahead,
+) -> Option<(usize, Numbered)>
+    requires { IsAhead text.now named from ahead }
     ensures last { (cs : List Child) → IsInside text.now named cs from
         → MatchOption result (cs ≡ []) (λ r. IsLast text.now named cs r.0 r.1) }
     ensures order { IfSome result (λ r. (r.1.before ≤ r.1.part.start) × AreInOrder text.now r.1.part) }
@@ -113,9 +149,9 @@ pub(crate) fn last_part(text: &[u8], from: usize, named: bool) -> Option<(usize,
     ensures boundary { (IsUtf8 text.now → IsCharBoundary text.now from) → IfSome result
         (λ r. (IsUtf8 text.now → IsCharBoundary text.now r.1.before) × CutNone text.now r.1.part) }
 {
-    let mut before = from;
-    let mut start = whitespace_end(text, from);
-    let mut number = 0;
+    let mut before = ahead.before;
+    let mut start = ahead.start;
+    let mut number = ahead.number;
     while let Some(part) = part_from(text, start, named) {
         let Some(next) = part.next else {
             return Some((number, Numbered { before, part }));

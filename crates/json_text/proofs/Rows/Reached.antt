@@ -12,7 +12,7 @@ use Rattle.json.specs.Json.{Json}
 use Rattle.json.specs.Text.{content, plain}
 use Rattle.json_lexemes.specs.Found.{IsCut, or_else}
 use Rattle.json_lexemes.specs.Places.{mode_at, left_at, HasEnd}
-use Rattle.json_text.specs.Rows.{ArePlaces, Child, IsInside, IsLast, IsNumbered, IsPart, IsReached, inside, last_named, others}
+use Rattle.json_text.specs.Rows.{ArePlaces, Child, IsInside, IsLast, IsNext, IsNumbered, IsPart, IsReached, inside, last_named, others}
 use Rattle.json_lexemes.specs.Spelled.{spelled}
 use Rattle.json_text.specs.declared.parts.Part.{Part}
 use Rattle.json_lexemes.specs.declared.span.Span.{Span}
@@ -123,11 +123,6 @@ last_passed t k cs n start found new is p o s d e a h =
     sym (passed t k cs n start found new is p s d e a h ∙ ap (λ ds. or_else (option_map (λ m. n + 1 + m) (last_named k ds)) new) last)
 
 -- ---- the last
-
--- it is reached, and if others were before it, one stands there
-pub record IsNext (t : List ℕ) (b : Bool) (cs : List Child) (n before start : ℕ) : Type 0 where
-  pub reached : IsReached t b cs n before start
-  pub there : (n ≡ 0 → ⊥) → others b (drop n cs) ≡ comma ∷ inside b (drop n cs)
 
 pub first_next : (t : List ℕ) (b : Bool) (cs : List Child) (from start : ℕ) → left_at t start ≡ left_at t from → (mode_at t from ≡ between → mode_at t start ≡ between) → IsInside t b cs from → IsNext t b cs 0 from start
 first_next t b cs from start l m h = record { reached = first_reached t b cs from start l m h; there = λ z. absurd (z refl) }

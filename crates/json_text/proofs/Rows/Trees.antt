@@ -36,7 +36,7 @@ pub more_elements_in : (cs : List Child) → more_elements (elements_in cs) ≡ 
 more_elements_in [] = refl
 more_elements_in (c ∷ cs) = ap (λ l. comma ∷ (spelled c.1 ++ l)) (more_elements_in cs)
 
-first_elements_in : (cs : List Child) → first_elements (elements_in cs) ≡ inside false cs
+pub first_elements_in : (cs : List Child) → first_elements (elements_in cs) ≡ inside false cs
 first_elements_in [] = refl
 first_elements_in (c ∷ cs) = ap (λ l. spelled c.1 ++ l) (more_elements_in cs)
 

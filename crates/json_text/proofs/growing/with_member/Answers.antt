@@ -13,11 +13,11 @@ returns-in_default c =
     let k = c.args.name.now in
     let ahead = c.as_str.ensures.value ∙ c.in_ok-push_str.ensures.bytes ∙ ap (λ s. s ++ (58 ∷ [])) c.in_ok-ahead.ensures in
     if_put c.put_in.result string_bytes _ (λ new. (v : Json) → Says t v → IsPutInto t v k c.args.value.now new) c.put_in.ensures
-    (at_start t k c.args.value.now c.as_str.result.now c.args.start c.requires.row (λ cs h. c.in_default.ensures.last cs (subst (λ x. IsInside x true cs c.args.start) (sym c.as_bytes.ensures.value) h)) ahead c.requires.within)
+    (at_start t k c.args.value.now c.as_str.result.now c.args.start c.requires.row (λ cs h. c.in_default.ensures.last cs (subst (λ x. IsInside x true cs c.args.start) (sym c.as_bytes-bytes.ensures.value) h)) ahead c.requires.within)
 
 pub label-requires-clause-member : goal.label-requires-clause-member
 label-requires-clause-member c =
-    last_member c.args.text.now c.in-Some.number c.in-Some.last c.args.start c.requires.row (same_last _ c.args.text.now true c.in-Some.number c.in-Some.last c.args.start c.as_bytes.ensures.value c.in-Some.ensures.last)
+    last_member c.args.text.now c.in-Some.number c.in-Some.last c.args.start c.requires.row (same_last _ c.args.text.now true c.in-Some.number c.in-Some.last c.args.start c.as_bytes-bytes.ensures.value c.in-Some.ensures.last)
 
 pub returns : goal.returns
 returns c =
@@ -26,5 +26,8 @@ returns c =
     let r = c.in-Some.last in
     let ahead = c.as_str-2.result.now in
     if_put c.put_in-2.result string_bytes _ (λ new. (v : Json) → Says t v → IsPutInto t v k c.args.value.now new) c.put_in-2.ensures
-    (at_end t k c.args.value.now ahead c.args.start c.in-Some.number r c.requires.row (same_last _ t true c.in-Some.number r c.args.start c.as_bytes.ensures.value c.in-Some.ensures.last)
-    (subst (λ x. AreInOrder x r.part) c.as_bytes.ensures.value c.in-Some.ensures.order.1) (subst (IsMemberAhead t r k) (sym c.as_str-2.ensures.value) c.in_ok-ahead-2.ensures) c.requires.new)
+    (at_end t k c.args.value.now ahead c.args.start c.in-Some.number r c.requires.row (same_last _ t true c.in-Some.number r c.args.start c.as_bytes-bytes.ensures.value c.in-Some.ensures.last)
+    (subst (λ x. AreInOrder x r.part) c.as_bytes-bytes.ensures.value c.in-Some.ensures.order.1) (subst (IsMemberAhead t r k) (sym c.as_str-2.ensures.value) c.in_ok-ahead-2.ensures) c.requires.new)
+
+pub last_part-requires : goal.last_part-requires
+last_part-requires c = c.first.ensures.ahead true

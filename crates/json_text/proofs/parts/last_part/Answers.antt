@@ -1,5 +1,5 @@
 use Rattle.std.proofs.Common.{arith}
-use Rattle.json_text.proofs.Rows.Reached.{first_next, last_there, next_next, none_at_all}
+use Rattle.json_text.proofs.Rows.Reached.{last_there, next_next, none_at_all}
 use Rattle.json_text.proofs.parts.last_part.Goals as goal
 
 pub returns-in_default-next-clause-last : goal.returns-in_default-next-clause-last
@@ -19,14 +19,7 @@ loop-part-smaller c =
     omega (arith, next.0, next.1, c.in-Some.ensures.order.named, c.in-Some.ensures.order.value, c.in-Some.ensures.start)
 
 pub loop-part-init : goal.loop-part-init
-loop-part-init c = record {
-  low = c.whitespace_end-start.ensures.bounds.1;
-  solid = c.whitespace_end-start.ensures.stops;
-  order = c.whitespace_end-start.ensures.bounds.0;
-  passed = omega arith;
-  boundary = λ u. (u, λ v. c.whitespace_end-start.ensures.boundary v (u v));
-  reached = λ cs h. first_next c.args.text.now c.args.named cs c.args.from c.whitespace_end-start.result c.whitespace_end-start.ensures.left c.whitespace_end-start.ensures.between h;
-}
+loop-part-init c = let a = c.requires in record { low = a.low; solid = a.solid; order = a.order; passed = a.passed; boundary = a.boundary; reached = a.next }
 
 pub loop-part-preserved : goal.loop-part-preserved
 loop-part-preserved c =

@@ -1,7 +1,6 @@
 use Rattle.std.proofs.Common.{◌≤◌, length, ◌-◌, List}
 use Rattle.std.specs.Str.{IsUtf8, IsCharBoundary}
-use Rattle.json_text.specs.Rows.{Child, IsInside, IsSolid}
-use Rattle.json_text.proofs.Rows.Reached.{IsNext}
+use Rattle.json_text.specs.Rows.{Child, IsInside, IsNext, IsSolid}
 use Rattle.json_text.proofs.parts.last_part.Given as goal
 
 abbrev pub invariant-loop-part : goal.invariant-loop-part

@@ -18,6 +18,9 @@ returns-in_default-next-clause-found c = λ cs h.
     let r = c.loop-part.invariant.reached cs h in
     none_past_last c.args.text.now c.args.named cs c.loop-part.passed c.args.number c.in-Some.part c.in_default-next.is c.loop-part.invariant.more c.if-passed-number.false (c.in-Some.ensures.part _ r.left)
 
+pub loop-part-init : goal.loop-part-init
+loop-part-init c = let a = c.requires.ahead in record { low = a.low; solid = a.solid; order = a.order; passed = a.passed; more = c.requires.passed; boundary = a.boundary; reached = λ cs h. (a.next cs h).reached }
+
 pub loop-part-smaller : goal.loop-part-smaller
 loop-part-smaller c =
     let next = rw c.in-Some-next.is at c.in-Some.ensures.order.next in
