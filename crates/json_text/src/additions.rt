@@ -41,7 +41,7 @@ fn standing_member(
     ensures within { IfOk result (λ found. IfSome found (IsWithin text.now)) }
 {
     if is_object(parent.as_bytes()) {
-        find(alloc, text, pointer, places)
+        find(alloc, text, pointer.tokens(), places)
     } else {
         Ok(None)
     }
@@ -113,7 +113,7 @@ impl<'a> CheckedText<'a> {
             return self.replace(alloc, pointer, value);
         };
         let text = self.as_str();
-        let Some(place) = find(alloc, text, parent, self.places())? else {
+        let Some(place) = find(alloc, text, parent.tokens(), self.places())? else {
             return Ok(None);
         };
         let here = &text[place.start..place.end];

@@ -123,7 +123,7 @@ impl<'a> CheckedText<'a> {
             (string_bytes new))) }
     {
         let text = self.as_str();
-        let Some(place) = find(alloc, text, pointer, self.places())? else {
+        let Some(place) = find(alloc, text, pointer.tokens(), self.places())? else {
             return Ok(None);
         };
         let value = value.as_str();
@@ -149,7 +149,7 @@ impl<'a> CheckedText<'a> {
         let Some((parent, last)) = pointer.split_back() else {
             return Ok(None);
         };
-        let Some(place) = find(alloc, text, parent, self.places())? else {
+        let Some(place) = find(alloc, text, parent.tokens(), self.places())? else {
             return Ok(None);
         };
         let name = last.decoded(alloc)?;

@@ -142,7 +142,7 @@ impl<'a> CheckedText<'a> {
             × MatchOption found (tree_at (tokens_of pointer.entry) j ≡ None)
             (λ s. IsWrittenAt (text_in self.now) j (tokens_of pointer.entry) (text_in s))) }
     {
-        let Some(place) = find(alloc, self.text, pointer, self.places)? else {
+        let Some(place) = find(alloc, self.text, pointer.tokens(), self.places)? else {
             return Ok(None);
         };
         Ok(Some(CheckedText::known(&self.text[place.start..place.end])))

@@ -35,6 +35,6 @@ pub use cuts::{Cut, cut_at, is_name_text, split_off_whitespace, whitespace_at};
 pub use fault::{ChangeFault, TextFault};
 pub use growing::quoted;
 pub use listing::{Shape, child_texts};
-pub use reading::{is_deeper, value_text};
+pub use reading::{is_deeper, split_around, value_text};
 pub use strings::{plain_string, string_of};
 pub use style::{colons_like, whitespace_like};

@@ -1,11 +1,9 @@
 use Rattle.std.proofs.Common.{◌≡◌, ◌-◌, [], None, take, drop, refl, sym, subst, ◌∙◌, append-nil}
 use Rattle.std.proofs.lemmas.Str.{IsCharBoundary-start}
 use Rattle.std.specs.Prelude.{MatchOption}
-use Rattle.jsonptr.specs.Pointers.{tokens_of}
-use Rattle.json_lexemes.specs.Found.{Stands}
+use Rattle.jsonptr.specs.Pointers.{tokens_left}
 use Rattle.json_lexemes.specs.Spelled.{Says, spelled}
 use Rattle.json_text.specs.Pointed.{tree_at, StandsBetween}
-use Rattle.json_text.specs.Ways.{placed}
 use Rattle.json_text.proofs.Ways.{stands_between}
 use Rattle.json_text.proofs.reading.find.Goals as goal
 
@@ -21,9 +19,8 @@ pub returns-clause-found : goal.returns-clause-found
 returns-clause-found c = λ j says.
     let t = c.as_bytes-bytes.result.now in
     let e = c.as_bytes-bytes.ensures.value in
-    let P = tokens_of c.args.pointer in
+    let P = tokens_left c.args.path in
     let found = c.in_ok-way.way.found in
     let there : Says t j = subst (λ u. Says u j) (sym e) says in
     let led = c.in_ok-way.ensures.leads j [] (c.whitespace_end-start.ensures.left ∙ there ∙ sym (append-nil (spelled j))) in
-    let stands : Stands t found (placed P j []) = subst (λ Q. Stands t found (placed Q j [])) c.tokens.ensures.value led.0 in
-    subst (λ u. MatchOption found (tree_at P j ≡ None) (λ s. StandsBetween (take s.start u) (take (s.end - s.start) (drop s.start u)) (drop s.end u) j P)) e (stands_between t j P found there stands c.in_ok-way.ensures.on.place)
+    subst (λ u. MatchOption found (tree_at P j ≡ None) (λ s. StandsBetween (take s.start u) (take (s.end - s.start) (drop s.start u)) (drop s.end u) j P)) e (stands_between t j P found there led.0 c.in_ok-way.ensures.on.place)

@@ -6,13 +6,13 @@ use Rattle.json_text.proofs.checked.CheckedText.add.Goals as goal
 pub returns-in_default-2 : goal.returns-in_default-2
 returns-in_default-2 c =
     let t = c.as_str-text.ensures.shallow in
-    rw c.as_str-text.ensures.text at (no_parent c.as_str-text.result.now _ _ _ t c.in-Some.ensures.last (rw c.in_default-2.is at (c.in_ok-place.ensures.found t.0 t.1.0)))
+    rw c.as_str-text.ensures.text at (no_parent c.as_str-text.result.now _ _ _ t c.in-Some.ensures.last (rw c.in_default-2.is at (rw c.tokens.ensures.value at (c.in_ok-place.ensures.found t.0 t.1.0))))
 
 pub returns-in-Some-3 : goal.returns-in-Some-3
 returns-in-Some-3 c =
     let t = c.as_str-text.ensures.shallow in
     let v = c.as_str-value.ensures.shallow in
-    let found = rw c.in-Some-2.is at (c.in_ok-place.ensures.found t.0 t.1.0) in
+    let found = rw c.in-Some-2.is at (rw c.tokens.ensures.value at (c.in_ok-place.ensures.found t.0 t.1.0)) in
     let here = subst (λ x. Says x found.0) (sym c.range-here.ensures.value) found.2.says in
     let within = rw c.in-Some-3.is at c.in_ok-old.ensures.within in
     let stands = rw c.in-Some-3.is at (c.in_ok-old.ensures.stands t.0 t.1.0) in
@@ -23,7 +23,7 @@ returns-in-Some-3 c =
 pub with_child-requires-clause-new : goal.with_child-requires-clause-new
 with_child-requires-clause-new c =
     let t = c.as_str-text.ensures.shallow in
-    let found = rw c.in-Some-2.is at (c.in_ok-place.ensures.found t.0 t.1.0) in
+    let found = rw c.in-Some-2.is at (rw c.tokens.ensures.value at (c.in_ok-place.ensures.found t.0 t.1.0)) in
     let here = subst (λ x. Says x found.0) (sym c.range-here.ensures.value) found.2.says in
     no_member_there c.as_str-text.result.now c.range-here.result.now c.as_str.result.now _ _ _ t.0 found.0 c.in-Some.ensures.last found.1 (c.as_str.ensures.value ∙ c.in_ok-name.ensures) here
     (λ v is y. rw c.in_default-3.is at (c.in_ok-old.ensures.none t.0 v t.1.0 is y))
@@ -31,7 +31,7 @@ with_child-requires-clause-new c =
 pub returns-in_default-4 : goal.returns-in_default-4
 returns-in_default-4 c =
     let t = c.as_str-text.ensures.shallow in
-    let found = rw c.in-Some-2.is at (c.in_ok-place.ensures.found t.0 t.1.0) in
+    let found = rw c.in-Some-2.is at (rw c.tokens.ensures.value at (c.in_ok-place.ensures.found t.0 t.1.0)) in
     let here = subst (λ x. Says x found.0) (sym c.range-here.ensures.value) found.2.says in
     let none = rw c.in_default-4.is at (c.in_ok-grown.ensures found.0 here) in
     rw c.as_str-text.ensures.text at (no_place_there c.as_str-text.result.now c.as_str.result.now _ _ _ t found.0 c.in-Some.ensures.last found.1 (c.as_str.ensures.value ∙ c.in_ok-name.ensures) none)
@@ -41,7 +41,7 @@ returns c =
     let t = c.as_str-text.ensures.shallow in
     let v = c.as_str-value.ensures.shallow in
     let within = rw c.in-Some-2.is at c.in_ok-place.ensures.within in
-    let found = rw c.in-Some-2.is at (c.in_ok-place.ensures.found t.0 t.1.0) in
+    let found = rw c.in-Some-2.is at (rw c.tokens.ensures.value at (c.in_ok-place.ensures.found t.0 t.1.0)) in
     let here = subst (λ x. Says x found.0) (sym c.range-here.ensures.value) found.2.says in
     let grown = rw c.in-Some-4.is at (c.in_ok-grown.ensures found.0 here) in
     let new = added_child_by c.as_str-text.result.now c.as_str-value.result.now _ c.range-put.result.now c.range-here.result.now c.as_str.result.now _ c.as_str-2.result.now _ _ _ _ c.in-Some-2.place c.whole-put.result t v c.in-Some.ensures.last within found c.whole-put.ensures.within c.as_bytes.ensures.value c.whole-put.ensures.whole

@@ -6,12 +6,12 @@ use Rattle.json_text.proofs.checked.CheckedText.remove.Goals as goal
 pub returns-in_default-2 : goal.returns-in_default-2
 returns-in_default-2 c =
     let t = c.as_str-text.ensures.shallow in
-    rw c.as_str-text.ensures.text at (none_below c.as_str-text.result.now _ _ _ t c.in-Some.ensures.last (rw c.in_default-2.is at (c.in_ok-place.ensures.found t.0 t.1.0)))
+    rw c.as_str-text.ensures.text at (none_below c.as_str-text.result.now _ _ _ t c.in-Some.ensures.last (rw c.in_default-2.is at (rw c.tokens.ensures.value at (c.in_ok-place.ensures.found t.0 t.1.0))))
 
 pub returns-in_default-3 : goal.returns-in_default-3
 returns-in_default-3 c =
     let t = c.as_str-text.ensures.shallow in
-    let found = rw c.in-Some-2.is at (c.in_ok-place.ensures.found t.0 t.1.0) in
+    let found = rw c.in-Some-2.is at (rw c.tokens.ensures.value at (c.in_ok-place.ensures.found t.0 t.1.0)) in
     let none = rw c.in_default-3.is at (c.in_ok-less.ensures found.0 (subst (λ x. Says x found.0) (sym c.range-here.ensures.value) found.2.says)) in
     rw c.as_str-text.ensures.text at (nothing_by c.as_str-text.result.now c.as_str.result.now _ _ _ t found.0 c.in-Some.ensures.last found.1 (c.as_str.ensures.value ∙ c.in_ok-name.ensures) none)
 
@@ -19,7 +19,7 @@ pub returns : goal.returns
 returns c =
     let t = c.as_str-text.ensures.shallow in
     let within = rw c.in-Some-2.is at c.in_ok-place.ensures.within in
-    let found = rw c.in-Some-2.is at (c.in_ok-place.ensures.found t.0 t.1.0) in
+    let found = rw c.in-Some-2.is at (rw c.tokens.ensures.value at (c.in_ok-place.ensures.found t.0 t.1.0)) in
     let less = rw c.in-Some-3.is at (c.in_ok-less.ensures found.0 (subst (λ x. Says x found.0) (sym c.range-here.ensures.value) found.2.says)) in
     let new = removed_by c.as_str-text.result.now c.range-here.result.now c.as_str.result.now _ c.as_str-2.result.now _ _ _ _ c.in-Some-2.place t within c.in-Some.ensures.last found c.range-here.ensures.value (c.as_str.ensures.value ∙ c.in_ok-name.ensures) c.as_str-2.ensures.value less c.in_ok-new.ensures in
     rw c.as_str-text.ensures.text at new
