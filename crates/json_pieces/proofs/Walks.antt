@@ -1,5 +1,5 @@
 -- The walk to the place of an edit, and the edit there.
-use Rattle.std.proofs.Common.{◌≡◌, inl, inr, ℕ, ◌+◌, ◌<◌, ◌≤◌, ◌^◌, true, List, [], ◌∷◌, length, get_or, map, Option, Some, None, option_and_then, refl, sym, ap, ◌∙◌, subst, arith, append-nil, Box}
+use Rattle.std.proofs.Common.{◌≡◌, inl, inr, ℕ, ◌+◌, ◌<◌, ◌≤◌, ◌^◌, true, List, [], ◌∷◌, ◌++◌, length, get_or, map, Option, Some, None, option_and_then, refl, sym, ap, ◌∙◌, subst, arith, append-nil, Box}
 use Rattle.std.specs.Box.{with_value as boxed_with}
 use Rattle.std.specs.Prelude.{IfOk, IfSome, MatchOption, OnOk, Result, Ok, Err, is_some, slice_set}
 use Rattle.std.specs.declared.alloc.AllocError.{AllocError}
@@ -12,11 +12,11 @@ use Rattle.jsonptr.specs.Text.{Pointer}
 use Rattle.json_text.specs.Cuts.{AllSuit, row_text}
 use Rattle.json_text.specs.Less.{IsLeaf, IsNumberOf}
 use Rattle.json_text.specs.Listing.{IsTextOf}
-use Rattle.json_text.specs.Pointed.{child, tree_at, IsWrittenAt}
+use Rattle.json_text.specs.Pointed.{child, put_at, tree_at, IsTight, IsWrittenAt, StandsBetween}
 use Rattle.json_text.specs.Rows.{Child, tree_in}
 use Rattle.json_lexemes.specs.Spelled.{Says}
 use Rattle.long_vec.specs.Items.{items_of}
-use Rattle.json_pieces.specs.Edits.{Alters, IsMade, Makes, PutsIn, TakesOut}
+use Rattle.json_pieces.specs.Edits.{Alters, Exchanges, IsMade, Makes, PutsIn, TakesOut}
 use Rattle.json_pieces.specs.Nodes.{IsOpened, IsSound, IsWhole, Tree, parts_of, row_view, shut, text_bytes, tree_text, view, wide}
 use Rattle.json_pieces.specs.declared.edit.Edit.{Edit}
 use Rattle.json_pieces.specs.declared.edit.Edit.TheVariants.{Read, Put, Take, Insert}
@@ -30,7 +30,7 @@ use Rattle.json_pieces.proofs.Lifts.{lift, none_there}
 use Rattle.json_pieces.proofs.Lists.{pieces_are, pieces_in, set_pieces, set_sound, value_sound, value_there}
 use Rattle.json_pieces.proofs.Rows.Answers.{value_of_some}
 use Rattle.json_pieces.proofs.Rows.Numbers.{Stands, has_text, put_size, value_at, value_fits}
-use Rattle.json_pieces.proofs.Rows.Says.{row_is}
+use Rattle.json_pieces.proofs.Rows.Says.{row_is, tight_around}
 
 -- ---- one level
 
@@ -126,6 +126,32 @@ put_made old new x out e h is left j says =
     let text = tree_text (view old) in
     subst (λ y. Makes y text j [] (tree_text (view new)) (Some out)) (sym is)
     (record { way = []; value = j; own = text; left = tree_text (view new); alters = whole_alters text j (tree_text (view new)) (text_of_tree (view old) j h says); is_left = ap (λ n. tree_text (view n)) left; right = tt })
+
+-- ---- the edit where tokens lead, of a text that stays closed
+
+-- the text of a value in the place of a stretch
+module _ (text before own behind put new : List ℕ) (P : Pointer) (j : Json) (whole : text ≡ before ++ (own ++ behind)) (stands : StandsBetween before own behind j P) (is : new ≡ before ++ (put ++ behind)) where
+  pub exchange_whole : (w : Json) → IsTextOf text j → IsTextOf put w → (k : Json) × IsTextOf new k
+  exchange_whole w said put_said =
+      let there : IsTextOf (before ++ (put ++ behind)) (put_at P w j) = (stands.2.alone put w put_said.0, tight_around before own behind put (subst IsTight whole said.1) put_said.1) in
+      (put_at P w j, subst (λ s. IsTextOf s (put_at P w j)) (sym is) there)
+
+  exchange_alters : Alters text j P stands.0 own put new
+  exchange_alters = record { before = before; behind = behind; whole = whole; leads = stands.1; stood = stands.2; exchanged = is }
+
+  pub exchange_is : Exchanges text j P put new
+  exchange_is = (stands.0, own, exchange_alters)
+
+pub exchanged_made : (text new : List ℕ) (x out : Node) (e : Edit) (P : Pointer) (j : Json) → e ≡ Put x → Exchanges text j P (tree_text (view x)) new → Makes e text j P new (Some out)
+exchanged_made text new x out e P j is (v, own, a) =
+    subst (λ y. Makes y text j P new (Some out)) (sym is)
+    (record { way = []; value = v; own = own; left = tree_text (view x); alters = subst (λ Q. Alters text j Q v own (tree_text (view x)) new) (sym (append-nil P)) a; is_left = refl; right = tt })
+
+pub copied_made : (text before own behind : List ℕ) (out : Node) (e : Edit) (P : Pointer) (j : Json) → text ≡ before ++ (own ++ behind) → StandsBetween before own behind j P → e ≡ Read → tree_text (view out) ≡ own → Makes e text j P text (Some out)
+copied_made text before own behind out e P j whole stands is same =
+    let a : Alters text j P stands.0 own own text = exchange_alters text before own behind own text P j whole stands whole in
+    subst (λ y. Makes y text j P text (Some out)) (sym is)
+    (record { way = []; value = stands.0; own = own; left = own; alters = subst (λ Q. Alters text j Q stands.0 own own text) (sym (append-nil P)) a; is_left = (refl, same); right = tt })
 
 -- ---- in the object or the array
 

@@ -20,6 +20,10 @@ pub record Alters (text : List ℕ) (j : Json) (P : Pointer) (v : Json) (own lef
   pub stood : IsStretch before own behind v (λ w. put_at P w j)
   pub exchanged : new ≡ before ++ (left ++ behind)
 
+-- x comes in the place of what stands where P leads
+abbrev pub Exchanges : List ℕ → Json → Pointer → List ℕ → List ℕ → Type 0
+Exchanges text j P x new = (v : Json) × (own : List ℕ) × Alters text j P v own x new
+
 -- what the edit leaves of a value, and the text that it answers: a member that stands is exchanged itself, by its name
 abbrev pub IsLeft : Edit → Pointer → Json → List ℕ → List ℕ → List ℕ → Type 0
 IsLeft Read [] v own left out = (left ≡ own) × (out ≡ own)

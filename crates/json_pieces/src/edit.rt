@@ -1,24 +1,26 @@
 //! An edit where a pointer leads.
 
-ghost use Rattle.std.specs.Prelude.{◌≡◌, ◌+◌, ◌<◌, ◌≤◌, ◌^◌, ◌∷◌, [], is_some, length, true, IfOk, IfSome, MatchOption, OnErr, OnOk};
+ghost use Rattle.std.specs.Prelude.{◌≡◌, ◌+◌, ◌<◌, ◌≤◌, ◌^◌, ◌∷◌, [], None, is_some, length, true, IfOk, IfSome, MatchOption, OnErr, OnOk};
 ghost use Rattle.std.specs.String.{string_bytes};
 ghost use Rattle.json.specs.Json.{Json};
 ghost use Rattle.jsonptr.specs.Pointers.{token_of, tokens_left};
-ghost use Rattle.json_pieces.specs.Edits.{Fails, IsInner, IsMade, IsReady, Makes, PutsIn};
+ghost use Rattle.json_pieces.specs.Edits.{Exchanges, Fails, IsInner, IsMade, IsReady, Makes, PutsIn};
 ghost use Rattle.json_pieces.specs.Held.{held, row_held};
 ghost use Rattle.json_pieces.specs.Logged.{IsLed, IsStepped};
 ghost use Rattle.json_pieces.specs.Nodes.{IsSound, IsWhole, row_view, tree_text, view};
 ghost use Rattle.json_lexemes.specs.Spelled.{Says};
 ghost use Rattle.json_text.specs.Listing.{IsTextOf};
+ghost use Rattle.json_text.specs.Pointed.{tree_at};
 
 use crate::back::{Back, Level};
 use crate::means::Means;
-use crate::node::{Node, Row, written};
+use crate::node::{Node, Row, write, written};
 use crate::opening::open;
 use crate::row::{number_at, put, take};
-use crate::small::{is_small, is_text};
+use crate::small::{is_small, is_text, small_text};
 use crate::text::Text;
 use crate::work::Work;
+use json_text::split_around;
 use jsonptr::{Token, Tokens};
 use std::alloc::AllocError;
 use std::mem;
@@ -196,6 +198,34 @@ fn edited<'a>(
     Ok(Some((left, out)))
 }
 
+/// The text with that of another value where the tokens lead; `None` where they lead nowhere.
+fn exchanged(
+    means: Means,
+    text: &str,
+    path: Tokens<'_>,
+    value: &Node<'_>,
+) -> Result<Option<String>, AllocError>
+    requires text { (j : Json) × IsTextOf text.now j }
+    requires value { IsWhole (view value.now) }
+    ensures text { IfOk result (λ found. IfSome found (λ new. (j : Json) × IsTextOf (string_bytes new) j)) }
+    ensures grown { IfOk result (λ found. IfSome found
+        (λ new. length (string_bytes new) ≤ length text.now + means.room)) }
+    ensures exchanges { IfOk result (λ found. (j : Json) → Says text.now j
+        → MatchOption found (tree_at (tokens_left path.entry) j ≡ None)
+        (λ new. Exchanges text.now j (tokens_left path.entry) (tree_text (view value.now))
+        (string_bytes new))) }
+{
+    let Some((before, own, behind)) = split_around(means.alloc, text, path)? else {
+        return Ok(None);
+    };
+    let length = means.resized(text.len(), own.len(), value.len())?;
+    let mut new = String::with_capacity(means.alloc, length)?;
+    new.push_str(before)?;
+    write(value, &mut new)?;
+    new.push_str(behind)?;
+    Ok(Some(new))
+}
+
 /// Puts another text in the place of a value's.
 pub(crate) fn put_text<'a>(
     work: &mut Work<'a>,
@@ -216,11 +246,56 @@ pub(crate) fn put_text<'a>(
 }
 
 /// Makes the edit where the tokens lead, and leaves the value closed: another text comes in the place of its
-/// text.
+/// text. To read or to put, only a stretch of the text is looked for.
 // Not inlined: each level on the way would else hold its room.
 #[inline(never)]
 #[cycle(edit)]
 fn edit_small<'a>(
+    work: &mut Work<'a>,
+    node: &mut Node<'a>,
+    path: Tokens<'_>,
+    edit: Edit<'_, 'a>,
+) -> Result<Option<Node<'a>>, AllocError>
+    requires whole { IsWhole (view node.old) }
+    requires ready { IsReady edit }
+    requires steps { work.old.steps.items ≡ [] }
+    requires room { length (tree_text (view node.old)) + work.old.means.room < 2 ^ 64 }
+    ensures whole { IsWhole (view node.new) }
+    ensures grown { length (tree_text (view node.new)) ≤ length (tree_text (view node.old)) + work.old.means.room }
+    ensures unchanged { OnErr result (tree_text (view node.new) ≡ tree_text (view node.old)) }
+    ensures makes { IfOk result (λ found. (j : Json) → Says (tree_text (view node.old)) j
+        → Makes edit.entry (tree_text (view node.old)) j (tokens_left path.entry)
+        (tree_text (view node.new)) found) }
+    ensures sound { IfOk result (λ found. IfSome found (λ out. IsSound (view out))) }
+    ensures led { work.old.logged ≡ true → IsLed work.new.steps.items work.old.place.items work.new.place.items (held node.old) (held node.new) }
+{
+    let Some(text) = small_text(node) else {
+        return edit_copied(work, node, path, edit);
+    };
+    match edit {
+        Edit::Read => {
+            let Some((_, own, _)) = split_around(work.means.alloc, text, path)? else {
+                return Ok(None);
+            };
+            let copy = String::from_str(work.means.alloc, own)?;
+            Ok(Some(Node::Closed(Text::Made(copy))))
+        }
+        Edit::Put(value) => {
+            let Some(new) = exchanged(work.means, text, path, &value)? else {
+                return Ok(None);
+            };
+            put_text(work, node, new)?;
+            Ok(Some(Node::Closed(Text::Empty)))
+        }
+        edit => edit_copied(work, node, path, edit),
+    }
+}
+
+/// The same in a copy of the text, which is opened in pieces that are let go.
+// Not inlined: to read or to put would else hold its room.
+#[inline(never)]
+#[cycle(edit)]
+fn edit_copied<'a>(
     work: &mut Work<'a>,
     node: &mut Node<'a>,
     path: Tokens<'_>,

@@ -69,11 +69,11 @@ pub(crate) fn find(
 /// let parts = split_around(alloc, text, place.tokens())?;
 /// // Some(("{\"list\": [", "1.50", ", 2] }"))
 /// ```
-pub fn split_around<'t>(
+pub fn split_around<'a>(
     alloc: Global,
-    text: &'t str,
+    text: &'a str,
     path: Tokens,
-) -> Result<Option<(&'t str, &'t str, &'t str)>, AllocError>
+) -> Result<Option<(&'a str, &'a str, &'a str)>, AllocError>
     ensures whole { IfOk result (λ found. IfSome found (λ s.
         text.now ≡ s.0.now ++ (s.1.now ++ s.2.now))) }
     ensures stands { IfOk result (λ found. (j : Json) → Says text.now j

@@ -7,7 +7,7 @@ use json_lexemes::Signposts;
 use json_pieces::{Pieces, Taken};
 use json_text::{
     ChangeFault, CheckedText, TextFault, add, child_texts, is_deeper, plain_string, remove,
-    replace, string_of, value_text,
+    replace, split_around, string_of, value_text,
 };
 use jsonptr::Pointer;
 use std::alloc::{AllocError, Global};
@@ -16,6 +16,7 @@ use std::alloc::{AllocError, Global};
 pub(crate) fn answer(alloc: Global, call: &str, place: Pointer) -> Result<String, AllocError> {
     match call {
         "value_text" => told(alloc, array_in(alloc, place)),
+        "split_around" => told(alloc, parts_around(alloc, place)),
         "add" => told(alloc, added(alloc, place)),
         "remove" => told(alloc, removed(alloc, place)),
         "replace" => told(alloc, replaced(alloc, place)),
@@ -62,6 +63,12 @@ fn array_in(alloc: Global, place: Pointer) -> Result<String, TextFault> {
     let text = r#"{"name": "x", "list": [1.50, "\u0041"] }"#;
     let array = value_text(alloc, text, place)?;
     Ok(found(alloc, array)?)
+}
+
+fn parts_around(alloc: Global, place: Pointer) -> Result<String, AllocError> {
+    let text = r#"{"list": [1.50, 2] }"#;
+    let parts = split_around(alloc, text, place.tokens())?;
+    format!(in alloc; "{parts:?}")
 }
 
 fn replaced(alloc: Global, place: Pointer) -> Result<String, ChangeFault> {

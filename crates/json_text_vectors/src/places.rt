@@ -6,7 +6,7 @@ ghost use Rattle.jsonptr.specs.Pointers.{tokens_of};
 ghost use Rattle.json_text.specs.Pointed.{IsWrittenAt};
 ghost use Rattle.json_lexemes.specs.Spelled.{Says};
 
-use json_text::{CheckedText, Shape, TextFault, child_texts, string_of, value_text};
+use json_text::{CheckedText, Shape, TextFault, child_texts, split_around, string_of, value_text};
 use jsonptr::Pointer;
 use std::alloc::{AllocError, Global};
 
@@ -18,6 +18,12 @@ pub(crate) fn found(alloc: Global, text: Option<&str>) -> Result<String, AllocEr
 pub(crate) fn value(alloc: Global, text: &str, place: Pointer) -> Result<String, TextFault> {
     let there = value_text(alloc, text, place)?;
     Ok(found(alloc, there)?)
+}
+
+/// What stands before a value, its text, and what stands behind it.
+pub(crate) fn around(alloc: Global, text: &str, place: Pointer) -> Result<String, AllocError> {
+    let parts = split_around(alloc, text, place.tokens())?;
+    format!(in alloc; "{parts:?}")
 }
 
 pub(crate) fn checked(alloc: Global, text: &str) -> Result<String, TextFault> {

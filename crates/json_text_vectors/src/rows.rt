@@ -92,6 +92,7 @@ fn on_place(alloc: Global, call: &str, text: &str, place: &str) -> Result<String
     };
     match call {
         "value_text" => told(alloc, places::value(alloc, text, place)),
+        "split_around" => told(alloc, places::around(alloc, text, place)),
         "remove" => told(alloc, remove(alloc, text, place)),
         "example" => examples::answer(alloc, text, place),
         _ => no_row(alloc),

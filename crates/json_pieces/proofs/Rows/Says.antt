@@ -1,5 +1,5 @@
 -- What the text of a row says.
-use Rattle.std.proofs.Common.{◌≡◌, ℕ, suc, ◌-◌, ◌<◌, Bool, true, false, List, [], ◌∷◌, ◌++◌, length, get_or, refl, sym, ap, ap₂, ◌∙◌, subst, arith, append_assoc}
+use Rattle.std.proofs.Common.{◌≡◌, ℕ, suc, ◌-◌, ◌<◌, Bool, true, false, List, [], ◌∷◌, ◌++◌, length, get_or, refl, sym, ap, ap₂, ◌∙◌, subst, arith, append_assoc, append-nil, length-append}
 use Rattle.std.proofs.lemmas.Bool.{true≢false}
 use Rattle.std.specs.Prelude.{⊤}
 use Rattle.json.specs.Lex.{Lexeme, token, comma, colon, between, lex}
@@ -36,6 +36,29 @@ further_end x v e =
 pub tight_end : (s v : List ℕ) → IsTightEnd v → IsTightEnd (s ++ v)
 tight_end [] v e = e
 tight_end (x ∷ s) v e = further_end x (s ++ v) (tight_end s v e)
+
+nearer_end : (x : ℕ) (v : List ℕ) → 0 < length v → IsTightEnd (x ∷ v) → IsTightEnd v
+nearer_end x v some e =
+    let place : length (x ∷ v) - 1 ≡ suc (length v - 1) = omega (arith, some) in
+    sym (ap (λ n. is_space (get_or (x ∷ v) n 32)) place) ∙ e
+
+end_behind : (s v : List ℕ) → 0 < length v → IsTightEnd (s ++ v) → IsTightEnd v
+end_behind [] v some e = e
+end_behind (x ∷ s) v some e = end_behind s v some (nearer_end x (s ++ v) (omega (arith, some, length-append s v)) e)
+
+-- it stays so with another text in the place of a stretch
+pub tight_around : (before own behind put : List ℕ) → IsTight (before ++ (own ++ behind)) → IsTight put → IsTight (before ++ (put ++ behind))
+tight_around before own behind put (front, end) (put_front, put_end) = (by_before before front, by_behind behind end)
+  where
+    by_before : (a : List ℕ) → IsTightFront (a ++ (own ++ behind)) → IsTightFront (a ++ (put ++ behind))
+    by_before [] e = tight_front put behind put_front
+    by_before (x ∷ a) e = e
+
+    by_behind : (b : List ℕ) → IsTightEnd (before ++ (own ++ b)) → IsTightEnd (before ++ (put ++ b))
+    by_behind [] e = tight_end before (put ++ []) (subst IsTightEnd (sym (append-nil put)) put_end)
+    by_behind (y ∷ b) e =
+        let last : IsTightEnd (y ∷ b) = end_behind (before ++ own) (y ∷ b) (omega arith) (subst IsTightEnd (sym (append_assoc before own (y ∷ b))) e) in
+        tight_end before (put ++ (y ∷ b)) (tight_end put (y ∷ b) last)
 
 -- ---- a piece whose value may have whitespace around it
 

@@ -7,21 +7,23 @@ use Rattle.json.specs.Json.{Json}
 use Rattle.json_lexemes.specs.Spelled.{Says}
 use Rattle.jsonptr.specs.Pointers.{token_of, tokens_left}
 use Rattle.long_vec.specs.Items.{capacity_of, items_of}
-use Rattle.json_pieces.specs.Edits.{Makes}
+use Rattle.json_pieces.specs.Edits.{Exchanges, Makes}
 use Rattle.json_pieces.specs.Held.{held, row_held}
 use Rattle.json_pieces.specs.Logged.{IsLed}
 use Rattle.json_pieces.specs.Nodes.{IsSound, IsWhole, parts_of, row_view, text_bytes, tree_text, view, wide}
 use Rattle.json_pieces.specs.declared.node.Node.{the_lemmas}
-use Rattle.json_pieces.specs.declared.node.Node.TheVariants.{Open}
+use Rattle.json_pieces.specs.declared.node.Node.TheVariants.{Closed, Open}
+use Rattle.json_pieces.specs.declared.text.Text.TheVariants.{Made}
 use Rattle.json_text.specs.Cuts.{row_text}
 use Rattle.json_text.specs.Listing.{IsTextOf}
+use Rattle.json_pieces.proofs.Levels.{closed_text}
 use Rattle.json_pieces.proofs.Lifts.{lift_makes}
 use Rattle.json_pieces.proofs.Lists.{pieces_in}
 use Rattle.json_pieces.proofs.Opened.{opened_itself, opened_text}
 use Rattle.json_pieces.proofs.Stepped.{both_through, led_after, led_below, led_none, stepped_led}
-use Rattle.json_pieces.proofs.Walks.{none_made, nowhere, number_found, number_none, number_within, one_value, open_grown, open_room, open_sound, open_text, open_whole, put_back, row_made_at, set_is_sound, set_makes, set_same, value_low, value_whole}
+use Rattle.json_pieces.proofs.Walks.{copied_made, exchanged_made, none_made, nowhere, number_found, number_none, number_within, one_value, open_grown, open_room, open_sound, open_text, open_whole, put_back, row_made_at, set_is_sound, set_makes, set_same, value_low, value_whole}
 use Rattle.json_pieces.proofs.edit.+edit.Goals as goal
-use Rattle.json_pieces.proofs.edit.+edit.Goals.{edit_small-then-not-is_text+in_ok-put_text, edit_small-else-not-is_text}
+use Rattle.json_pieces.proofs.edit.+edit.Goals.{edit_copied-then-not-is_text+in_ok-put_text, edit_copied-else-not-is_text}
 
 pub edit_in-returns-in_default-clause-makes : goal.edit_in-returns-in_default-clause-makes
 edit_in-returns-in_default-clause-makes t c =
@@ -152,34 +154,78 @@ edit_in-returns-clause-led t c = λ on.
 
 -- ---- a small value
 
-pub edit_small-returns-in_err-text-clause-led : goal.edit_small-returns-in_err-text-clause-led
-edit_small-returns-in_err-text-clause-led t c = λ on. led_none c.args.work.now.steps.items c.args.work.now.place.items c.args.work.now.place.items (held c.args.node.now) (held c.args.node.now) c.requires.steps (opened_itself (held c.args.node.now))
+pub edit_small-returns-in_err-own-in-Read-clause-led : goal.edit_small-returns-in_err-own-in-Read-clause-led
+edit_small-returns-in_err-own-in-Read-clause-led t c = λ on. led_none c.args.work.now.steps.items c.args.work.now.place.items c.args.work.now.place.items (held c.args.node.now) (held c.args.node.now) c.requires.steps (opened_itself (held c.args.node.now))
 
-pub edit_small-returns-in_err-left-clause-led : goal.edit_small-returns-in_err-left-clause-led
-edit_small-returns-in_err-left-clause-led t c = λ on. led_none c.args.work.now.steps.items c.args.work.now.place.items c.args.work.now.place.items (held c.args.node.now) (held c.args.node.now) c.requires.steps (opened_itself (held c.args.node.now))
+pub edit_small-returns-in_default-2-clause-led : goal.edit_small-returns-in_default-2-clause-led
+edit_small-returns-in_default-2-clause-led t c = λ on. led_none c.args.work.now.steps.items c.args.work.now.place.items c.args.work.now.place.items (held c.args.node.now) (held c.args.node.now) c.requires.steps (opened_itself (held c.args.node.now))
 
-pub edit_small-returns-in_default-clause-led : goal.edit_small-returns-in_default-clause-led
-edit_small-returns-in_default-clause-led t c = λ on. led_none c.args.work.now.steps.items c.args.work.now.place.items c.args.work.now.place.items (held c.args.node.now) (held c.args.node.now) c.requires.steps (opened_itself (held c.args.node.now))
+pub edit_small-returns-in_err-copy-in-Read-clause-led : goal.edit_small-returns-in_err-copy-in-Read-clause-led
+edit_small-returns-in_err-copy-in-Read-clause-led t c = λ on. led_none c.args.work.now.steps.items c.args.work.now.place.items c.args.work.now.place.items (held c.args.node.now) (held c.args.node.now) c.requires.steps (opened_itself (held c.args.node.now))
 
-pub edit_small-returns-in_err-put_text-clause-led : goal.edit_small-returns-in_err-put_text-clause-led
-edit_small-returns-in_err-put_text-clause-led t c = λ on.
+pub edit_small-returns-in_ok-copy-in-Read-clause-led : goal.edit_small-returns-in_ok-copy-in-Read-clause-led
+edit_small-returns-in_ok-copy-in-Read-clause-led t c = λ on. led_none c.args.work.now.steps.items c.args.work.now.place.items c.args.work.now.place.items (held c.args.node.now) (held c.args.node.now) c.requires.steps (opened_itself (held c.args.node.now))
+
+pub edit_small-returns-in_err-new-in-Put-clause-led : goal.edit_small-returns-in_err-new-in-Put-clause-led
+edit_small-returns-in_err-new-in-Put-clause-led t c = λ on. led_none c.args.work.now.steps.items c.args.work.now.place.items c.args.work.now.place.items (held c.args.node.now) (held c.args.node.now) c.requires.steps (opened_itself (held c.args.node.now))
+
+pub edit_small-returns-in_default-3-clause-led : goal.edit_small-returns-in_default-3-clause-led
+edit_small-returns-in_default-3-clause-led t c = λ on. led_none c.args.work.now.steps.items c.args.work.now.place.items c.args.work.now.place.items (held c.args.node.now) (held c.args.node.now) c.requires.steps (opened_itself (held c.args.node.now))
+
+pub edit_small-returns-in_err-put_text-in-Put-clause-led : goal.edit_small-returns-in_err-put_text-in-Put-clause-led
+edit_small-returns-in_err-put_text-in-Put-clause-led t c = λ on. stepped_led c.put_text.new.work.steps.items c.args.work.now.place.items c.put_text.new.work.place.items (held c.args.node.now) (held c.put_text.new.node) (ap (λ v. v.items) c.put_text.ensures.place) (c.put_text.ensures.led on)
+
+pub edit_small-returns-in_ok-put_text-in-Put-clause-led : goal.edit_small-returns-in_ok-put_text-in-Put-clause-led
+edit_small-returns-in_ok-put_text-in-Put-clause-led t c = λ on. stepped_led c.put_text.new.work.steps.items c.args.work.now.place.items c.put_text.new.work.place.items (held c.args.node.now) (held c.put_text.new.node) (ap (λ v. v.items) c.put_text.ensures.place) (c.put_text.ensures.led on)
+
+pub edit_small-returns-in_ok-copy-in-Read-clause-makes : goal.edit_small-returns-in_ok-copy-in-Read-clause-makes
+edit_small-returns-in_ok-copy-in-Read-clause-makes t c = λ j says.
+    let same = c.in-Some.ensures in
+    let whole = rw c.in-Some-2.is at c.in_ok-own-in-Read.ensures.whole in
+    let stands = rw c.in-Some-2.is at (c.in_ok-own-in-Read.ensures.stands j (subst (λ s. Says s j) (sym same) says)) in
+    let copy = Made c.in_ok-copy-in-Read.copy in
+    copied_made (tree_text (view c.args.node.now)) c.in-Some-2.field-0-0.now c.in-Some-2.own.now c.in-Some-2.field-0-2.now (Closed copy) c.args.edit (tokens_left c.args.path) j (sym same ∙ whole) stands c.in-Read.is (closed_text copy ∙ c.in_ok-copy-in-Read.ensures.ok)
+
+pub edit_small-returns-in_ok-put_text-in-Put-clause-makes : goal.edit_small-returns-in_ok-put_text-in-Put-clause-makes
+edit_small-returns-in_ok-put_text-in-Put-clause-makes t c = λ j says.
+    let P = tokens_left c.args.path in
+    let put = tree_text (view c.in-Put.value) in
+    let new = c.put_text.new.node in
+    let same = c.in-Some.ensures in
+    let there : Exchanges c.in-Some.text.now j P put (string_bytes c.in-Some-3.new) = rw c.in-Some-3.is at (c.in_ok-new-in-Put.ensures.exchanges j (subst (λ s. Says s j) (sym same) says)) in
+    let left : Exchanges c.in-Some.text.now j P put (tree_text (view new)) = subst (Exchanges c.in-Some.text.now j P put) (sym c.in_ok-put_text-in-Put.ensures.text) there in
+    exchanged_made (tree_text (view c.args.node.now)) (tree_text (view new)) c.in-Put.value _ c.args.edit P j c.in-Put.is (subst (λ s. Exchanges s j P put (tree_text (view new))) same left)
+
+-- ---- the same in pieces
+
+pub edit_copied-returns-in_err-text-clause-led : goal.edit_copied-returns-in_err-text-clause-led
+edit_copied-returns-in_err-text-clause-led t c = λ on. led_none c.args.work.now.steps.items c.args.work.now.place.items c.args.work.now.place.items (held c.args.node.now) (held c.args.node.now) c.requires.steps (opened_itself (held c.args.node.now))
+
+pub edit_copied-returns-in_err-left-clause-led : goal.edit_copied-returns-in_err-left-clause-led
+edit_copied-returns-in_err-left-clause-led t c = λ on. led_none c.args.work.now.steps.items c.args.work.now.place.items c.args.work.now.place.items (held c.args.node.now) (held c.args.node.now) c.requires.steps (opened_itself (held c.args.node.now))
+
+pub edit_copied-returns-in_default-clause-led : goal.edit_copied-returns-in_default-clause-led
+edit_copied-returns-in_default-clause-led t c = λ on. led_none c.args.work.now.steps.items c.args.work.now.place.items c.args.work.now.place.items (held c.args.node.now) (held c.args.node.now) c.requires.steps (opened_itself (held c.args.node.now))
+
+pub edit_copied-returns-in_err-put_text-clause-led : goal.edit_copied-returns-in_err-put_text-clause-led
+edit_copied-returns-in_err-put_text-clause-led t c = λ on.
     stepped_led c.put_text.new.work.steps.items c.args.work.now.place.items c.put_text.new.work.place.items (held c.args.node.now) (held c.put_text.new.node) (ap (λ v. v.items) c.put_text.ensures.place) (c.put_text.ensures.led on)
 
-pub edit_small-returns-clause-whole : goal.edit_small-returns-clause-whole
-edit_small-returns-clause-whole t c =
+pub edit_copied-returns-clause-whole : goal.edit_copied-returns-clause-whole
+edit_copied-returns-clause-whole t c =
     let said = subst (λ o. IfSome o (λ made. (j : Json) × IsTextOf (string_bytes made.0) j)) c.in-Some.is c.in_ok-left.ensures.text in
     elim c.if-not-is_text.branch [
-      | edit_small-then-not-is_text+in_ok-put_text w ↦ subst (λ n. IsWhole (view n)) (sym w.node-is) (w.in_ok-put_text.ensures.sound, subst (λ s. (j : Json) × IsTextOf s j) (sym w.in_ok-put_text.ensures.text) said)
-      | edit_small-else-not-is_text w ↦ subst (λ n. IsWhole (view n)) (sym w.node-is) c.requires.whole
+      | edit_copied-then-not-is_text+in_ok-put_text w ↦ subst (λ n. IsWhole (view n)) (sym w.node-is) (w.in_ok-put_text.ensures.sound, subst (λ s. (j : Json) × IsTextOf s j) (sym w.in_ok-put_text.ensures.text) said)
+      | edit_copied-else-not-is_text w ↦ subst (λ n. IsWhole (view n)) (sym w.node-is) c.requires.whole
     ]
 
-pub edit_small-returns-clause-led : goal.edit_small-returns-clause-led
-edit_small-returns-clause-led t c = λ on.
+pub edit_copied-returns-clause-led : goal.edit_copied-returns-clause-led
+edit_copied-returns-clause-led t c = λ on.
     let olds = c.args.work.now.place.items in
     let old = held c.args.node.now in
     elim c.if-not-is_text.branch [
-      | edit_small-then-not-is_text+in_ok-put_text w ↦ subst (λ n. IsLed c.if-not-is_text.work.steps.items olds c.if-not-is_text.work.place.items old (held n)) (sym w.node-is)
+      | edit_copied-then-not-is_text+in_ok-put_text w ↦ subst (λ n. IsLed c.if-not-is_text.work.steps.items olds c.if-not-is_text.work.place.items old (held n)) (sym w.node-is)
           (subst (λ k. IsLed k.steps.items olds k.place.items old (held w.put_text.new.node)) (sym w.work-is) (stepped_led w.put_text.new.work.steps.items olds w.put_text.new.work.place.items old (held w.put_text.new.node) (ap (λ v. v.items) w.put_text.ensures.place) (w.put_text.ensures.led on)))
-      | edit_small-else-not-is_text w ↦ subst (λ n. IsLed c.if-not-is_text.work.steps.items olds c.if-not-is_text.work.place.items old (held n)) (sym w.node-is)
+      | edit_copied-else-not-is_text w ↦ subst (λ n. IsLed c.if-not-is_text.work.steps.items olds c.if-not-is_text.work.place.items old (held n)) (sym w.node-is)
           (subst (λ k. IsLed k.steps.items olds k.place.items old old) (sym w.work-is) (led_none c.args.work.now.steps.items olds olds old old c.requires.steps (opened_itself old)))
     ]
