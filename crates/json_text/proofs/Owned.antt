@@ -1,7 +1,7 @@
 -- An element of an array that stands in a longer text, reached by a step that is known there.
-use Rattle.std.proofs.Common.{◌≡◌, ◌⊎◌, ℕ, zero, suc, ◌+◌, ◌-◌, ◌<◌, ◌≤◌, true, false, List, [], ◌∷◌, ◌++◌, length, take, drop, get_or, Option, Some, None, refl, sym, ap, ap₂, ◌∙◌, subst, inl, inr, arith, drop-drop, take-add, take-append-drop, get_or-drop}
+use Rattle.std.proofs.Common.{◌≡◌, ◌⊎◌, ℕ, zero, suc, ◌+◌, ◌-◌, ◌<◌, ◌≤◌, true, false, List, [], ◌∷◌, ◌++◌, length, take, drop, get_or, Option, Some, None, refl, sym, ap, ap₂, ◌∙◌, subst, inl, inr, arith, drop-drop, take-add, take-append-drop, get_or-drop, length-append, append_assoc}
 use Rattle.std.proofs.lemmas.List.{append_cancel_right, get_or_append_left, get_or_default}
-use Rattle.std.proofs.Math.Seq.{drop-append-le, take-append-le}
+use Rattle.std.proofs.Math.Seq.{drop-append-add, drop-append-le, take-append-le, take-append_seam}
 use Rattle.std.specs.Prelude.{IfSome}
 use Rattle.json.specs.Json.{Json, Items, item}
 use Rattle.json.specs.Lex.{Lexeme, Mode, between, in_word, in_string, in_escape, operator, class, comma, token, lex}
@@ -22,6 +22,27 @@ use Rattle.json_text.specs.Ways.{IsPlace}
 use Rattle.json_text.specs.Rows.{Child, IsInside, IsNext, IsReached, IsSolid, elements_in, inside, others, slice, tree_in}
 use Rattle.json_text.proofs.Rows.Trees.{first_elements_in, spelled_in}
 use Rattle.json_text.proofs.Stretches.{fits, lex-join, mode_between, two_parts}
+
+-- ---- what stands around it
+
+pub own_slice : (a t b : List ℕ) → t ≡ slice (a ++ (t ++ b)) (length a) (length a + length t)
+own_slice a t b =
+    let size : length a + length t - length a ≡ length t = omega arith in
+    let none : length a + 0 ≡ length a = omega arith in
+    sym (ap (λ n. take n (drop (length a) (a ++ (t ++ b)))) size ∙ ap (take (length t)) (ap (λ n. drop n (a ++ (t ++ b))) (sym none) ∙ drop-append-add a (t ++ b) 0) ∙ take-append_seam t b)
+
+pub own_fits : (a t b : List ℕ) → length a + length t ≤ length (a ++ (t ++ b))
+own_fits a t b = omega (arith, length-append a (t ++ b), length-append t b)
+
+pub own_at : (t a b d : List ℕ) (s : Span) → a ++ (b ++ d) ≡ t → length a ≡ s.start → length a + length b ≡ s.end → IsApart t s → IsApart (a ++ (b ++ d)) (record { start = length a; end = length a + length b })
+own_at t a b d s e f g h =
+    subst (λ x. IsApart x (record { start = length a; end = length a + length b })) (sym e)
+    (record { begins = subst (λ n. mode_at t n ≡ between) (sym f) h.begins; ends = subst (λ n. (mode_at t n ≡ between) ⊎ (ends_word (drop n t) ≡ true)) (sym g) h.ends })
+
+pub joined : (a p x y z q b s0 s1 s2 s3 s4 s5 s6 s7 : List ℕ) → s0 ≡ [] → s1 ≡ s0 ++ a → s2 ≡ s1 ++ p → s3 ≡ s2 ++ x → s4 ≡ s3 ++ y → s5 ≡ s4 ++ z → s6 ≡ s5 ++ q → s7 ≡ s6 ++ b → s7 ≡ a ++ ((p ++ (x ++ (y ++ (z ++ q)))) ++ b)
+joined a p x y z q b s0 s1 s2 s3 s4 s5 s6 s7 h0 h1 h2 h3 h4 h5 h6 h7 =
+    h7 ∙ ap (λ s. s ++ b) (h6 ∙ ap (λ s. s ++ q) (h5 ∙ ap (λ s. s ++ z) (h4 ∙ ap (λ s. s ++ y) (h3 ∙ ap (λ s. s ++ x) (h2 ∙ ap (λ s. s ++ p) (h1 ∙ ap (λ s. s ++ a) h0))))))
+    ∙ simp append_assoc
 
 -- ---- before a comma
 

@@ -126,10 +126,6 @@ impl<'a> CheckedText<'a> {
             return Ok(Some(new));
         }
         let name = last.decoded(alloc)?;
-        let Some(grown) = with_child(alloc, own, name.as_str(), put)? else {
-            return Ok(None);
-        };
-        let new = exchanged(alloc, text, place, grown.as_str())?;
-        Ok(Some(new))
+        with_child(alloc, own, name.as_str(), put)
     }
 }

@@ -155,10 +155,6 @@ impl<'a> CheckedText<'a> {
         };
         let name = last.decoded(alloc)?;
         let own = Own::at(text, place, self.places());
-        let Some(less) = without(alloc, own, name.as_str())? else {
-            return Ok(None);
-        };
-        let new = exchanged(alloc, text, place, less.as_str())?;
-        Ok(Some(new))
+        without(alloc, own, name.as_str())
     }
 }

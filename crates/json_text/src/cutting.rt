@@ -1,17 +1,16 @@
 //! A member or an element cut out of its object or array.
 
-ghost use Rattle.std.specs.Prelude.{◌≡◌, ◌<◌, ◌≤◌, ◌+◌, ◌++◌, None, IfOk, IfSome, MatchOption, take, drop};
+ghost use Rattle.std.specs.Prelude.{◌≡◌, ◌<◌, ◌≤◌, ◌+◌, ◌++◌, ℕ, List, None, IfOk, IfSome, MatchOption, take, drop};
 ghost use Rattle.std.specs.String.{string_bytes};
 ghost use Rattle.std.specs.Str.{IsUtf8, IsCharBoundary};
 ghost use Rattle.json.specs.Json.{Json};
 ghost use Rattle.json_lexemes.specs.Found.{IsWithin};
-ghost use Rattle.json_text.specs.Less.{IsLessText, IsWithout};
-ghost use Rattle.json_text.specs.Owned.{IsOwn};
+ghost use Rattle.json_text.specs.Less.{IsLessText, IsObject, IsWithout};
+ghost use Rattle.json_text.specs.Owned.{IsOwn, in_whole};
 ghost use Rattle.json_text.specs.Pointed.{child};
 ghost use Rattle.json_text.specs.Rows.{AreEdges, AreInOrder, CutNone};
 ghost use Rattle.json_lexemes.specs.Spelled.{Says};
 
-use crate::changes::exchanged;
 use crate::own::Own;
 use crate::parts::{Numbered, is_object, number_of, part_at, row_in};
 use json_lexemes::{Span, whitespace_end};
@@ -56,36 +55,57 @@ fn piece(own: Own<'_>, name: &str) -> Option<Span>
     Some(edges(text, number, found))
 }
 
-/// The text of an object or an array without one thing that a token names.
+/// The whole without one thing that a token names in an object or an array.
 fn without_one(alloc: Global, own: Own<'_>, name: &str) -> Result<Option<String>, AllocError>
     requires { IsOwn own }
-    ensures { IfOk result (λ less. (v : Json) → Says own.entry.text.now v
-        → MatchOption less (child name.now v ≡ None)
-        (λ new. IsLessText own.entry.text.now v name.now (string_bytes new))) }
+    ensures { IfOk result (λ found. (v : Json) → Says own.entry.text.now v
+        → MatchOption found (child name.now v ≡ None)
+        (λ new. (less : List ℕ) × (string_bytes new ≡ in_whole own.entry less)
+        × IsLessText own.entry.text.now v name.now less)) }
 {
     let Some(cut) = piece(own, name) else {
         return Ok(None);
     };
-    let new = exchanged(alloc, own.text, cut, "")?;
+    let new = own.spliced(alloc, cut, ("", "", ""))?;
     Ok(Some(new))
 }
 
-/// The text of an object or an array without all that a token names.
-pub(crate) fn without(alloc: Global, own: Own<'_>, name: &str) -> Result<Option<String>, AllocError>
-    requires says { (v : Json) × Says own.text.now v }
-    requires own { IsOwn own }
-    ensures { IfOk result (λ less. (v : Json) → Says own.entry.text.now v
-        → MatchOption less (child name.now v ≡ None)
-        (λ new. IsWithout own.entry.text.now v name.now (string_bytes new))) }
+/// The text of an object without all members of a name.
+fn without_members(alloc: Global, text: &str, name: &str) -> Result<Option<String>, AllocError>
+    requires { (v : Json) × Says text.now v × IsObject v }
+    ensures { IfOk result (λ found. (v : Json) → Says text.now v
+        → MatchOption found (child name.now v ≡ None)
+        (λ new. IsWithout text.now v name.now (string_bytes new))) }
 {
-    let Some(mut new) = without_one(alloc, own, name)? else {
+    let Some(mut new) = without_one(alloc, Own::alone(text), name)? else {
         return Ok(None);
     };
-    if !is_object(own.text.as_bytes()) {
-        return Ok(Some(new));
-    }
     while let Some(less) = without_one(alloc, Own::alone(new.as_str()), name)? {
         new = less;
     }
+    Ok(Some(new))
+}
+
+/// The whole without all that a token names in an object or an array.
+pub(crate) fn without(
+    alloc: Global,
+    own: Own<'_>,
+    name: &str,
+) -> Result<Option<String>, AllocError>
+    requires says { (v : Json) × Says own.text.now v }
+    requires own { IsOwn own }
+    ensures { IfOk result (λ found. (v : Json) → Says own.entry.text.now v
+        → MatchOption found (child name.now v ≡ None)
+        (λ new. (less : List ℕ) × (string_bytes new ≡ in_whole own.entry less)
+        × IsWithout own.entry.text.now v name.now less)) }
+{
+    if !is_object(own.text.as_bytes()) {
+        return without_one(alloc, own, name);
+    }
+    let Some(less) = without_members(alloc, own.text, name)? else {
+        return Ok(None);
+    };
+    let end = own.text.len();
+    let new = own.spliced(alloc, Span { start: 0, end }, (less.as_str(), "", ""))?;
     Ok(Some(new))
 }

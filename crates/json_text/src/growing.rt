@@ -8,7 +8,7 @@ ghost use Rattle.json.specs.Print.{quoted};
 ghost use Rattle.json_text.specs.Added.{IsPutInto};
 ghost use Rattle.json_text.specs.Changed.{add_child};
 ghost use Rattle.json_text.specs.Less.{IsObject};
-ghost use Rattle.json_text.specs.Owned.{IsOwn};
+ghost use Rattle.json_text.specs.Owned.{IsGrown, IsOwn, in_whole};
 ghost use Rattle.json_text.specs.Pointed.{child};
 ghost use Rattle.json_lexemes.specs.Spelled.{Says};
 ghost use Rattle.json_text.specs.Rows.{AreInOrder, CutNone, Child, HasRow, IsChild, IsComma, IsGap, IsInside};
@@ -18,7 +18,7 @@ use crate::own::Own;
 use crate::parts::{Numbered, first, last_part, part_at, row_in};
 use crate::style::{colons_like, whitespace_like};
 use json::Writer;
-use json_lexemes::{string_end, whitespace_end};
+use json_lexemes::{Span, string_end, whitespace_end};
 use jsonptr::index::Index;
 use std::alloc::{AllocError, Global};
 
@@ -34,27 +34,21 @@ pub fn quoted(alloc: Global, name: &str) -> Result<String, AllocError>
     }
 }
 
-/// The text with a value put in at a place, and what goes with it before and behind.
+/// The whole with a value put in at a place of an object or an array, and what goes with it before and behind.
 fn put_in(
     alloc: Global,
-    text: &str,
+    own: Own<'_>,
     at: usize,
     around: (&str, &str),
     value: &str,
 ) -> Result<String, AllocError>
-    requires fits { at ≤ length text.now }
-    requires boundary { IsCharBoundary text.now at }
-    ensures { IfOk result (λ new. string_bytes new ≡ take at text.now
-        ++ (around.entry.0.now ++ (value.now ++ (around.entry.1.now ++ drop at text.now)))) }
+    requires fits { at ≤ length own.text.now }
+    requires boundary { IsCharBoundary own.text.now at }
+    ensures { IfOk result (λ new. string_bytes new ≡ in_whole own.entry (take at own.entry.text.now
+        ++ (around.entry.0.now ++ (value.now ++ (around.entry.1.now ++ drop at own.entry.text.now))))) }
 {
     let (ahead, trail) = around;
-    let mut new = String::with_capacity(alloc, text.len())?;
-    new.push_str(&text[..at])?;
-    new.push_str(ahead)?;
-    new.push_str(value)?;
-    new.push_str(trail)?;
-    new.push_str(&text[at..])?;
-    Ok(new)
+    own.spliced(alloc, Span { start: at, end: at }, (ahead, value, trail))
 }
 
 /// Where the whitespace of a member or an element begins, behind the bracket or the comma before it.
@@ -110,30 +104,31 @@ fn label(
     Ok(ahead)
 }
 
-/// The text of an object, whose inside begins at `start`, with a new member.
+/// The whole with a new member in an object, whose inside begins at `start`.
 fn with_member(
     alloc: Global,
-    text: &str,
+    own: Own<'_>,
     start: usize,
     name: &str,
     value: &str,
 ) -> Result<String, AllocError>
-    requires within { start ≤ length text.now }
-    requires boundary { IsCharBoundary text.now start }
-    requires row { HasRow text.now true start }
-    requires new { (v : Json) → Says text.now v → child name.now v ≡ None }
-    ensures { IfOk result (λ new. (v : Json) → Says text.now v
-        → IsPutInto text.now v name.now value.now (string_bytes new)) }
+    requires within { start ≤ length own.text.now }
+    requires boundary { IsCharBoundary own.text.now start }
+    requires row { HasRow own.text.now true start }
+    requires new { (v : Json) → Says own.text.now v → child name.now v ≡ None }
+    ensures { IfOk result (λ new. (v : Json) → Says own.entry.text.now v
+        → IsGrown own.entry v name.now value.now (string_bytes new)) }
 {
+    let text = own.text;
     let bytes = text.as_bytes();
     let Some((number, last)) = last_part(bytes, start, true, first(bytes, start)) else {
         let mut ahead = quoted(alloc, name)?;
         ahead.push_str(":")?;
-        return put_in(alloc, text, start, (ahead.as_str(), ""), value);
+        return put_in(alloc, own, start, (ahead.as_str(), ""), value);
     };
     let ahead = label(alloc, text, number, last, name)?;
     let end = last.part.value.end;
-    put_in(alloc, text, end, (ahead.as_str(), ""), value)
+    put_in(alloc, own, end, (ahead.as_str(), ""), value)
 }
 
 /// The second element, if `number` is that of the first.
@@ -177,7 +172,7 @@ fn trail(
     }
 }
 
-/// The text of an array, whose inside begins at `start`, with a new element.
+/// The whole with a new element in an array, whose inside begins at `start`.
 fn with_element(
     alloc: Global,
     own: Own<'_>,
@@ -191,7 +186,7 @@ fn with_element(
     requires row { HasRow own.text.now false start }
     ensures { IfOk result (λ grown. (v : Json) → Says own.entry.text.now v
         → MatchOption grown ((w : Json) → add_child name.now w v ≡ None)
-        (λ new. IsPutInto own.entry.text.now v name.now value.now (string_bytes new))) }
+        (λ new. IsGrown own.entry v name.now value.now (string_bytes new))) }
 {
     let Ok(index) = Index::parse(name) else {
         return Ok(None);
@@ -205,16 +200,16 @@ fn with_element(
     let ahead = own.ahead(start, false, number);
     if let Some(found) = part_at(bytes, start, false, number, ahead) {
         let trail = trail(alloc, text, start, number, found)?;
-        let new = put_in(alloc, text, found.part.start, ("", trail.as_str()), value)?;
+        let new = put_in(alloc, own, found.part.start, ("", trail.as_str()), value)?;
         return Ok(Some(new));
     }
     let Some((number, last)) = last else {
-        let new = put_in(alloc, text, start, ("", ""), value)?;
+        let new = put_in(alloc, own, start, ("", ""), value)?;
         return Ok(Some(new));
     };
     let ahead = comma(alloc, text, number, last)?;
     let end = last.part.value.end;
-    let new = put_in(alloc, text, end, (ahead.as_str(), ""), value)?;
+    let new = put_in(alloc, own, end, (ahead.as_str(), ""), value)?;
     Ok(Some(new))
 }
 
@@ -229,7 +224,7 @@ fn count(last: Option<(usize, Numbered)>) -> usize
     }
 }
 
-/// The text of an object or an array with a value put in as what a token names.
+/// The whole with a value put into an object or an array as what a token names.
 pub(crate) fn with_child(
     alloc: Global,
     own: Own<'_>,
@@ -241,7 +236,7 @@ pub(crate) fn with_child(
     requires new { (v : Json) → Says own.text.now v → IsObject v → child name.now v ≡ None }
     ensures { IfOk result (λ grown. (v : Json) → Says own.entry.text.now v
         → MatchOption grown ((w : Json) → add_child name.now w v ≡ None)
-        (λ new. IsPutInto own.entry.text.now v name.now value.now (string_bytes new))) }
+        (λ new. IsGrown own.entry v name.now value.now (string_bytes new))) }
 {
     let Some(row) = row_in(own.text.as_bytes()) else {
         return Ok(None);
@@ -249,6 +244,6 @@ pub(crate) fn with_child(
     if !row.named {
         return with_element(alloc, own, row.start, name, value);
     }
-    let new = with_member(alloc, own.text, row.start, name, value)?;
+    let new = with_member(alloc, own, row.start, name, value)?;
     Ok(Some(new))
 }

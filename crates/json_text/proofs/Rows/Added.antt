@@ -15,9 +15,10 @@ use Rattle.json_lexemes.proofs.Nests.{one_tree}
 use Rattle.json_text.proofs.Rows.Befores.{count_within, element_before, last_count, no_slot, no_slot_past, nothing_added, slot_by}
 use Rattle.json_text.proofs.Rows.Grows.{element_behind, first_element, first_member, member_behind}
 
-pub if_put : {A E : Type 0} (r : Result A E) (bytes : A → List ℕ) (is : List ℕ) (P : List ℕ → Type 0) → IfOk r (λ a. bytes a ≡ is) → P is → IfOk r (λ a. P (bytes a))
-if_put (Ok a) bytes is P e p = subst P (sym e) p
-if_put (Err x) bytes is P e p = tt
+pub if_grown : {A E : Type 0} (r : Result A E) (bytes : A → List ℕ) (whole : List ℕ → List ℕ) (is : List ℕ) (N : Json → Type 0) (P : Json → List ℕ → Type 0) → IfOk r (λ a. bytes a ≡ whole is) → ((v : Json) → N v → P v is)
+    → IfOk r (λ a. (v : Json) → N v → (grown : List ℕ) × (bytes a ≡ whole grown) × P v grown)
+if_grown (Ok a) bytes whole is N P e p = λ v n. (is, e, p v n)
+if_grown (Err x) bytes whole is N P e p = tt
 
 pub at_start : (t k put ahead : List ℕ) (i : ℕ) → HasRow t true i → ((cs : List Child) → IsInside t true cs i → cs ≡ []) → ahead ≡ quoted k ++ (58 ∷ []) → i ≤ length t → (v : Json) → Says t v → IsPutInto t v k put (take i t ++ (ahead ++ (put ++ ([] ++ drop i t))))
 at_start t k put ahead i (cs, says, inside) none e w v is =

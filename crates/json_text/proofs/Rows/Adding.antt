@@ -1,13 +1,16 @@
 -- A value added where a pointer leads.
-use Rattle.std.proofs.Common.{◌≡◌, ℕ, List, [], ◌∷◌, ◌++◌, take, drop, Option, Some, None, option_and_then, refl, sym, ap, ap₂, ◌∙◌, subst, inl, inr, take-append-drop}
+use Rattle.std.proofs.Common.{◌≡◌, ℕ, Global, List, [], ◌∷◌, ◌++◌, take, drop, Option, Some, None, option_and_then, refl, sym, ap, ap₂, ◌∙◌, subst, inl, inr, take-append-drop}
 use Rattle.std.proofs.lemmas.Option.{none-some, same_Some}
-use Rattle.std.specs.Prelude.{option_map}
+use Rattle.std.specs.Prelude.{MatchOption, String, option_map}
+use Rattle.std.specs.String.{string_bytes}
 use Rattle.json.specs.Json.{Json, null, boolean, number, string, array, object}
 use Rattle.jsonptr.specs.Text.{Pointer}
 use Rattle.json_text.specs.Added.{HasNoPlace, IsAdded, IsPutInto}
 use Rattle.json_text.specs.Changed.{add_at, add_child, push_member}
 use Rattle.json_lexemes.specs.Found.{IsWithin}
 use Rattle.json_text.specs.Less.{IsObject}
+use Rattle.json_text.specs.Owned.{IsGrown}
+use Rattle.json_text.specs.declared.own.Own.{Own}
 use Rattle.json_text.specs.Pointed.{child, if_some, put_at, put_child, put_member, tree_at, IsStretch, StandsBetween}
 use Rattle.json_text.specs.Replaced.{IsReplaced}
 use Rattle.json_text.specs.Rows.{slice}
@@ -118,3 +121,11 @@ pub added_child_by : (text value copy put here k grown last new : List ℕ) (P F
 added_child_by text value copy put here k grown last new P F t s r a b split w p v e h is i n q into new_is =
     added_child text value copy put last new P F t s r a b split w p v e h is
     (subst (IsPutInto (slice text s.start s.end) p.0 t put) (sym q) (subst (λ x. IsPutInto (slice text s.start s.end) p.0 x put grown) n (subst (λ x. IsPutInto x p.0 k put grown) i into))) new_is
+
+-- what the code leaves of the whole
+pub added_if : (text value copy put k : List ℕ) (P F : Pointer) (t : List ℕ) (s r : Span) (own : Own) (a : (j : Json) × IsShallowText text j) (b : (j : Json) × IsShallowText value j) → P ≡ F ++ (t ∷ []) → IsWithin text s
+    → (p : StandsBetween (take s.start text) (slice text s.start s.end) (drop s.end text) a.0 F) → IsWithin copy r → copy ≡ value → IsWhole copy r → put ≡ slice value r.start r.end → own.before.now ≡ take s.start text → own.text.now ≡ slice text s.start s.end → own.behind.now ≡ drop s.end text → k ≡ t
+    → (o : Option (String Global)) → MatchOption o ((w : Json) → add_child k w p.0 ≡ None) (λ new. IsGrown own p.0 k put (string_bytes new)) → MatchOption o (HasNoPlace text P) (λ new. IsAdded text P value (string_bytes new))
+added_if text value copy put k P F t s r own a b split w p v e h is before here behind n None none = no_place_there text k P F t a p.0 split p.1 n none
+added_if text value copy put k P F t s r own a b split w p v e h is before here behind n (Some new) (grown, g, into) =
+    added_child_by text value copy put own.text.now k grown grown (string_bytes new) P F t s r a b split w p v e h is here n refl into (g ∙ ap₂ (λ x y. x ++ (grown ++ y)) before behind)

@@ -1,11 +1,15 @@
 -- What a pointer leads to, by the tokens before the last and the last.
-use Rattle.std.proofs.Common.{◌≡◌, ℕ, List, [], ◌∷◌, ◌++◌, take, drop, Option, Some, None, option_and_then, refl, sym, ap, ap₂, ◌∙◌, subst, inl, take-append-drop}
+use Rattle.std.proofs.Common.{◌≡◌, ℕ, Global, List, [], ◌∷◌, ◌++◌, take, drop, Option, Some, None, option_and_then, refl, sym, ap, ap₂, ◌∙◌, subst, inl, take-append-drop}
 use Rattle.std.proofs.lemmas.Option.{same_Some}
+use Rattle.std.specs.Prelude.{MatchOption, String}
+use Rattle.std.specs.String.{string_bytes}
 use Rattle.json.specs.Json.{Json}
 use Rattle.jsonptr.specs.Text.{Pointer}
 use Rattle.json_text.specs.Changed.{front_of, last_of, remove_at, remove_child}
 use Rattle.json_lexemes.specs.Found.{IsWithin}
 use Rattle.json_text.specs.Less.{IsWithout}
+use Rattle.json_text.specs.Owned.{in_whole}
+use Rattle.json_text.specs.declared.own.Own.{Own}
 use Rattle.json_text.specs.Pointed.{child, if_some, put_at, tree_at, StandsBetween}
 use Rattle.json_text.specs.Removed.{HasNothingToRemove, IsRemoved}
 use Rattle.json_lexemes.specs.Spelled.{IsShallowText, Says}
@@ -76,3 +80,10 @@ removed_by text here k less put new P F t s a w split p h n q without e =
 
 pub nothing_by : (text k : List ℕ) (P F : Pointer) (t : List ℕ) (a : (j : Json) × IsShallowText text j) (v : Json) → P ≡ F ++ (t ∷ []) → tree_at F a.0 ≡ Some v → k ≡ t → child k v ≡ None → HasNothingToRemove text P
 nothing_by text k P F t a v s e n none = no_child_there text P F t a v s e (subst (λ x. child x v ≡ None) n none)
+
+-- what the code leaves of the whole
+pub removed_if : (text k : List ℕ) (P F : Pointer) (t : List ℕ) (s : Span) (own : Own) (a : (j : Json) × IsShallowText text j) → IsWithin text s → P ≡ F ++ (t ∷ []) → (p : StandsBetween (take s.start text) (slice text s.start s.end) (drop s.end text) a.0 F)
+    → own.before.now ≡ take s.start text → own.text.now ≡ slice text s.start s.end → own.behind.now ≡ drop s.end text → k ≡ t → (o : Option (String Global)) → MatchOption o (child k p.0 ≡ None) (λ new. (less : List ℕ) × (string_bytes new ≡ in_whole own less) × IsWithout own.text.now p.0 k less)
+    → MatchOption o (HasNothingToRemove text P) (λ new. IsRemoved text P (string_bytes new))
+removed_if text k P F t s own a w split p before here behind n None none = nothing_by text k P F t a p.0 split p.1 n none
+removed_if text k P F t s own a w split p before here behind n (Some new) (less, is, gone) = removed_by text own.text.now k less less (string_bytes new) P F t s a w split p here n refl gone (is ∙ ap₂ (λ x y. x ++ (less ++ y)) before behind)

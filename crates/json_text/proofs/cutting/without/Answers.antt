@@ -1,35 +1,44 @@
-use Rattle.std.proofs.Common.{◌<◌, length, sym, subst, ◌∙◌}
+use Rattle.std.proofs.Common.{◌≡◌, ℕ, Global, List, [], ◌++◌, drop, length, None, Some, Option, refl, sym, ap, ◌∙◌, subst, arith, append-nil}
+use Rattle.std.proofs.lemmas.List.{drop_all}
+use Rattle.std.proofs.lemmas.Result.{IfOk-weaker}
+use Rattle.std.proofs.lemmas.Str.{IsCharBoundary-end, IsCharBoundary-start}
+use Rattle.std.specs.Prelude.{MatchOption, String}
 use Rattle.std.specs.String.{string_bytes}
-use Rattle.json_text.specs.Less.{IsLessText, IsObject}
+use Rattle.json.specs.Json.{Json}
+use Rattle.json_text.specs.Less.{IsLessText, IsObject, IsWithout}
+use Rattle.json_text.specs.Owned.{in_whole}
+use Rattle.json_text.specs.Pointed.{child}
 use Rattle.json_lexemes.specs.Spelled.{Says}
-use Rattle.json_text.proofs.Rows.Objects.{all_gone, first_less, next_less, one_gone, shorter}
+use Rattle.json_text.proofs.Rows.Objects.{first_less, one_gone}
 use Rattle.json_text.proofs.cutting.without.Goals as goal
 
+one_less : (t k : List ℕ) (v : Json) (whole : List ℕ → List ℕ) (o : Option (String Global)) → ¬ IsObject v → Says t v
+    → MatchOption o (child k v ≡ None) (λ new. (less : List ℕ) × (string_bytes new ≡ whole less) × IsLessText t v k less) → MatchOption o (child k v ≡ None) (λ new. (less : List ℕ) × (string_bytes new ≡ whole less) × IsWithout t v k less)
+one_less t k v whole None n says h = h
+one_less t k v whole (Some new) n says (less, is, h) = (less, is, one_gone t v k less n (first_less t v k less says h))
+
 pub returns-then-not-is_object : goal.returns-then-not-is_object
-returns-then-not-is_object c = λ v says.
-    one_gone c.args.own.text.now v c.args.name.now _ (c.is_object.ensures.no v (subst (λ t. Says t v) (sym c.as_bytes.ensures.value) says) c.if-not-is_object.true)
-    (first_less c.args.own.text.now v c.args.name.now _ says (rw c.in-Some.is at (c.in_ok-new.ensures v says)))
+returns-then-not-is_object c =
+    let t = c.args.own.text.now in
+    let k = c.args.name.now in
+    IfOk-weaker c.without_one.result (λ found. (v : Json) → Says t v → MatchOption found (child k v ≡ None) (λ new. (less : List ℕ) × (string_bytes new ≡ in_whole c.args.own less) × IsLessText t v k less))
+    (λ found. (v : Json) → Says t v → MatchOption found (child k v ≡ None) (λ new. (less : List ℕ) × (string_bytes new ≡ in_whole c.args.own less) × IsWithout t v k less))
+    (λ found h v says. one_less t k v (in_whole c.args.own) found (c.is_object.ensures.no v (subst (λ x. Says x v) (sym c.as_bytes.ensures.value) says) c.if-not-is_object.true) says (h v says)) c.without_one.ensures
 
-pub loop-new-init : goal.loop-new-init
-loop-new-init c = λ v says. first_less c.args.own.text.now v c.args.name.now _ says (rw c.in-Some.is at (c.in_ok-new.ensures v says))
-
-pub loop-new-smaller : goal.loop-new-smaller
-loop-new-smaller c =
+pub without_members-requires : goal.without_members-requires
+without_members-requires c =
     let (v, says) = c.requires.says in
-    let a = c.loop-new.invariant v says in
-    let less = rw c.in-Some-2.is at (c.in_ok-less.ensures a.1 (subst (λ t. Says t a.1) (sym (c.alone.ensures.text ∙ c.as_str.ensures.value)) a.2)) in
-    subst (λ t. length (string_bytes c.in-Some-2.less) < length t) (c.alone.ensures.text ∙ c.as_str.ensures.value) (shorter _ a.1 c.args.name.now _ less.0)
+    (v, says, c.is_object.ensures.yes v (subst (λ x. Says x v) (sym c.as_bytes.ensures.value) says) c.if-not-is_object.false)
 
-pub loop-new-preserved : goal.loop-new-preserved
-loop-new-preserved c = λ v says.
-    let a = c.loop-new.invariant v says in
-    let less = rw c.in-Some-2.is at (c.in_ok-less.ensures a.1 (subst (λ t. Says t a.1) (sym (c.alone.ensures.text ∙ c.as_str.ensures.value)) a.2)) in
-    let object : IsObject v = c.is_object.ensures.yes v (subst (λ t. Says t v) (sym c.as_bytes.ensures.value) says) c.if-not-is_object.false in
-    next_less c.args.own.text.now v c.args.name.now _ (string_bytes c.in-Some-2.less) object a (subst (λ t. IsLessText t a.1 c.args.name.now (string_bytes c.in-Some-2.less)) (c.alone.ensures.text ∙ c.as_str.ensures.value) less)
+pub spliced-requires : goal.spliced-requires
+spliced-requires c =
+    let t = c.args.own.text.now in
+    record { order = omega arith; fits = omega arith; boundary = λ u. (IsCharBoundary-start t u, IsCharBoundary-end t) }
 
 pub returns : goal.returns
 returns c = λ v says.
-    let a = c.loop-new.invariant v says in
-    let none = rw c.in_default-2.is at (c.in_ok-less.ensures a.1 (subst (λ t. Says t a.1) (sym (c.alone.ensures.text ∙ c.as_str.ensures.value)) a.2)) in
-    let object : IsObject v = c.is_object.ensures.yes v (subst (λ t. Says t v) (sym c.as_bytes.ensures.value) says) c.if-not-is_object.false in
-    all_gone c.args.own.text.now v c.args.name.now (string_bytes c.loop-new.new) object a none
+    let t = c.args.own.text.now in
+    let less = string_bytes c.in-Some.less in
+    let none : drop (length t) t ≡ [] = drop_all (length t) t (omega arith) in
+    let is = c.in_ok-new.ensures ∙ ap (λ x. in_whole c.args.own (x ++ drop (length t) t)) c.as_str.ensures.value ∙ ap (λ x. in_whole c.args.own (less ++ x)) none ∙ ap (in_whole c.args.own) (append-nil less) in
+    (less, is, rw c.in-Some.is at (c.in_ok-less.ensures v says))

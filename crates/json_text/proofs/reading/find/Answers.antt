@@ -1,6 +1,5 @@
 use Rattle.std.proofs.Common.{◌≡◌, ◌-◌, [], None, take, drop, refl, sym, ap, subst, inr, ◌∙◌, append-nil}
 use Rattle.std.proofs.lemmas.Str.{IsCharBoundary-start}
-<<<<<<< HEAD
 use Rattle.std.specs.Prelude.{IfSome, MatchOption}
 use Rattle.jsonptr.specs.Pointers.{tokens_left}
 use Rattle.json_lexemes.specs.Spelled.{Says, spelled}
@@ -8,12 +7,6 @@ use Rattle.json_text.specs.Pointed.{tree_at, StandsBetween}
 use Rattle.json_lexemes.proofs.Steps.{ends-follows, follows}
 use Rattle.json_text.specs.Owned.{IsApart}
 use Rattle.json_text.proofs.Owned.{apart_places}
-=======
-use Rattle.std.specs.Prelude.{MatchOption}
-use Rattle.jsonptr.specs.Pointers.{tokens_left}
-use Rattle.json_lexemes.specs.Spelled.{Says, spelled}
-use Rattle.json_text.specs.Pointed.{tree_at, StandsBetween}
->>>>>>> 8b7a5f1ac334a084d94c18725beda30f1a11044d
 use Rattle.json_text.proofs.Ways.{stands_between}
 use Rattle.json_text.proofs.reading.find.Goals as goal
 
@@ -34,7 +27,6 @@ returns-clause-found c = λ j says.
     let there : Says t j = subst (λ u. Says u j) (sym e) says in
     let led = c.in_ok-way.ensures.leads j [] (c.whitespace_end-start.ensures.left ∙ there ∙ sym (append-nil (spelled j))) in
     subst (λ u. MatchOption found (tree_at P j ≡ None) (λ s. StandsBetween (take s.start u) (take (s.end - s.start) (drop s.start u)) (drop s.end u) j P)) e (stands_between t j P found there led.0 c.in_ok-way.ensures.on.place)
-<<<<<<< HEAD
 
 pub returns-then-is_none-clause-apart : goal.returns-then-is_none-clause-apart
 returns-then-is_none-clause-apart c = λ j says.
@@ -43,5 +35,3 @@ returns-then-is_none-clause-apart c = λ j says.
 
 pub returns-clause-apart : goal.returns-clause-apart
 returns-clause-apart c = λ j says. subst (λ t. IfSome c.in_ok-way.way.found (IsApart t)) c.as_bytes-bytes.ensures.value (apart_places c.as_bytes-bytes.result.now c.in_ok-way.way.found c.in_ok-way.ensures.on.place)
-=======
->>>>>>> 8b7a5f1ac334a084d94c18725beda30f1a11044d
