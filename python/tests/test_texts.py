@@ -61,3 +61,63 @@ class Texts(unittest.TestCase):
         self.assertEqual(JsonPatch.from_string(patch).apply({}), {})
         with Document({}) as kept:
             kept.apply(patch)
+
+
+class Row:
+    """An array as it is written: its elements, and what stands before each."""
+
+    def __init__(self, elements, separator):
+        self.elements = list(elements)
+        self.before = ["", *[separator] * (len(self.elements) - 1)]
+        self.comma = "," + separator.split(",")[1]
+
+    def remove(self, number):
+        del self.before[min(number + 1, len(self.elements) - 1)]
+        return self.elements.pop(number)
+
+    def add(self, number, value):
+        self.before.insert(number + 1 if number < len(self.elements) else number, self.comma)
+        self.elements.insert(number, value)
+
+    def __str__(self):
+        return "[" + "".join(part for pair in zip(self.before, self.elements) for part in pair) + "]"
+
+
+class LongArrays(unittest.TestCase):
+    """Texts so long that the check leaves places in them, and patches so short that these are used."""
+
+    ELEMENTS = [
+        (str(n), '[%d, "a],b" ,{}]' % n, '{"n":%d,"s":"\\",[{","a":[[],%d]}' % (n, n))[n % 3] for n in range(1200)
+    ]
+    AROUND = [("", "", ""), ("\n", "\n", ""), (' {"a": [0], "rows" : ', ', "z": [1,2]}', "/rows"), ("[[3,[4]],", ",[5]]", "/1")]
+
+    def assertMade(self, change, operation):
+        for separator in (",", ", ", "\n , ", " ,"):
+            for front, back, path in self.AROUND:
+                row = Row(self.ELEMENTS, separator)
+                text = front + str(row) + back
+                change(row)
+                patch = "[%s]" % operation.replace("%s", path)
+                self.assertEqual(apply_text(text, patch), front + str(row) + back)
+
+    def test_places(self):
+        last = len(self.ELEMENTS) - 1
+        for number in (0, 1, *range(2, last - 1, 171), last - 1, last):
+            with self.subTest(number=number):
+                self.assertMade(lambda row: row.remove(number), '{"op":"remove","path":"%s/' + str(number) + '"}')
+                self.assertMade(lambda row: row.add(number, "7"), '{"op":"add","path":"%s/' + str(number) + '","value":7}')
+                self.assertMade(
+                    lambda row: row.add(last - number, row.remove(number)),
+                    '{"op":"move","from":"%s/' + str(number) + '","path":"%s/' + str(last - number) + '"}',
+                )
+                self.assertMade(
+                    lambda row: row.add(len(row.elements), row.elements[number]),
+                    '{"op":"copy","from":"%s/' + str(number) + '","path":"%s/-"}',
+                )
+
+    def test_past_the_end(self):
+        text = '{"rows":%s}' % Row(self.ELEMENTS, ",")
+        for operation in ('"remove","path":"/rows/1200"', '"add","path":"/rows/1201","value":7', '"add","path":"/rows/01","value":7'):
+            with self.assertRaises(JsonPatchException) as caught:
+                apply_text(text, '[{"op":%s}]' % operation)
+            self.assertEqual(caught.exception.kind, "InvalidPointer")

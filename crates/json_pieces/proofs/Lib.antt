@@ -1,7 +1,6 @@
 pub mod Levels
 pub mod Lists
 pub mod Sizes
-pub mod Shorter
 pub mod Naming
 pub mod Marks
 pub mod Places

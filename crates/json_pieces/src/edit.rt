@@ -277,8 +277,7 @@ fn edit_small<'a>(
             let Some((_, own, _)) = split_around(work.means.alloc, text, path)? else {
                 return Ok(None);
             };
-            let copy = String::from_str(work.means.alloc, own)?;
-            Ok(Some(Node::Closed(Text::Made(copy))))
+            Ok(Some(Node::Closed(Text::Made(String::from_str(work.means.alloc, own)?))))
         }
         Edit::Put(value) => {
             let Some(new) = exchanged(work.means, text, path, &value)? else {

@@ -63,24 +63,6 @@ pub(crate) struct Seams<'a> {
     ghost agrees: { Agrees (items_of all) index } by { Agrees-prop (items_of all) index },
 }
 
-/// Whether a name's text is too short to stand for this name, or as long as that with its quotes, and ends
-/// otherwise. Most names are told apart so, by less than their bytes.
-fn differs(text: &[u8], name: &[u8]) -> bool
-    ensures { result ≡ true → (l : List ℕ) → IsTextOf text.now (string l) → l ≢ name.now }
-{
-    if text.len() < 2 || text.len() - 2 < name.len() {
-        return true;
-    }
-    text.len() - 2 == name.len() && !name.is_empty() && text[name.len()] != name[name.len() - 1]
-}
-
-/// Whether a name's text stands for this name.
-fn is_named(text: &str, name: &str) -> bool
-    ensures { (l : List ℕ) → IsTextOf text.now (string l) → Decides result (l ≡ name.now) }
-{
-    !differs(text.as_bytes(), name.as_bytes()) && is_name_text(text, name)
-}
-
 /// The number of the last of these seams of this name, found by comparing names.
 fn last_in(seams: &[Seam<'_>], name: &str) -> Option<usize>
     ensures within { IfSome result (λ n. n < length seams.now) }
@@ -89,7 +71,7 @@ fn last_in(seams: &[Seam<'_>], name: &str) -> Option<usize>
     let mut i = seams.len();
     while i > 0 {
         let seam = &seams[i - 1];
-        if is_named(seam.name.as_str(), name) {
+        if is_name_text(seam.name.as_str(), name) {
             return Some(i - 1);
         }
         i -= 1;

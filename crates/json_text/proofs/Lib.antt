@@ -6,6 +6,7 @@ pub mod Stretches
 pub mod Tokens
 pub mod Along
 pub mod Owned
+pub mod Shorter
 pub mod Readable
 pub mod Replacing
 pub mod Said

@@ -1,6 +1,6 @@
 //! The members of an object, or the elements of an array, each cut into its parts.
 
-ghost use Rattle.std.specs.Prelude.{◌≡◌, ◌≤◌, ◌++◌, ℕ, Bool, length, List, [], MatchOption, IfSome};
+ghost use Rattle.std.specs.Prelude.{◌≡◌, ◌≢◌, true, false, ◌<◌, ◌≤◌, ◌++◌, ℕ, Bool, length, List, [], MatchOption, IfSome};
 ghost use Rattle.std.specs.Bool.{Decides};
 ghost use Rattle.std.specs.Str.{IsCharBoundary};
 ghost use Rattle.json.specs.Json.{Json, string};
@@ -73,11 +73,24 @@ pub fn whitespace_at(text: &str, from: usize) -> &str
     &text[from..whitespace_end(text.as_bytes(), from)]
 }
 
+/// Whether a name's text is too short to stand for this name, or as long as that with its quotes, and ends
+/// otherwise. Most names are told apart so, by less than their bytes.
+fn differs(text: &[u8], name: &[u8]) -> bool
+    ensures other { result ≡ true → (k : List ℕ) → IsTextOf text.now (string k) → k ≢ name.now }
+    ensures quoted { result ≡ false → 1 < length text.now }
+{
+    if text.len() < 2 || text.len() - 2 < name.len() {
+        return true;
+    }
+    text.len() - 2 == name.len() && !name.is_empty() && text[name.len()] != name[name.len() - 1]
+}
+
 /// Whether the text of a name, with its quotes and escapes, stands for this one.
 pub fn is_name_text(text: &str, name: &str) -> bool
     ensures { (k : List ℕ) → IsTextOf text.now (string k) → Decides result (k ≡ name.now) }
 {
-    !text.is_empty() && is_name(text.as_bytes(), 1, name.as_bytes())
+    let (bytes, name) = (text.as_bytes(), name.as_bytes());
+    !differs(bytes, name) && is_name(bytes, 1, name)
 }
 
 /// The whitespace before a value, its text, and the whitespace behind it, of a text that is JSON.

@@ -87,11 +87,7 @@ fn without_members(alloc: Global, text: &str, name: &str) -> Result<Option<Strin
 }
 
 /// The whole without all that a token names in an object or an array.
-pub(crate) fn without(
-    alloc: Global,
-    own: Own<'_>,
-    name: &str,
-) -> Result<Option<String>, AllocError>
+pub(crate) fn without(alloc: Global, own: Own<'_>, name: &str) -> Result<Option<String>, AllocError>
     requires says { (v : Json) × Says own.text.now v }
     requires own { IsOwn own }
     ensures { IfOk result (λ found. (v : Json) → Says own.entry.text.now v

@@ -78,8 +78,15 @@ impl<'a> Own<'a> {
     {
         let kept = self.text.len() - (cut.end - cut.start);
         let around = self.before.len().saturating_add(self.behind.len());
-        let more = put.0.len().saturating_add(put.1.len()).saturating_add(put.2.len());
-        let mut new = String::with_capacity(alloc, kept.saturating_add(around).saturating_add(more))?;
+        let more = put
+            .0
+            .len()
+            .saturating_add(put.1.len())
+            .saturating_add(put.2.len());
+        let mut new = String::with_capacity(
+            alloc,
+            kept.saturating_add(around).saturating_add(more),
+        )?;
         new.push_str(self.before)?;
         new.push_str(&self.text[..cut.start])?;
         new.push_str(put.0)?;
@@ -104,7 +111,10 @@ impl<'a> Own<'a> {
         }
         let first = whitespace_end(text, 1);
         let start = whitespace_end(text, place);
-        if byte_at(text, 0) != b'[' || byte_at(text, first) == b']' || byte_at(text, start) == b']' {
+        if byte_at(text, 0) != b'['
+            || byte_at(text, first) == b']'
+            || byte_at(text, start) == b']'
+        {
             return None;
         }
         Some(Ahead {

@@ -160,11 +160,11 @@ edit_small-returns-in_err-own-in-Read-clause-led t c = λ on. led_none c.args.wo
 pub edit_small-returns-in_default-2-clause-led : goal.edit_small-returns-in_default-2-clause-led
 edit_small-returns-in_default-2-clause-led t c = λ on. led_none c.args.work.now.steps.items c.args.work.now.place.items c.args.work.now.place.items (held c.args.node.now) (held c.args.node.now) c.requires.steps (opened_itself (held c.args.node.now))
 
-pub edit_small-returns-in_err-copy-in-Read-clause-led : goal.edit_small-returns-in_err-copy-in-Read-clause-led
-edit_small-returns-in_err-copy-in-Read-clause-led t c = λ on. led_none c.args.work.now.steps.items c.args.work.now.place.items c.args.work.now.place.items (held c.args.node.now) (held c.args.node.now) c.requires.steps (opened_itself (held c.args.node.now))
+pub edit_small-returns-in_err-from_str-in-Read-clause-led : goal.edit_small-returns-in_err-from_str-in-Read-clause-led
+edit_small-returns-in_err-from_str-in-Read-clause-led t c = λ on. led_none c.args.work.now.steps.items c.args.work.now.place.items c.args.work.now.place.items (held c.args.node.now) (held c.args.node.now) c.requires.steps (opened_itself (held c.args.node.now))
 
-pub edit_small-returns-in_ok-copy-in-Read-clause-led : goal.edit_small-returns-in_ok-copy-in-Read-clause-led
-edit_small-returns-in_ok-copy-in-Read-clause-led t c = λ on. led_none c.args.work.now.steps.items c.args.work.now.place.items c.args.work.now.place.items (held c.args.node.now) (held c.args.node.now) c.requires.steps (opened_itself (held c.args.node.now))
+pub edit_small-returns-in_ok-from_str-in-Read-clause-led : goal.edit_small-returns-in_ok-from_str-in-Read-clause-led
+edit_small-returns-in_ok-from_str-in-Read-clause-led t c = λ on. led_none c.args.work.now.steps.items c.args.work.now.place.items c.args.work.now.place.items (held c.args.node.now) (held c.args.node.now) c.requires.steps (opened_itself (held c.args.node.now))
 
 pub edit_small-returns-in_err-new-in-Put-clause-led : goal.edit_small-returns-in_err-new-in-Put-clause-led
 edit_small-returns-in_err-new-in-Put-clause-led t c = λ on. led_none c.args.work.now.steps.items c.args.work.now.place.items c.args.work.now.place.items (held c.args.node.now) (held c.args.node.now) c.requires.steps (opened_itself (held c.args.node.now))
@@ -178,13 +178,13 @@ edit_small-returns-in_err-put_text-in-Put-clause-led t c = λ on. stepped_led c.
 pub edit_small-returns-in_ok-put_text-in-Put-clause-led : goal.edit_small-returns-in_ok-put_text-in-Put-clause-led
 edit_small-returns-in_ok-put_text-in-Put-clause-led t c = λ on. stepped_led c.put_text.new.work.steps.items c.args.work.now.place.items c.put_text.new.work.place.items (held c.args.node.now) (held c.put_text.new.node) (ap (λ v. v.items) c.put_text.ensures.place) (c.put_text.ensures.led on)
 
-pub edit_small-returns-in_ok-copy-in-Read-clause-makes : goal.edit_small-returns-in_ok-copy-in-Read-clause-makes
-edit_small-returns-in_ok-copy-in-Read-clause-makes t c = λ j says.
+pub edit_small-returns-in_ok-from_str-in-Read-clause-makes : goal.edit_small-returns-in_ok-from_str-in-Read-clause-makes
+edit_small-returns-in_ok-from_str-in-Read-clause-makes t c = λ j says.
     let same = c.in-Some.ensures in
     let whole = rw c.in-Some-2.is at c.in_ok-own-in-Read.ensures.whole in
     let stands = rw c.in-Some-2.is at (c.in_ok-own-in-Read.ensures.stands j (subst (λ s. Says s j) (sym same) says)) in
-    let copy = Made c.in_ok-copy-in-Read.copy in
-    copied_made (tree_text (view c.args.node.now)) c.in-Some-2.field-0-0.now c.in-Some-2.own.now c.in-Some-2.field-0-2.now (Closed copy) c.args.edit (tokens_left c.args.path) j (sym same ∙ whole) stands c.in-Read.is (closed_text copy ∙ c.in_ok-copy-in-Read.ensures.ok)
+    let copy = Made c.in_ok-from_str-in-Read.field-0 in
+    copied_made (tree_text (view c.args.node.now)) c.in-Some-2.field-0-0.now c.in-Some-2.own.now c.in-Some-2.field-0-2.now (Closed copy) c.args.edit (tokens_left c.args.path) j (sym same ∙ whole) stands c.in-Read.is (closed_text copy ∙ c.in_ok-from_str-in-Read.ensures.ok)
 
 pub edit_small-returns-in_ok-put_text-in-Put-clause-makes : goal.edit_small-returns-in_ok-put_text-in-Put-clause-makes
 edit_small-returns-in_ok-put_text-in-Put-clause-makes t c = λ j says.

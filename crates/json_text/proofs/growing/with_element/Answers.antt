@@ -33,8 +33,12 @@ returns-in-Some c =
     let m = c.in-Ok-for_len_incl.number in
     let slot = λ (cs : List Child) (h : IsInside t false cs c.args.start).
     chosen_slot t k c.in-Ok.index c.count.result m cs c.in-Ok.ensures.index (counted_by t cs last c.count.result ((subst (λ x. (cs : List Child) → IsInside x false cs c.args.start → MatchOption last (cs ≡ []) (λ r. IsLast x false cs r.0 r.1)) c.as_bytes-bytes.ensures.value c.last_part-last.ensures.last) cs h) c.count.ensures) c.in-Ok-for_len_incl.ensures.place c.in-Ok-for_len_incl.ensures.within in
-    λ v says. (_, c.in_ok-new.ensures, (before_put t k c.args.value.now c.as_str.result.now c.args.start m r c.requires.row slot (subst (λ x. (cs : List Child) → IsInside x false cs c.args.start → IsNumbered x false cs m r) c.as_bytes-bytes.ensures.value c.in-Some.ensures.found)
-    (subst (λ x. AreInOrder x r.part) c.as_bytes-bytes.ensures.value c.in-Some.ensures.order.1) (subst (IsTrail t c.args.start m r) (sym c.as_str.ensures.value) c.in_ok-trail.ensures)) v says)
+    λ v says. (
+      _,
+      c.in_ok-new.ensures,
+      (before_put t k c.args.value.now c.as_str.result.now c.args.start m r c.requires.row slot (subst (λ x. (cs : List Child) → IsInside x false cs c.args.start → IsNumbered x false cs m r) c.as_bytes-bytes.ensures.value c.in-Some.ensures.found)
+          (subst (λ x. AreInOrder x r.part) c.as_bytes-bytes.ensures.value c.in-Some.ensures.order.1) (subst (IsTrail t c.args.start m r) (sym c.as_str.ensures.value) c.in_ok-trail.ensures)) v says,
+    )
 
 pub returns-in_default-last : goal.returns-in_default-last
 returns-in_default-last c =
@@ -66,5 +70,9 @@ returns c =
     let slot = λ (cs : List Child) (h : IsInside t false cs c.args.start).
     chosen_slot t k c.in-Ok.index c.count.result m cs c.in-Ok.ensures.index (counted cs h) c.in-Ok-for_len_incl.ensures.place c.in-Ok-for_len_incl.ensures.within in
     let within = λ (cs : List Child) (h : IsInside t false cs c.args.start). subst (λ n. m ≤ n) (counted cs h) c.in-Ok-for_len_incl.ensures.within in
-    λ v says. (_, c.in_ok-new-3.ensures, (behind_put t k c.args.value.now c.as_str-2.result.now c.args.start m c.in-Some-last.number r c.requires.row slot within (subst (λ x. (cs : List Child) → IsInside x false cs c.args.start → drop m cs ≡ []) c.as_bytes-bytes.ensures.value c.in_default-part_at.ensures.found)
-    (same_last _ t false c.in-Some-last.number r c.args.start c.as_bytes-bytes.ensures.value c.in-Some-last.ensures.last) (subst (λ x. AreInOrder x r.part) c.as_bytes-bytes.ensures.value c.in-Some-last.ensures.order.1) (subst (IsComma t r.part.start) (sym c.as_str-2.ensures.value) c.in_ok-ahead.ensures)) v says)
+    λ v says. (
+      _,
+      c.in_ok-new-3.ensures,
+      (behind_put t k c.args.value.now c.as_str-2.result.now c.args.start m c.in-Some-last.number r c.requires.row slot within (subst (λ x. (cs : List Child) → IsInside x false cs c.args.start → drop m cs ≡ []) c.as_bytes-bytes.ensures.value c.in_default-part_at.ensures.found)
+          (same_last _ t false c.in-Some-last.number r c.args.start c.as_bytes-bytes.ensures.value c.in-Some-last.ensures.last) (subst (λ x. AreInOrder x r.part) c.as_bytes-bytes.ensures.value c.in-Some-last.ensures.order.1) (subst (IsComma t r.part.start) (sym c.as_str-2.ensures.value) c.in_ok-ahead.ensures)) v says,
+    )

@@ -1,17 +1,17 @@
 use Rattle.std.proofs.Common.{◌≡◌, ◌+◌, ◌∙◌, ap, eqb-true, sym, length, arith}
 use Rattle.std.specs.Prelude.{not}
-use Rattle.json_pieces.proofs.Shorter.{apart, other_end, some_bytes, too_short}
-use Rattle.json_pieces.proofs.seams.differs.Goals as goal
-use Rattle.json_pieces.proofs.seams.differs.Goals.{then-text-lt2-via-then-text-lt2, then-text-lt2-via-else-text-lt2+then-text-name, then-text-name-2, else-text-name-2}
+use Rattle.json_text.proofs.Shorter.{apart, other_end, some_bytes, too_short}
+use Rattle.json_text.proofs.cuts.differs.Goals as goal
+use Rattle.json_text.proofs.cuts.differs.Goals.{then-text-lt2-via-then-text-lt2, then-text-lt2-via-else-text-lt2+then-text-name, then-text-name-2, else-text-name-2}
 
-pub returns-then-text-lt2 : goal.returns-then-text-lt2
-returns-then-text-lt2 c told l t = too_short c.args.text.now l c.args.name.now t (elim c.then-text-lt2.branch [
+pub returns-then-text-lt2-clause-other : goal.returns-then-text-lt2-clause-other
+returns-then-text-lt2-clause-other c told l t = too_short c.args.text.now l c.args.name.now t (elim c.then-text-lt2.branch [
   | then-text-lt2-via-then-text-lt2 w ↦ omega (arith, w.if-text-lt2.true)
   | then-text-lt2-via-else-text-lt2+then-text-name w ↦ omega (arith, w.if-text-lt2.false, w.if-text-name.true)
 ])
 
-pub returns-then-not-is_empty : goal.returns-then-not-is_empty
-returns-then-not-is_empty c told l t =
+pub returns-then-not-is_empty-clause-other : goal.returns-then-not-is_empty-clause-other
+returns-then-not-is_empty-clause-other c told l t =
     let n = c.args.name.now in
     elim c.if-text-name-2.branch [
       | then-text-name-2 w ↦
