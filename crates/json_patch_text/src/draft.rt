@@ -115,6 +115,10 @@ impl WholeText<'_> {
 /// So many operations are made on the whole text, if none of them adds or the text is small.
 const FEW: usize = 3;
 
+/// So many of any text, if one of them adds: a second one takes two or three passes, since what the check left
+/// is of the text before.
+const FEW_THAT_ADD: usize = 2;
+
 /// A text of at most so many bytes is small: to pass over it takes less than to open what is on the way.
 const SMALL: usize = 512;
 
@@ -153,8 +157,8 @@ impl<'a> Draft<'a> {
     ghost use Rattle.json_pieces.specs.Changes.{Adds, Removes, Replaces};
 
     /// The document's text, as serves these operations best: for a few as a whole, since a few passes take less
-    /// time than to open each object and array on the way. One that adds takes two or three passes, and many
-    /// where its undo is kept, to tell the number of an element.
+    /// time than to open each object and array on the way. One that adds takes many where its undo is kept, to tell
+    /// the number of an element.
     pub(crate) fn new(text: CheckedText<'a>, operations: &[TextOperation], kept: bool) -> Draft<'a>
         ensures draft { IsDraft result }
         ensures text { draft_text result ≡ text_in text.entry }
@@ -166,7 +170,7 @@ impl<'a> Draft<'a> {
         } else if text.as_str().len() <= SMALL {
             FEW
         } else {
-            1
+            FEW_THAT_ADD
         };
         if operations.len() <= most {
             Draft::Whole(WholeText::Kept(text))
