@@ -1,5 +1,5 @@
 #!/usr/bin/env python3
-"""Times one operation on 1 MB of rows, by one call of the library for C on the text, and by a text that is opened,
+"""Times one operation or two on 1 MB of rows, by one call of the library for C on the text, and by a text that is opened,
 changed, written and closed, which goes in pieces.
 
     bench/few.py [--rounds N]
@@ -22,14 +22,19 @@ from library import KEPT, OK, Handle, Report  # noqa: E402
 ROWS = 14_500
 
 
-def operations(way):
+def patches(way):
     middle, other = f"{way}/rows/{ROWS // 2}", f"{way}/rows/{ROWS // 3}"
+    replace = {"op": "replace", "path": f"{middle}/name", "value": "c"}
+    add = {"op": "add", "path": f"{way}/rows/-", "value": "c"}
     return {
-        "replace": {"op": "replace", "path": f"{middle}/name", "value": "c"},
-        "remove": {"op": "remove", "path": middle},
-        "add": {"op": "add", "path": f"{way}/rows/-", "value": "c"},
-        "copy": {"op": "copy", "from": f"{middle}/name", "path": f"{other}/title"},
-        "move": {"op": "move", "from": f"{middle}/name", "path": f"{other}/label"},
+        "replace": [replace],
+        "remove": [{"op": "remove", "path": middle}],
+        "add": [add],
+        "add in the middle": [{**add, "path": middle}],
+        "copy": [{"op": "copy", "from": f"{middle}/name", "path": f"{other}/title"}],
+        "move": [{"op": "move", "from": f"{middle}/name", "path": f"{other}/label"}],
+        "replace and add": [replace, add],
+        "two adds": [{**add, "path": middle}, add],
     }
 
 
@@ -64,8 +69,8 @@ def main():
             document = {"next": document}
         text = json.dumps(document, separators=(",", ":")).encode()
         out, one = library.ctypes.create_string_buffer(len(text) + 1_000), None
-        for name, operation in operations("/next" * (levels - 1)).items():
-            patch = json.dumps([operation]).encode()
+        for name, operations in patches("/next" * (levels - 1)).items():
+            patch = json.dumps(operations).encode()
             took = [least(rounds, call, text, patch, out) for call in (on_text, kept)]
             one = one or took[0]
             told = ", ".join(f"{seconds * 1e3:.2f} ms ({seconds / one:.1f})" for seconds in took)
