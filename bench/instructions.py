@@ -27,6 +27,12 @@ def calls():
     rows, middle = workloads.rows(ROWS), replace(f"/rows/{ROWS // 2}/name")
     yield "one replace in the middle of rows", "texts", rows, COMPACT, middle
     yield "one in the last row", "texts", rows, COMPACT, replace(f"/rows/{ROWS - 1}/name")
+    middle_row, end = f"/rows/{ROWS // 2}", {"op": "add", "path": "/rows/-", "value": 7}
+    yield "one remove", "texts", rows, COMPACT, [{"op": "remove", "path": middle_row}]
+    yield "one add in the middle", "texts", rows, COMPACT, [{**end, "path": middle_row}]
+    yield "one add at the end", "texts", rows, COMPACT, [end]
+    yield "one move", "texts", rows, COMPACT, [{"op": "move", "from": middle_row, "path": "/rows/0"}]
+    yield "a replace and an add", "texts", rows, COMPACT, [*middle, end]
     yield "100 mixed operations", "texts", rows, COMPACT, list(workloads.mixed(17, ROWS // 2))[:100]
     yield "a merge of one member", "merge", rows, COMPACT, {"new": 7}
     yield "one replace, the rows with spaces", "texts", rows, SPACED, middle
