@@ -121,3 +121,61 @@ class LongArrays(unittest.TestCase):
             with self.assertRaises(JsonPatchException) as caught:
                 apply_text(text, '[{"op":%s}]' % operation)
             self.assertEqual(caught.exception.kind, "InvalidPointer")
+
+
+class DeepWays(unittest.TestCase):
+    """Ways so deep, to texts so long, that all that is on the way is opened at once, for patches that are made in pieces."""
+
+    FRAMES = [
+        ('{"a":', "}", "/a"),
+        ("[0, ", " ,[1]]", "/1"),
+        ('{"a":[2],"z":1 ,\n"a" :', ',"y":{}\n}', "/a"),
+        ('{ "\\u0061/~" :', ', "b":[[]]}', "/a~1~0"),
+    ]
+
+    def framed(self, depth):
+        """What stands before and behind a value so deep, and the pointer to it."""
+        frames = [self.FRAMES[level % len(self.FRAMES)] for level in range(depth)]
+        fronts, backs, tokens = zip(*frames)
+        return "".join(fronts), "".join(reversed(backs)), "".join(tokens)
+
+    def test_changes(self):
+        for depth in (1, 6, 7, 8, 9, 30, 110):
+            front, back, path = self.framed(depth)
+            row = Row(LongArrays.ELEMENTS, ", ")
+            text = front + str(row) + back
+            row.remove(5)
+            row.add(1000, "7")
+            row.elements[3] = "1.50"
+            row.add(0, row.remove(600))
+            patch = (
+                '[{"op":"remove","path":"%s/5"},{"op":"add","path":"%s/1000","value":7},'
+                '{"op":"replace","path":"%s/3","value":1.50},{"op":"move","from":"%s/600","path":"%s/0"}]'
+            ) % ((path,) * 5)
+            with self.subTest(depth=depth):
+                self.assertEqual(apply_text(text, patch), front + str(row) + back)
+                with Document.from_string(text) as kept:
+                    kept.apply(patch)
+                    self.assertEqual(kept.to_string(), front + str(row) + back)
+
+    def test_other_ways(self):
+        front, back, path = self.framed(12)
+        row = Row(LongArrays.ELEMENTS, ",")
+        text = front + str(row) + back
+        patch = (
+            '[{"op":"replace","path":"%s/0","value":8},{"op":"remove","path":"/a/1/y"},'
+            '{"op":"test","path":"%s/4","value":[4,"a],b",{}]},{"op":"test","path":"/a/0","value":0}]'
+        ) % (path, path)
+        row.elements[0] = "8"
+        head, gone, tail = back.rpartition(',"y":{}')
+        self.assertTrue(gone)
+        self.assertEqual(apply_text(text, patch), front + str(row) + head + tail)
+
+    def test_refused(self):
+        front, back, path = self.framed(40)
+        text = front + str(Row(LongArrays.ELEMENTS, ",")) + back
+        changes = ',{"op":"remove","path":"%s/0"}' % path * 3
+        for end in ("/1200", "/x", "/0/9"):
+            with self.assertRaises(JsonPatchException) as caught:
+                apply_text(text, '[{"op":"test","path":"","value":%s}%s,{"op":"remove","path":"%s"}]' % (text, changes, path + end))
+            self.assertEqual((caught.exception.operation, caught.exception.path), (4, path + end))

@@ -1,9 +1,9 @@
 -- The objects and arrays that a check follows, a step on.
-use Rattle.std.proofs.Common.{◌≡◌, ◌⊎◌, ℕ, zero, suc, ◌+◌, ◌-◌, ◌<◌, ◌≤◌, Bool, true, false, List, [], ◌∷◌, ◌++◌, length, get_or, set, inl, inr, refl, sym, ap, ◌∙◌, subst, arith, append_assoc}
+use Rattle.std.proofs.Common.{◌≡◌, ◌⊎◌, ℕ, zero, suc, ◌+◌, ◌-◌, ◌<◌, ◌≤◌, Bool, true, false, List, [], ◌∷◌, ◌++◌, length, length-take, take, drop, get_or, set, inl, inr, refl, sym, ap, ◌∙◌, subst, arith, append_assoc}
 use Rattle.std.proofs.lemmas.Bool.{cases_lt}
-use Rattle.std.proofs.lemmas.List.{get_or_past, get_or-set_other, get_or-set_same, length-set}
+use Rattle.std.proofs.lemmas.List.{get_or-take, get_or_past, get_or-set_other, get_or-set_same, length-set}
 use Rattle.std.proofs.lemmas.Str.{IsCharBoundary-after_ascii}
-use Rattle.std.specs.Prelude.{◌≢◌}
+use Rattle.std.specs.Prelude.{◌≢◌, All}
 use Rattle.std.specs.Str.{IsCharBoundary}
 use Rattle.json.specs.Json.{Json, null, boolean, number, string, array, object, Items, no_items, item}
 use Rattle.json.specs.Token as tokens
@@ -11,12 +11,14 @@ use Rattle.json.specs.Lex.{Lexeme, token, comma, colon}
 use Rattle.json_lexemes.specs.Followed.{Follows, Ahead, Behind, IsAhead, IsBehind, IsBehindBracket, IsBehindComma}
 use Rattle.json_lexemes.specs.Found.{later}
 use Rattle.json_lexemes.specs.Grammar.{Opens, Continues, Spells, closing}
-use Rattle.json_lexemes.specs.Signposts.{AreSignposts, IsPassed, IsStep}
-use Rattle.json_lexemes.specs.Places.{left_at, HasEnd, IsEnd}
+use Rattle.json_lexemes.specs.Signposts.{ArePlaces, AreSignposts, IsPassed, IsStep, seen_from}
+use Rattle.json_lexemes.specs.Lexing.{restarts}
+use Rattle.json_lexemes.specs.Places.{left_at, mode_at, HasEnd, IsEnd}
 use Rattle.json_lexemes.specs.Skipped.{if_open, skip}
 use Rattle.json_lexemes.specs.Spelled.{spelled, first_elements, more_elements}
 use Rattle.json_lexemes.specs.declared.signposts.Signposts.{Signposts}
 use Rattle.json_lexemes.specs.declared.signposts.Open.{Open}
+use Rattle.json_lexemes.specs.declared.signposts.Places.{Places}
 use Rattle.json_lexemes.specs.declared.span.Span.{Span}
 use Rattle.json_lexemes.proofs.Ascii.{operator_ascii}
 use Rattle.json_lexemes.proofs.FirstBytes.{kind}
@@ -49,6 +51,7 @@ spells_skip t m i k n s = ap (skip n) s.1 ∙ skip-spelled s.0 n (left_at t k)
 moved : (t : List ℕ) (o : Open) (i k : ℕ) (now later rest still : List Lexeme) → i ≤ k → now ≡ later → rest ≡ still → Follows t o i now rest → Follows t o k later still
 moved t o i k now later rest still h a b f = record {
   on = omega (arith, f.on, h);
+  begins = f.begins;
   few = omega (arith, f.few, h);
   kept = omega (arith, f.kept, h);
   value = f.value ∙ b;
@@ -67,10 +70,27 @@ behind_bracket t o ob i k n h e = moved t o i k _ _ _ _ h (closes_skip t ob i k 
 ahead_outside : (t : List ℕ) (o : Open) (ob : Bool) (i k n : ℕ) → i ≤ k → Continues t ob i k → Behind t i (suc n) o → Ahead t k (suc n) o
 ahead_outside t o ob i k n h c = moved t o i k _ _ _ _ h (continues_skip t ob i k n c) (continues_skip t ob i k (suc n) c)
 
+-- ---- among the first so many
+
+all_taken : {A : Type 0} (P : A → Type 0) (xs : List A) (n : ℕ) → n ≤ length xs → ((k : ℕ) (d : A) → k < n → P (get_or xs k d)) → All P (take n xs)
+all_taken P xs n h f = λ k d l.
+    let low : k < n = omega (arith, l, length-take n xs) in
+    subst P (sym (get_or-take n xs k d low)) (f k d low)
+
 -- ---- where something ends
 
 pub passed_ends : (t : List ℕ) (s : Span) → IsPassed t s → IsEnd t s.end × HasEnd t s.end
 passed_ends t s p = (inl p.begins, inl (operator_no_space (get_or t (s.end - 1) 0) (closing_operator (get_or t (s.end - 1) 0) p.bracket)))
+
+-- a span is seen from the text's beginning as it is
+seen_itself : (t : List ℕ) (s : Span) → IsPassed t s → IsPassed t (seen_from 0 s)
+seen_itself t s p = let i : s.start - 0 ≡ s.start = omega arith in let k : s.end - 0 ≡ s.end = omega arith in subst (λ n. IsPassed t (record { start = n; end = s.end - 0 })) (sym i) (subst (λ n. IsPassed t (record { start = s.start; end = n })) (sym k) p)
+
+pub all_places : (t : List ℕ) (x : Signposts) (p : Places) → AreSignposts t x → p.from ≡ 0 → p.spans.now ≡ take x.ended x.spans → p.steps.now ≡ take x.stepped x.steps → length x.spans ≡ 128 → length x.steps ≡ 128 → ArePlaces t p
+all_places t x p a from spans steps many more = record {
+  spans = subst (All (λ s. p.from ≤ s.start → p.from < s.end → s.end ≤ p.from + length t → IsPassed t (seen_from p.from s))) (sym spans) (all_taken (λ s. p.from ≤ s.start → p.from < s.end → s.end ≤ p.from + length t → IsPassed t (seen_from p.from s)) x.spans x.ended (omega (arith, a.room.0, many)) (λ k d l. λ _ _ _. subst (λ i. IsPassed t (seen_from i (get_or x.spans k d))) (sym from) (seen_itself t (get_or x.spans k d) (a.spans k d l))));
+  steps = subst (All (IsStep t)) (sym steps) (all_taken (IsStep t) x.steps x.stepped (omega (arith, a.room.1, more)) a.steps);
+}
 
 -- ---- one that opens
 
@@ -97,9 +117,10 @@ first_left : (t : List ℕ) (ob : Bool) (start i k : ℕ) → get_or t start 0 �
 first_left t true start i k q a (ls, e, f) = absurd (omega (arith, sym (ap kind (operator_left t start 91 (within t start q) q refl)) ∙ ap kind (a ∙ e)))
 first_left t false start i k q a (ls, e, f) = ap tail (sym (operator_left t start 91 (within t start q) q refl) ∙ a ∙ e) ∙ f
 
-newly : (t : List ℕ) (ob : Bool) (start i k : ℕ) → start < k → left_at t start ≡ left_at t i → Opens t ob i k → Ahead t k 0 (record { start = start; number = 0; kept = start })
-newly t ob start i k h a p = record {
+newly : (t : List ℕ) (ob : Bool) (start i k : ℕ) → start < k → IsEnd t start → left_at t start ≡ left_at t i → Opens t ob i k → Ahead t k 0 (record { start = start; number = 0; kept = start })
+newly t ob start i k h b a p = record {
   on = h;
+  begins = b;
   few = omega (arith, h);
   kept = omega (arith, h);
   value = ap (skip 0) a ∙ opens_skip t ob i k 0 p;
@@ -125,6 +146,7 @@ no_name t i k (item j more) ls (after, e, (s, f)) a = value_only j more ls (left
 named_top : (t : List ℕ) (o : Open) (i k : ℕ) → i ≤ k → Continues t true i k → Behind t i 0 o → Ahead t k 0 o
 named_top t o i k h c f = record {
   on = omega (arith, f.on, h);
+  begins = f.begins;
   few = omega (arith, f.few, h);
   kept = omega (arith, f.kept, h);
   value = f.value ∙ continues_skip t true i k 0 c;
@@ -149,6 +171,7 @@ next_passed t i k n m js (item v rest) ls is s c a =
 array_top : (t : List ℕ) (o : Open) (i k m kept : ℕ) → i < k → m ≡ o.number + 1 → kept ≤ k → Continues t false i k → Behind t i 0 o → Ahead t k 0 (record { start = o.start; number = m; kept = kept })
 array_top t o i k m kept h s l c f = record {
   on = omega (arith, f.on, h);
+  begins = f.begins;
   few = omega (arith, f.few, h, s);
   kept = l;
   value = f.value ∙ continues_skip t false i k 0 c;
@@ -182,16 +205,22 @@ closed_here t o ob i k h fits b l f =
       order = omega (arith, f.on, h);
       fits = fits;
       left = sym (f.value ∙ closes_skip t ob i k 0 l);
+      from = from_end f.begins;
       begins = b.begins;
       bracket = b.bracket;
       boundary = λ u. subst (IsCharBoundary t) there (IsCharBoundary-after_ascii t (k - 1) u (omega (arith, h, fits)) (operator_ascii _ operator));
     }
+  where
+    from_end : IsEnd t o.start → restarts (mode_at t o.start) (drop o.start t) ≡ true
+    from_end (inl e) = ap (λ m. restarts m (drop o.start t)) e
+    from_end (inr (inl (e, w))) = ap (λ m. restarts m (drop o.start t)) e ∙ w
+    from_end (inr (inr e)) = absurd (omega (arith, e, f.on, h, fits))
 
 -- ---- of all
 
-pub entered : (t : List ℕ) (x y : Signposts) (ob : Bool) (start d i k : ℕ) → d ≡ x.depth → d < 4 → y.depth ≡ d + 1 → y.nest ≡ set x.nest d (record { start = start; number = 0; kept = start }) → AreSignposts t y
-    → start < k → i ≤ k → left_at t start ≡ left_at t i → Opens t ob i k → IsAhead t x d i → IsAhead t y (d + 1) k
-entered t x y ob start d i k here room deep nest signposts h le same p a = record {
+pub entered : (t : List ℕ) (x y : Signposts) (ob : Bool) (start d i k : ℕ) → d ≡ x.depth → d < 128 → y.depth ≡ d + 1 → y.nest ≡ set x.nest d (record { start = start; number = 0; kept = start }) → AreSignposts t y
+    → start < k → i ≤ k → left_at t start ≡ left_at t i → IsEnd t start → Opens t ob i k → IsAhead t x d i → IsAhead t y (d + 1) k
+entered t x y ob start d i k here room deep nest signposts h le same end p a = record {
   few = omega (arith, deep);
   room = omega (arith, deep, room);
   size = ap length nest ∙ length-set x.nest d (record { start = start; number = 0; kept = start }) ∙ a.size;
@@ -209,7 +238,7 @@ entered t x y ob start d i k here room deep nest signposts h le same p a = recor
         let top : e ≡ d = omega (arith, b, l, deep) in
         let n : d + 1 - suc e ≡ 0 = omega (arith, top) in
         subst (λ m. Ahead t k m (get_or y.nest e o)) (sym n)
-        (subst (Ahead t k 0) (sym (ap (λ l. get_or l e o) nest ∙ ap (λ m. get_or (set x.nest d (record { start = start; number = 0; kept = start })) m o) top ∙ get_or-set_same x.nest d (record { start = start; number = 0; kept = start }) o (omega (arith, a.size, room)))) (newly t ob start i k h same p))
+        (subst (Ahead t k 0) (sym (ap (λ l. get_or l e o) nest ∙ ap (λ m. get_or (set x.nest d (record { start = start; number = 0; kept = start })) m o) top ∙ get_or-set_same x.nest d (record { start = start; number = 0; kept = start }) o (omega (arith, a.size, room)))) (newly t ob start i k h end same p))
 
 pub deeper : (t : List ℕ) (x : Signposts) (ob : Bool) (d i k : ℕ) → i ≤ k → Opens t ob i k → IsAhead t x d i → IsAhead t x (d + 1) k
 deeper t x ob d i k h p a = record {

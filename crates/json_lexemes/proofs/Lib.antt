@@ -9,8 +9,8 @@ mod Runs
 mod Bits
 mod Blocks
 mod Masked
-mod Passed
-mod Ascii
+pub mod Passed
+pub mod Ascii
 pub mod Closed
 pub mod FirstBytes
 pub mod Members

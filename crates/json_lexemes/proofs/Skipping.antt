@@ -1,9 +1,10 @@
 -- Counting brackets passes over exactly one value.
-use Rattle.std.proofs.Common.{◌≡◌, ℕ, suc, List, ◌++◌, refl, ap, ◌∙◌, append_assoc}
+use Rattle.std.proofs.Common.{◌≡◌, ◌≤◌, ℕ, zero, suc, List, [], ◌∷◌, ◌++◌, length, length-append, refl, ap, ◌∙◌, arith, append_assoc}
+use Rattle.std.proofs.lemmas.List.{append_cancel_right}
 use Rattle.json.specs.Json.{Json, null, boolean, number, string, array, object, Items, no_items, item, Members, no_members, member}
 use Rattle.json.specs.Lex.{Lexeme}
 use Rattle.json_lexemes.specs.Spelled.{spelled, first_elements, more_elements, first_members, more_members}
-use Rattle.json_lexemes.specs.Skipped.{if_open, skip}
+use Rattle.json_lexemes.specs.Skipped.{depth_after, if_open, skip}
 
 mutual
   unfolding skip
@@ -35,3 +36,25 @@ mutual
 -- from where a value begins, what is left is what follows it
 pub skip-value : (v : Json) (ls : List Lexeme) → skip 0 (spelled v ++ ls) ≡ ls
 skip-value v ls = skip-spelled v 0 ls
+
+-- ---- what is passed before more lexemes is passed without them, if all of those are left
+
+if_less : (d : ℕ) (ls : List Lexeme) → length (skip d ls) ≤ length ls → length (if_open d ls (skip d ls)) ≤ length ls
+if_less zero ls h = omega arith
+if_less (suc d) ls h = h
+
+skip_less : (n : ℕ) (ls : List Lexeme) → length (skip n ls) ≤ length ls
+unfolding skip
+skip_less n [] = omega arith
+skip_less n (l ∷ ls) = let less = if_less (depth_after n l) ls (skip_less (depth_after n l) ls) in omega (arith, less)
+
+pub skip_before : (n : ℕ) (xs ys ls : List Lexeme) → skip n (xs ++ ls) ≡ ys ++ ls → skip n xs ≡ ys
+unfolding skip
+skip_before n [] [] ls e = refl
+skip_before n [] (y ∷ ys) [] e = let never = ap length e in absurd (omega (arith, never))
+skip_before n [] (y ∷ ys) (l ∷ ls) e = let less = if_less (depth_after n l) ls (skip_less (depth_after n l) ls) in absurd (omega (arith, less, ap length e, length-append ys (l ∷ ls)))
+skip_before n (x ∷ xs) ys ls e = by_depth (depth_after n x) (λ m. skip_before m xs ys ls) e
+  where
+    by_depth : (d : ℕ) → ((m : ℕ) → skip m (xs ++ ls) ≡ ys ++ ls → skip m xs ≡ ys) → if_open d (xs ++ ls) (skip d (xs ++ ls)) ≡ ys ++ ls → if_open d xs (skip d xs) ≡ ys
+    by_depth zero f g = append_cancel_right xs ys ls g
+    by_depth (suc d) f g = f (suc d) g

@@ -5,7 +5,7 @@ use Rattle.json.specs.Lex.{Lexeme, between}
 use Rattle.json_lexemes.specs.Blocks.{is_closing}
 use Rattle.json_lexemes.specs.Found.{later}
 use Rattle.json_lexemes.specs.Signposts.{AreSignposts}
-use Rattle.json_lexemes.specs.Places.{left_at, mode_at}
+use Rattle.json_lexemes.specs.Places.{left_at, mode_at, IsEnd}
 use Rattle.json_lexemes.specs.Skipped.{if_open, skip}
 use Rattle.json_lexemes.specs.Spelled.{first_elements, more_elements}
 use Rattle.json_lexemes.specs.declared.signposts.Signposts.{Signposts}
@@ -14,6 +14,7 @@ use Rattle.json_lexemes.specs.declared.signposts.Open.{Open}
 -- what is open ends before `rest`, and its value on which the check is before `now`
 pub record Follows (t : List ℕ) (o : Open) (i : ℕ) (now rest : List Lexeme) : Type 0 where
   pub on : o.start < i
+  pub begins : IsEnd t o.start
   pub few : o.number ≤ i
   pub kept : o.kept ≤ i
   pub value : skip 0 (left_at t o.start) ≡ rest
@@ -29,8 +30,8 @@ Behind t i n o = Follows t o i (if_open n (left_at t i) (skip n (left_at t i))) 
 -- d are open at i, of which those that are followed are as R says
 pub record Tracks (R : ℕ → Open → Type 0) (t : List ℕ) (x : Signposts) (d : ℕ) : Type 0 where
   pub few : x.depth ≤ d
-  pub room : x.depth ≤ 4
-  pub size : length x.nest ≡ 4
+  pub room : x.depth ≤ 128
+  pub size : length x.nest ≡ 128
   pub signposts : AreSignposts t x
   pub each : (e : ℕ) (o : Open) → e < x.depth → R (d - suc e) (get_or x.nest e o)
 

@@ -1,5 +1,5 @@
 -- The lexer on a text in two parts.
-use Rattle.std.specs.Prelude.{◌≡◌, ℕ, List, [], ◌∷◌, true, ⊤}
+use Rattle.std.specs.Prelude.{◌≡◌, ℕ, Bool, List, [], ◌∷◌, true, false, ⊤}
 use Rattle.json.specs.Lex.{Class, quote, backslash, operator, space, other, class, Mode, between, in_word, in_string, in_escape}
 use Rattle.json.specs.Word.{ends_word}
 
@@ -40,3 +40,10 @@ Fits between r = ⊤
 Fits in_word r = ends_word r ≡ true
 Fits in_string r = ⊥
 Fits in_escape r = ⊥
+
+-- whether the lexer goes on as between lexemes
+abbrev pub restarts : Mode → List ℕ → Bool
+restarts between r = true
+restarts in_word r = ends_word r
+restarts in_string r = false
+restarts in_escape r = false

@@ -85,7 +85,8 @@ fn past_begin(
     ensures whole { IfSome result (λ r. IfNone r.1 (Spells text.now (cond room 1 0) from r.0)) }
     ensures opens { IfSome result (λ r. IfSome r.1 (λ o. Opens text.now o.object from r.0)) }
     ensures start { IfSome result (λ r. IfSome r.1 (λ o. (o.start < r.0)
-        × (left_at text.now o.start ≡ left_at text.now from))) }
+        × (left_at text.now o.start ≡ left_at text.now from)
+        × (IsEnd text.now from → IsEnd text.now o.start))) }
     ensures end { IfSome result (λ r. IsEnd text.now from → IsEnd text.now r.0) }
     ensures room { IfSome result (λ r. IfSome r.1 (λ o. room ≡ true)) }
     ensures stops { AreStops text.now stops.new.base stops.new.bits }

@@ -3,7 +3,7 @@
 ghost use Rattle.std.specs.Prelude.{◌≡◌, ◌⊎◌, ◌<◌, ◌≤◌, ◌+◌, ◌-◌, ◌∷◌, ℕ, Bool, true, false, List, length, get_or, IfSome};
 ghost use Rattle.std.specs.Str.{IsUtf8, IsCharBoundary};
 ghost use Rattle.json_lexemes.specs.Grammar.{Opens, Continues, closing};
-ghost use Rattle.json_lexemes.specs.Signposts.{ArePlaces, AreSignposts, IsPassed, IsStep};
+ghost use Rattle.json_lexemes.specs.Signposts.{ArePlaces, AreSeenFrom, AreSignposts, IsPassed, IsStep};
 ghost use Rattle.json_lexemes.specs.Places.{left_at, HasEnd, IsEnd};
 ghost use Rattle.json_lexemes.specs.Skipped.{skip};
 ghost use Rattle.json_lexemes.specs.Followed.{IsAhead, IsBehind, IsBehindBracket, IsBehindComma};
@@ -13,10 +13,13 @@ use crate::lexemes::{byte_at, is_opening, value_end};
 use crate::span::Span;
 
 /// So many places of each kind are kept.
-const ROOM: usize = 32;
+const ROOM: usize = 128;
 
 /// So many objects and arrays that are open at once are followed, the outermost first.
-const LEVELS: usize = 4;
+const LEVELS: usize = 128;
+
+/// Of a text some so many places are wanted.
+const PARTS: usize = 32;
 
 /// What is shorter is passed over sooner than looked up.
 const LEAST: usize = 1024;
@@ -59,7 +62,7 @@ pub struct Signposts {
 
 /// Puts one more among so many, in the order of the starts.
 fn insert(spans: &mut [Span; ROOM], count: usize, span: Span)
-    requires { count < 32 }
+    requires { count < 128 }
     ensures { (t : List ℕ) → ((k : ℕ) (d : Span) → k < count → IsPassed t (get_or spans.old k d)) → IsPassed t span
         → (k : ℕ) (d : Span) → k < count + 1 → IsPassed t (get_or spans.new k d) }
 {
@@ -101,14 +104,14 @@ impl Signposts {
         self.ended = 0;
         self.stepped = 0;
         self.depth = 0;
-        self.apart = (len / ROOM).max(LEAST);
+        self.apart = (len / PARTS).max(LEAST);
     }
 
     /// An object or an array opens at `start`, within so many others.
     #[inline(always)]
     pub(crate) fn enter(&mut self, wanted: bool, start: usize, depth: usize)
         ensures { wanted ≡ true → (t : List ℕ) (object : Bool) (i k : ℕ) → IsAhead t self.old depth i
-            → start < k → i ≤ k → left_at t start ≡ left_at t i → Opens t object i k
+            → start < k → i ≤ k → left_at t start ≡ left_at t i → IsEnd t start → Opens t object i k
             → IsAhead t self.new (depth + 1) k }
     {
         if !wanted {
@@ -146,7 +149,7 @@ impl Signposts {
     /// An object or an array, the innermost of so many that are open, goes on at `place`, an array behind a comma.
     #[inline(always)]
     pub(crate) fn go_on(&mut self, wanted: bool, object: bool, place: usize, depth: usize)
-        requires { (0 < depth) × (wanted ≡ true → self.old.depth ≤ 4) }
+        requires { (0 < depth) × (wanted ≡ true → self.old.depth ≤ 128) }
         ensures { wanted ≡ true → (t : List ℕ) (i : ℕ) → IsBehind t self.old depth i → i < place → place ≤ length t
             → (object ≡ false → IsBehindComma t place) → Continues t object i place → IsAhead t self.new depth place }
     {
@@ -184,7 +187,7 @@ impl Signposts {
     /// The innermost of so many that are open is closed before `end`.
     #[inline(always)]
     pub(crate) fn leave(&mut self, wanted: bool, end: usize, depth: usize)
-        requires { (0 < depth) × (wanted ≡ true → self.old.depth ≤ 4) }
+        requires { (0 < depth) × (wanted ≡ true → self.old.depth ≤ 128) }
         ensures { wanted ≡ true → (t : List ℕ) (object : Bool) (i : ℕ) → IsBehind t self.old depth i → i < end → end ≤ length t
             → IsBehindBracket t end → left_at t i ≡ closing object ∷ left_at t end
             → IsBehind t self.new (depth - 1) end }
@@ -210,6 +213,7 @@ impl Signposts {
         ensures { (t : List ℕ) → AreSignposts t self.now → ArePlaces t result }
     {
         Places {
+            from: 0,
             spans: &self.spans[..self.ended],
             steps: &self.steps[..self.stepped],
         }
@@ -219,6 +223,8 @@ impl Signposts {
 /// Places of a text, of which some long objects and arrays need not be passed over.
 #[derive(Clone, Copy, Debug, Drop)]
 pub struct Places<'a> {
+    /// Where the text begins in the one that the spans are of.
+    from: usize,
     spans: &'a [Span],
     steps: &'a [Step],
 }
@@ -229,15 +235,32 @@ impl<'a> Places<'a> {
         ensures { (t : List ℕ) → ArePlaces t result }
     {
         Places {
+            from: 0,
             spans: &[],
             steps: &[],
         }
     }
 
-    /// Where the value that begins at `start` ends, if that is kept.
-    pub fn end_of(&self, start: usize) -> Option<usize>
-        ensures { (t : List ℕ) → ArePlaces t self.now → IfSome result (λ end. IsPassed t (record { start = start; end = end })) }
+    /// Those of a value that begins at `start`, in a text of its own.
+    pub fn within(&self, start: usize) -> Places<'a>
+        ensures { AreSeenFrom self.now start result }
     {
+        let Some(from) = self.from.checked_add(start) else {
+            return Places {
+                from: 0,
+                spans: &[],
+                steps: &[],
+            };
+        };
+        Places {
+            from,
+            spans: self.spans,
+            steps: &[],
+        }
+    }
+
+    /// The number of the first span that doesn't begin before `start`.
+    fn first_from(&self, start: usize) -> usize {
         let (mut low, mut high) = (0, self.spans.len());
         while low < high {
             let middle = low + (high - low) / 2;
@@ -247,8 +270,21 @@ impl<'a> Places<'a> {
                 high = middle;
             }
         }
-        if low < self.spans.len() && self.spans[low].start == start {
-            Some(self.spans[low].end)
+        low
+    }
+
+    /// Where the value that begins at `start` ends, if that is kept.
+    pub fn end_of(&self, text: &[u8], start: usize) -> Option<usize>
+        ensures { ArePlaces text.now self.now → IfSome result (λ end. IsPassed text.now (record { start = start; end = end })) }
+    {
+        let begins = self.from.checked_add(start)?;
+        let number = self.first_from(begins);
+        if number >= self.spans.len() || self.spans[number].start != begins {
+            return None;
+        }
+        let end = self.spans[number].end.checked_sub(self.from)?;
+        if 0 < end && end <= text.len() {
+            Some(end)
         } else {
             None
         }
@@ -267,7 +303,7 @@ impl<'a> Places<'a> {
     {
         // What is no object and no array is passed as soon.
         if is_opening(byte_at(text, from)) {
-            if let Some(end) = self.end_of(from) {
+            if let Some(end) = self.end_of(text, from) {
                 return end;
             }
         }

@@ -95,8 +95,8 @@ fn places(rt: HostRuntime) {
     assert!(rt; found);
     if found {
         let places = signposts.places();
-        assert_eq!(rt; places.end_of(0), Some(6001));
-        assert_eq!(rt; places.end_of(1), None);
+        assert_eq!(rt; places.end_of(&text, 0), Some(6001));
+        assert_eq!(rt; places.end_of(&text, 1), None);
         assert!(rt; are_found(&text, places) && are_found(&text, Places::none()));
         assert_eq!(rt;
             places.step_to(0, 500).map(|step| step.number > 300),

@@ -1,5 +1,5 @@
 -- A text is opened: its parts, one after another.
-use Rattle.std.proofs.Common.{◌≡◌, ◌≢◌, inl, ℕ, ◌<◌, ◌≤◌, Bool, true, false, List, [], ◌∷◌, ◌++◌, length, drop, Some, None, refl, sym, ap, ap₂, ◌∙◌, subst, arith, append_assoc, append-nil}
+use Rattle.std.proofs.Common.{◌≡◌, ◌≢◌, Box, Global, inl, ℕ, ◌<◌, ◌≤◌, Bool, true, false, List, [], ◌∷◌, ◌++◌, length, drop, Some, None, refl, sym, ap, ap₂, ◌∙◌, subst, arith, append_assoc, append-nil}
 use Rattle.std.specs.Prelude.{IfSome, MatchOption}
 use Rattle.std.specs.Str.{IsUtf8, IsCharBoundary}
 use Rattle.std.proofs.lemmas.List.{get_or_default}
@@ -19,10 +19,13 @@ use Rattle.json_lexemes.proofs.FirstBytes.{operator_by_kind}
 use Rattle.json_text.proofs.Rows.Trees.{spelled_in}
 use Rattle.json_lexemes.proofs.Steps.{drop_step, operator_end, operator_left}
 use Rattle.long_vec.specs.Items.{items_of}
-use Rattle.json_pieces.specs.Nodes.{IsRow, IsRowOf, IsSound, shut, piece_with, text_bytes, tree_text, view}
+use Rattle.json_pieces.specs.Nodes.{IsRow, IsRowOf, IsSound, piece_with, row_view, text_bytes, tree_of, tree_text, view}
 use Rattle.json_pieces.specs.declared.node.Node.{Node}
+use Rattle.json_pieces.specs.declared.node.Node.TheVariants.{Closed, Open}
+use Rattle.json_pieces.specs.declared.text.Text.{Text}
 use Rattle.json_pieces.specs.declared.node.Row.{Row}
 use Rattle.json_pieces.specs.declared.seams.Seam.{Seam}
+use Rattle.json_pieces.proofs.Levels.{closed_text, held_open, row_tree, view_closed}
 use Rattle.json_pieces.proofs.Lists.{AreSoundIn, pieces_in}
 
 -- ---- the bracket
@@ -165,12 +168,12 @@ starts [] [] e f = (tt, refl)
 starts [] (v ∷ vs) e f = absurd (omega (arith, ap length f))
 starts (s ∷ ss) vs e f = absurd (omega (arith, ap length e))
 
-pub pushed : (ss new_seams : List Seam) (vs new_values : List Node) (s : Seam) (v : Node) (c : Cut) → new_seams ≡ ss ++ (s ∷ []) → new_values ≡ vs ++ (v ∷ []) → AreSoundIn ss vs → view v ≡ shut c.value.now → piece_with s c.value.now ≡ piece_of c
+pub pushed : (ss new_seams : List Seam) (vs new_values : List Node) (s : Seam) (v : Node) (c : Cut) → new_seams ≡ ss ++ (s ∷ []) → new_values ≡ vs ++ (v ∷ []) → AreSoundIn ss vs → IsSound (view v) → tree_text (view v) ≡ c.value.now → piece_with s c.value.now ≡ piece_of c
     → AreSoundIn new_seams new_values × (pieces_in new_seams new_values ≡ pieces_in ss vs ++ (piece_of c ∷ []))
-pushed ss new_seams vs new_values s v c e f h seen is =
-    let sound : AreSoundIn (ss ++ (s ∷ [])) (vs ++ (v ∷ [])) = push_sound ss vs s v h (subst IsSound (sym seen) tt) in (
+pushed ss new_seams vs new_values s v c e f h value seen is =
+    let sound : AreSoundIn (ss ++ (s ∷ [])) (vs ++ (v ∷ [])) = push_sound ss vs s v h value in (
       subst (λ x. AreSoundIn x new_values) (sym e) (subst (λ x. AreSoundIn (ss ++ (s ∷ [])) x) (sym f) sound),
-      ap₂ pieces_in e f ∙ push_pieces ss vs s v h ∙ ap (λ x. pieces_in ss vs ++ (piece_with s (tree_text x) ∷ [])) seen ∙ ap (λ x. pieces_in ss vs ++ (x ∷ [])) is,
+      ap₂ pieces_in e f ∙ push_pieces ss vs s v h ∙ ap (λ x. pieces_in ss vs ++ (piece_with s x ∷ [])) seen ∙ ap (λ x. pieces_in ss vs ++ (x ∷ [])) is,
     )
 
 pub behind_mark : (t : List ℕ) (b : Bool) (cs : List Child) (ps : List Piece) (from : ℕ) → IsTextOf t (tree_in b cs) → (s : SoFar t b cs ps from) → IsBehindMark t b s.more from
@@ -209,12 +212,13 @@ cut_first t b ss vs u (cs, h) e f =
 pub record IsPushed (ss new_seams : List Seam) (vs new_values : List Node) (s : Seam) (v : Node) (c : Cut) : Type 0 where
   pub seams : new_seams ≡ ss ++ (s ∷ [])
   pub values : new_values ≡ vs ++ (v ∷ [])
-  pub seen : view v ≡ shut c.value.now
+  pub sound : IsSound (view v)
+  pub seen : tree_text (view v) ≡ c.value.now
   pub is : piece_with s c.value.now ≡ piece_of c
 
 module _ (t : List ℕ) (b : Bool) (ss new_seams : List Seam) (vs new_values : List Node) (from : ℕ) (s : Seam) (v : Node) (c : Cut) (a : AreCut t b ss vs from) (first : (cs : List Child) → IsBehindMark t b cs from → CutsFirst t b cs from c) (p : IsPushed ss new_seams vs new_values s v c) where
   one_more : AreSoundIn new_seams new_values × (pieces_in new_seams new_values ≡ pieces_in ss vs ++ (piece_of c ∷ []))
-  one_more = pushed ss new_seams vs new_values s v c p.seams p.values a.sound p.seen p.is
+  one_more = pushed ss new_seams vs new_values s v c p.seams p.values a.sound p.sound p.seen p.is
 
   pub cut_next : (g : ℕ) → GoesOn t from c → c.next ≡ Some g → AreCut t b new_seams new_values g
   cut_next g goes e =
@@ -288,3 +292,20 @@ as_array (array js) s e f = (elements_children js, ap array (sym (elements_back 
 
 pub row_text_of : (t : List ℕ) (b : Bool) (j : Json) → IsTextOf t j → (cs : List Child) × (j ≡ tree_in b cs) → (cs : List Child) × IsTextOf t (tree_in b cs)
 row_text_of t b j h (cs, e) = (cs, subst (IsTextOf t) e h)
+
+-- a value that stays closed
+pub closed_value : (s : Text) (text : List ℕ) → text_bytes s ≡ text → IsSound (view (Closed s)) × (tree_text (view (Closed s)) ≡ text)
+closed_value s text e = (subst IsSound (sym (view_closed s)) tt, closed_text s ∙ e)
+
+-- and one that is opened
+pub opened_value : (b : Box Row Global) (r : Row) (text : List ℕ) → b.value ≡ r → IsRowOf text r → IsSound (view (Open b)) × (tree_text (view (Open b)) ≡ text)
+opened_value b r text e h =
+    let tree : view (Open b) ≡ row_view r = ap tree_of (held_open b) ∙ row_tree b.value ∙ ap row_view e in
+    (subst IsSound (sym tree) h.0, ap tree_text tree ∙ h.1)
+
+-- the text of the first that is cut
+pub cut_text : (t : List ℕ) (b : Bool) (from : ℕ) (c : Cut) (ss : List Seam) (vs : List Node) → AreCut t b ss vs from → (cs : List Child) × IsTextOf t (tree_in b cs) → ((cs : List Child) → IsBehindMark t b cs from → CutsFirst t b cs from c) → (j : Json) × IsTextOf c.value.now j
+cut_text t b from c ss vs a (cs, h) first =
+    let before = a.so_far cs h in
+    let f = first before.more (behind_mark t b cs _ from h before) in
+    (f.child.1, f.suits.value)

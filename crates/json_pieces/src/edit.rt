@@ -21,7 +21,7 @@ use crate::small::{is_small, is_text, small_text};
 use crate::text::Text;
 use crate::work::Work;
 use json_text::split_around;
-use jsonptr::{Token, Tokens};
+use jsonptr::{Pointer, Token, Tokens};
 use std::alloc::AllocError;
 use std::mem;
 
@@ -91,7 +91,12 @@ fn apply_below<'a>(
     ensures led { work.old.logged ≡ true → IsStepped work.new.steps.items (held node.old) (held node.new) }
     ensures place { work.new.place ≡ work.old.place }
 {
-    open(work.means.alloc, node, &mut work.opened)?;
+    open(
+        work.means.alloc,
+        node,
+        Pointer::root().tokens(),
+        &mut work.opened,
+    )?;
     match node {
         Node::Closed(_) => Ok(None),
         Node::Open(row) => apply_in(work, row, edit),
@@ -374,10 +379,11 @@ fn edit_open<'a>(
     ensures sound { IfOk result (λ found. IfSome found (λ out. IsSound (view out))) }
     ensures led { work.old.logged ≡ true → IsLed work.new.steps.items work.old.place.items work.new.place.items (held node.old) (held node.new) }
 {
+    let tokens = path;
     let Some(token) = path.next() else {
         return apply(work, node, edit);
     };
-    open(work.means.alloc, node, &mut work.opened)?;
+    open(work.means.alloc, node, tokens, &mut work.opened)?;
     match node {
         Node::Closed(_) => Ok(None),
         Node::Open(row) => edit_in(work, row, token, path, edit),

@@ -78,10 +78,11 @@ fn shape_open(
     ensures looks { IfOk result (λ found. (j : Json) → Says (tree_text (view node.old)) j
         → Looks j (tokens_left path.entry) found) }
 {
+    let tokens = path;
     let Some(token) = path.next() else {
         return Ok(Some(shape(node)));
     };
-    open(alloc, node, opened)?;
+    open(alloc, node, tokens, opened)?;
     match node {
         Node::Closed(_) => Ok(None),
         Node::Open(row) => shape_in(alloc, row, token, path, opened),

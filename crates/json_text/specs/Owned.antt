@@ -1,5 +1,5 @@
 -- The text of an object or an array, and what stands around it.
-use Rattle.std.specs.Prelude.{◌≡◌, ◌⊎◌, ◌+◌, ◌++◌, ℕ, List, drop, length, true}
+use Rattle.std.specs.Prelude.{◌≡◌, ◌⊎◌, ◌≤◌, ◌+◌, ◌++◌, ℕ, List, drop, length, true}
 use Rattle.json.specs.Json.{Json}
 use Rattle.json.specs.Lex.{between}
 use Rattle.json.specs.Word.{ends_word}
@@ -7,12 +7,20 @@ use Rattle.json_lexemes.specs.Places.{mode_at}
 use Rattle.json_lexemes.specs.Signposts.{ArePlaces}
 use Rattle.json_lexemes.specs.declared.span.Span.{Span}
 use Rattle.json_text.specs.Added.{IsPutInto}
+use Rattle.json_text.specs.Rows.{slice}
 use Rattle.json_text.specs.declared.own.Own.{Own}
 
 -- no lexeme is cut at either side
 pub record IsApart (t : List ℕ) (s : Span) : Type 0 where
   pub begins : mode_at t s.start ≡ between
   pub ends : (mode_at t s.end ≡ between) ⊎ (ends_word (drop s.end t) ≡ true)
+
+-- at its place in t stands the text u
+pub record IsInner (t : List ℕ) (s : Span) (u : List ℕ) : Type 0 where
+  pub apart : IsApart t s
+  pub order : s.start ≤ s.end
+  pub fits : s.end ≤ length t
+  pub is : u ≡ slice t s.start s.end
 
 -- the whole, with s in its place
 abbrev pub in_whole : Own → List ℕ → List ℕ

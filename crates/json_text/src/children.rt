@@ -81,7 +81,7 @@ fn member_end(text: &[u8], start: usize, passed: Way, places: Places) -> usize
     if passed.arrays == 0 {
         return passed.end;
     }
-    match places.end_of(start) {
+    match places.end_of(text, start) {
         Some(end) => end,
         None => arrays_end(text, passed.end, passed.arrays),
     }

@@ -8,12 +8,14 @@ ghost use Rattle.json_text.specs.Cuts.{ClosesAt, CutsFirst, IsWhitespace, GoesOn
 ghost use Rattle.json_text.specs.Listing.{IsTextOf};
 ghost use Rattle.json_text.specs.Pointed.{IsStretch};
 ghost use Rattle.json_text.specs.Rows.{Child};
+ghost use Rattle.json_lexemes.specs.Signposts.{ArePlaces};
 ghost use Rattle.json_lexemes.specs.Spelled.{Says};
+ghost use Rattle.json_text.specs.Owned.{IsInner};
 
 use crate::children::whole;
 use crate::listing::name_from;
 use crate::parts::part_from;
-use json_lexemes::{is_name, whitespace_end};
+use json_lexemes::{Places, Span, is_name, whitespace_end};
 
 /// A member or an element, as it stands in the text: its parts in their order, and nothing between them.
 #[derive(Clone, Copy, Debug, Drop)]
@@ -25,6 +27,8 @@ pub struct Cut<'a> {
     /// A member's colon, with the whitespace around it; of an element nothing.
     pub colons: &'a str,
     pub value: &'a str,
+    /// Where it stands.
+    pub place: Span,
     /// The whitespace behind it.
     pub trail: &'a str,
     /// The place behind the comma that follows, where the next one's whitespace begins.
@@ -33,18 +37,20 @@ pub struct Cut<'a> {
 
 /// The member or element whose whitespace begins at `from`, right behind a bracket or a comma; `None`
 /// where the closing bracket follows the whitespace.
-pub fn cut_at<'a>(text: &'a str, from: usize, named: bool) -> Option<Cut<'a>>
+pub fn cut_at<'a>(text: &'a str, from: usize, named: bool, places: Places) -> Option<Cut<'a>>
     requires within { from ≤ length text.now }
     requires boundary { IsCharBoundary text.now from }
+    requires places { ArePlaces text.now places }
     requires row { (cs : List Child) × IsBehindMark text.now named cs from }
     ensures cut { (cs : List Child) → IsBehindMark text.now named cs from
         → MatchOption result (cs ≡ [])
         (CutsFirst text.now named cs from) }
     ensures next { IfSome result (GoesOn text.now from) }
+    ensures place { IfSome result (λ c. IsInner text.now c.place c.value.now) }
 {
     let bytes = text.as_bytes();
     let start = whitespace_end(bytes, from);
-    let Some(part) = part_from(bytes, start, named) else {
+    let Some(part) = part_from(bytes, start, named, places) else {
         return None;
     };
     let name = name_from(bytes, start, named);
@@ -59,6 +65,7 @@ pub fn cut_at<'a>(text: &'a str, from: usize, named: bool) -> Option<Cut<'a>>
         name: &text[start..name.end],
         colons: &text[name.end..value.start],
         value: &text[value.start..value.end],
+        place: value,
         trail: &text[value.end..end],
         next,
     })

@@ -11,7 +11,7 @@ ghost use Rattle.json_text.specs.Rows.{Child, IsSolid, inside};
 ghost use Rattle.json_lexemes.specs.Spelled.{Says};
 
 use crate::parts::{part_from, row_in};
-use json_lexemes::{Span, byte_at, string_end, whitespace_end};
+use json_lexemes::{Places, Span, byte_at, string_end, whitespace_end};
 use std::alloc::{AllocError, Global};
 
 /// What a value is, by its first byte.
@@ -81,7 +81,7 @@ pub fn child_texts<'a>(alloc: Global, text: &'a str) -> Result<Vec<(&'a str, &'a
         return Ok(found);
     };
     let mut start = whitespace_end(bytes, row.start);
-    while let Some(part) = part_from(bytes, start, row.named) {
+    while let Some(part) = part_from(bytes, start, row.named, Places::none()) {
         let name = name_from(bytes, start, row.named);
         found.push((
             &text[name.start..name.end],

@@ -7,6 +7,7 @@ ghost use Rattle.json.specs.Json.{Json};
 ghost use Rattle.json.specs.Lex.{between};
 ghost use Rattle.json_text.specs.Less.{HasInside, IsLeaf, IsNumberOf, IsObject};
 ghost use Rattle.json_lexemes.specs.Places.{mode_at, left_at};
+ghost use Rattle.json_lexemes.specs.Signposts.{ArePlaces as AreTextPlaces};
 ghost use Rattle.json_text.specs.Pointed.{child};
 ghost use Rattle.json_text.specs.Rows.{ArePlaces, AreInOrder, Child, CutNone, FindsPart, FindsValue};
 ghost use Rattle.json_text.specs.Rows.{IsAhead, IsInside, IsLast, IsNumbered, IsSolid, inside, last_named, tree_in};
@@ -83,9 +84,10 @@ fn value_start(text: &[u8], start: usize, named: bool) -> Option<usize>
 }
 
 /// The member or element that begins at `start`.
-pub(crate) fn part_from(text: &[u8], start: usize, named: bool) -> Option<Part>
+pub(crate) fn part_from(text: &[u8], start: usize, named: bool, places: Places) -> Option<Part>
     requires within { start ≤ length text.now }
     requires solid { IsSolid text.now start }
+    requires places { AreTextPlaces text.now places }
     ensures start { IfSome result (λ p. p.start ≡ start) }
     ensures quoted { IfSome result (λ p. named ≡ true → start < length text.now) }
     ensures element { named ≡ false → IfSome result (λ p. p.value.start ≡ start) }
@@ -96,7 +98,7 @@ pub(crate) fn part_from(text: &[u8], start: usize, named: bool) -> Option<Part>
     ensures boundary { (IsUtf8 text.now → IsCharBoundary text.now start)
         → IfSome result (CutNone text.now) }
 {
-    let value = value_from(text, value_start(text, start, named)?, Places::none());
+    let value = value_from(text, value_start(text, start, named)?, places);
     let next = after(text, value.end, b',');
     Some(Part { start, value, next })
 }
@@ -120,7 +122,7 @@ pub(crate) fn part_at(
     let mut before = ahead.before;
     let mut start = ahead.start;
     let mut passed = ahead.number;
-    while let Some(part) = part_from(text, start, named) {
+    while let Some(part) = part_from(text, start, named, Places::none()) {
         if passed == number {
             return Some(Numbered { before, part });
         }
@@ -152,7 +154,7 @@ pub(crate) fn last_part(
     let mut before = ahead.before;
     let mut start = ahead.start;
     let mut number = ahead.number;
-    while let Some(part) = part_from(text, start, named) {
+    while let Some(part) = part_from(text, start, named, Places::none()) {
         let Some(next) = part.next else {
             return Some((number, Numbered { before, part }));
         };
@@ -179,7 +181,7 @@ pub(crate) fn last_named(text: &[u8], from: usize, name: &[u8]) -> Option<usize>
     let mut found = None;
     let mut start = whitespace_end(text, from);
     let mut number = 0;
-    while let Some(part) = part_from(text, start, true) {
+    while let Some(part) = part_from(text, start, true, Places::none()) {
         found = latest(is_name(text, start + 1, name), number, found);
         let Some(next) = part.next else {
             return found;

@@ -2,7 +2,7 @@ use Rattle.std.proofs.Common.{rules, ◌≡◌, ◌<◌, ◌+◌, ◌-◌, [], t
 use Rattle.std.specs.Prelude.{IfSome, IfNone, nat_lt}
 use Rattle.std.proofs.lemmas.Bool.Decides.{Decides-eqb, Decides-ltb}
 use Rattle.std.proofs.lemmas.List.{length-set}
-use Rattle.json_lexemes.specs.Places.{left_at}
+use Rattle.json_lexemes.specs.Places.{left_at, IsEnd}
 use Rattle.json_lexemes.specs.Grammar.{Begins, Opens, Spells, innermost}
 use Rattle.json_lexemes.proofs.Trimmed.{end_left}
 use Rattle.json_lexemes.proofs.Completed.{opens_on, whole_begins, room_for}
@@ -26,7 +26,7 @@ loop-next-preserved-in-Some-opened c =
     let o = c.in-Some-opened.opened in
     let room : d < most = (Decides-ltb d most).0 (subst (λ r. IfSome r (λ o. nat_lt d most ≡ true)) c.in-Some-opened.is c.in-Some.ensures.room) in
     let opens = subst (λ r. IfSome r (λ o. Opens t o.object i c.in-Some.next)) c.in-Some-opened.is c.in-Some.ensures.opens in
-    let start = subst (λ r. IfSome r (λ o. (o.start < c.in-Some.next) × (left_at t o.start ≡ left_at t i))) c.in-Some-opened.is c.in-Some.ensures.start in
+    let start = subst (λ r. IfSome r (λ o. (o.start < c.in-Some.next) × (left_at t o.start ≡ left_at t i) × (IsEnd t i → IsEnd t o.start))) c.in-Some-opened.is c.in-Some.ensures.start in
     record {
       high = c.in-Some.ensures.bounds.1;
       size = length-set c.loop-next.objects d o.object ∙ c.loop-next.invariant.size;
@@ -34,7 +34,7 @@ loop-next-preserved-in-Some-opened c =
       most = c.loop-next.invariant.most;
       levels = c.loop-next.invariant.levels;
       end = c.in-Some.ensures.end c.loop-next.invariant.end;
-      ahead = λ w. c.enter.ensures w t o.object i c.in-Some.next (c.loop-next.invariant.ahead w) start.0 (omega (arith, c.in-Some.ensures.bounds)) start.1 opens;
+      ahead = λ w. c.enter.ensures w t o.object i c.in-Some.next (c.loop-next.invariant.ahead w) start.0 (omega (arith, c.in-Some.ensures.bounds)) start.1 (start.2 c.loop-next.invariant.end) opens;
       stops = c.in-Some.ensures.stops;
       follows = λ b. c.loop-next.invariant.follows (opens_on t c.loop-next.objects o.object most d i c.in-Some.next room (omega (arith, room, c.loop-next.invariant.size, c.loop-next.invariant.most)) opens b);
     }

@@ -8,7 +8,7 @@ use Rattle.json_lexemes.proofs.signposts.insert.Given as goal
 abbrev pub invariant-loop-at : goal.invariant-loop-at
 invariant-loop-at l = record {
   low : l.at ≤ l.count;
-  size : length l.spans ≡ 32;
+  size : length l.spans ≡ 128;
   known : (t : List ℕ) → ((k : ℕ) (d : Span) → k < l.count → IsPassed t (get_or l.initial.spans k d)) → (k : ℕ) (d : Span) → k ≤ l.count → k ≢ l.at → IsPassed t (get_or l.spans k d);
 }
 

@@ -2,7 +2,9 @@ use Rattle.std.proofs.Common.{◌≤◌, ◌<◌, List, length, sym, ◌∙◌, 
 use Rattle.std.specs.Str.{IsCharBoundary}
 use Rattle.std.specs.Prelude.{IfSome}
 use Rattle.json_text.specs.Cuts.{CutsFirst, IsBehindMark}
+use Rattle.json_text.specs.Owned.{IsInner}
 use Rattle.json_text.specs.Rows.{Child}
+use Rattle.json_text.proofs.Owned.{apart_cut}
 use Rattle.json_text.specs.declared.cuts.Cut.{Cut}
 use Rattle.json_text.proofs.Rows.Pieces.{first_cut, name_before, copied, next_place, AreFound, NextIs}
 use Rattle.json_text.proofs.cuts.cut_at.Goals.{in-Some-next, in-None}
@@ -61,7 +63,7 @@ returns-clause-cut c = λ cs given.
       ends = c.whitespace_end-end.ensures.end;
       solid = c.whitespace_end-end.ensures.stops;
     } in
-    let cut : Cut = record { whitespace = c.range.result; name = c.range-2.result; colons = c.range-3.result; value = c.range-4.result; trail = c.range-5.result; next = c.match-part.next } in
+    let cut : Cut = record { whitespace = c.range.result; name = c.range-2.result; colons = c.range-3.result; value = c.range-4.result; place = c.in-Some.part.value; trail = c.range-5.result; next = c.match-part.next } in
     let first = first_cut t c.args.named cs c.args.from start k c.in-Some.part c.name_from-name.result h.0.0 found
     cut (record {
       whitespace = copied _ t _ _ _ e c.range.ensures.value;
@@ -112,3 +114,17 @@ returns-clause-next c =
     } in
     subst (λ u. IfSome c.match-part.next (λ g. (c.args.from < g) × (g ≤ length u) × IsCharBoundary u g)) e
     (next_place t c.args.named cs c.args.from start k c.in-Some.part c.name_from-name.result h.0.0 found c.as_bytes-bytes.ensures.utf8 c.match-part.next next)
+
+pub returns-clause-place : goal.returns-clause-place
+returns-clause-place c =
+    let (cs, given) = c.requires.row in
+    let e = c.as_bytes-bytes.ensures.value in
+    let h = subst (λ u. IsBehindMark u c.args.named cs c.args.from) (sym e) given in
+    let order = c.in-Some.ensures.order in
+    let cut = (c.in-Some.ensures.places (c.whitespace_end-start.ensures.between h.3)).cut in
+    subst (λ u. IsInner u c.in-Some.part.value c.range-4.result.now) e (record {
+      apart = apart_cut c.as_bytes-bytes.result.now c.in-Some.part.value cut;
+      order = order.value;
+      fits = order.fits;
+      is = copied _ c.as_bytes-bytes.result.now _ _ _ e c.range-4.ensures.value;
+    })

@@ -1,10 +1,7 @@
 use Rattle.std.proofs.Common.{◌≡◌, ◌≤◌, [], false, List, drop, sym, subst, arith}
 use Rattle.std.specs.Prelude.{MatchOption}
 use Rattle.std.specs.Str.{IsCharBoundary}
-use Rattle.json.specs.Json.{Json}
-use Rattle.json_text.specs.Added.{IsPutInto}
 use Rattle.json_text.specs.Rows.{AreInOrder, Child, CutNone, IsComma, IsInside, IsLast, IsNumbered, IsTrail}
-use Rattle.json_lexemes.specs.Spelled.{Says}
 use Rattle.json_text.proofs.Rows.Added.{alone_put, before_put, behind_put, chosen_slot, counted_by, no_index, past_end, same_last}
 use Rattle.json_text.proofs.growing.with_element.Goals as goal
 

@@ -62,3 +62,6 @@ loop-part-preserved c =
           (c.name_from-name.ensures.cut mode) (c.name_from-name.ensures.within (λ u. c.loop-part.invariant.boundary.1)) (c.name_from-name.ensures.name more left) (c.range.ensures.value ∙ ap (λ u. slice u c.name_from-name.result.start c.name_from-name.result.end) (sym c.as_bytes-bytes.ensures.value)) (c.range-in-Some-part_from.ensures.value ∙ ap (λ u. slice u c.in-Some-part_from.part.value.start c.in-Some-part_from.part.value.end) (sym c.as_bytes-bytes.ensures.value)) c.in_ok-push.ensures.items in
           (rw c.in-Some-next.is at (c.in-Some-part_from.ensures.places mode).next, (one.rest, next_one c.in-Some-next.next c.in-Some-next.is one, one.listed));
     }
+
+pub part_from-requires-clause-places : goal.part_from-requires-clause-places
+part_from-requires-clause-places c = c.none.ensures c.as_bytes-bytes.result.now

@@ -19,3 +19,6 @@ loop-part-preserved c =
           let a = c.loop-part.invariant.ahead cs e in
           next_named c.args.text.now c.args.name.now cs c.loop-part.number c.loop-part.start c.in-Some-next.next c.loop-part.found c.latest-found.result c.is_name.result c.in-Some.part c.in-Some-next.is c.in-Some.ensures.start c.is_name.ensures c.latest-found.ensures a (c.in-Some.ensures.part _ a.0);
     }
+
+pub part_from-requires-clause-places : goal.part_from-requires-clause-places
+part_from-requires-clause-places c = c.none.ensures c.args.text.now

@@ -44,3 +44,6 @@ pub returns-clause-last : goal.returns-clause-last
 returns-clause-last c = λ cs h.
     let r = c.loop-part.invariant.reached cs h in
     none_at_all c.args.text.now c.args.named cs c.loop-part.number c.loop-part.before c.loop-part.start r (c.in_default.ensures.part _ r.reached.left)
+
+pub part_from-requires-clause-places : goal.part_from-requires-clause-places
+part_from-requires-clause-places c = c.none.ensures c.args.text.now

@@ -50,3 +50,6 @@ pub returns-clause-found : goal.returns-clause-found
 returns-clause-found c = λ cs h.
     let r = c.loop-part.invariant.reached cs h in
     none_behind c.loop-part.passed c.args.number cs (c.in_default.ensures.part _ r.left) c.loop-part.invariant.more
+
+pub part_from-requires-clause-places : goal.part_from-requires-clause-places
+part_from-requires-clause-places c = c.none.ensures c.args.text.now

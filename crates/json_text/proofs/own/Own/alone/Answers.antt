@@ -1,6 +1,5 @@
-use Rattle.std.proofs.Common.{◌≡◌, [], ◌+◌, ◌++◌, length, refl, sym, ap, subst, inr, arith, append-nil}
+use Rattle.std.proofs.Common.{[], ◌+◌, ◌++◌, length, refl, ap, inr, arith, append-nil}
 use Rattle.json_lexemes.proofs.Steps.{ends_by_end}
-use Rattle.json_lexemes.specs.Signposts.{ArePlaces}
 use Rattle.json_text.proofs.own.Own.alone.Goals as goal
 
 pub returns-clause-own : goal.returns-clause-own

@@ -1,5 +1,5 @@
 use Rattle.std.proofs.Common.{◌-◌, ◌≤◌, length}
-use Rattle.json_lexemes.proofs.signposts.Places.end_of.Given as goal
+use Rattle.json_lexemes.proofs.signposts.Places.first_from.Given as goal
 
 abbrev pub invariant-loop-low : goal.invariant-loop-low
 invariant-loop-low l = record {
