@@ -1,7 +1,7 @@
 #!/usr/bin/env python3
 """Random JSON texts, patched in place, against a model of the bytes.
 
-    diff/texts.py [--seed S] [--cases N] --ours PROGRAM [--rust PROGRAM] [--wide] [--spoil] [--record]
+    diff/texts.py [--seed S] [--cases N] --ours PROGRAM [--rust PROGRAM] [--wide | --deep] [--spoil] [--record]
 
 PROGRAM is that of diff/texts.rt.txt, which `diff/build FOLDER json_patch_texts diff/texts.rt.txt
 json_patch_text` proves and builds. The texts have whitespace of all kinds anywhere, names and strings with
@@ -15,7 +15,8 @@ doesn't hold, and where a kind of operation was never accepted or a kind of refu
 
 With `--wide` each text has an object of some fifty members, and each patch some twenty-five operations, a
 fifth of which take a member out: so its names are looked up in an index, which is kept over them. There a
-kind of refusal needn't come. With `--record` the undo has to be the model's, too, and to lead back to what
+kind of refusal needn't come. With `--deep` a long value stands below nine to thirty objects and arrays, and four
+or more operations go there and to what stands beside the way: so what is on it is opened at once. With `--record` the undo has to be the model's, too, and to lead back to what
 the text says (not with `--rust` or `--spoil`). With `--spoil` a byte of each new text is changed before it is compared: then it
 fails where one isn't found out, and where none is by the Rust crate's answer."""
 import argparse
@@ -107,11 +108,39 @@ class Texts:
         row = self.row("{}", members)
         return self.row("{}", ['"w":' + row]) if self.random.random() < 0.3 else row
 
+    def deep(self):
+        """A long value below many objects and arrays, in which other values stand beside it, some under its name."""
+        self.style = self.random.randrange(3)
+        text = self.row("[]", [self.value(2) for _ in range(6)] + [json.dumps("x" * 2100)])
+        for _ in range(self.random.randrange(9, 31)):
+            before, behind = ([self.value(1) for _ in range(self.random.choice((0, 0, 1, 2)))] for _ in range(2))
+            if self.random.random() < 0.5:
+                text = self.row("[]", [*before, text, *behind])
+                continue
+            name = self.random.choice(NAMES)
+            names = [self.random.choice((name, *NAMES)) for _ in before], [self.random.choice(NAMES) for _ in behind]
+            parts = [*zip(names[0], before), (name, text), *((it, part) for it, part in zip(names[1], behind) if it != name)]
+            text = self.row("{}", [self.string(it) + self.whitespace() + ":" + self.whitespace() + part for it, part in parts])
+        return text
+
+    def deep_pointer(self, text):
+        """One that leads far along the longest values, and then perhaps beside them."""
+        node, tokens, left = read(text), [], self.random.choice((5, 60, 60, 60))
+        while node.parts and left:
+            longest = max(range(len(node.parts)), key=lambda n: node.parts[n][3].end - node.parts[n][3].start)
+            number, left = longest, left - 1
+            if node.parts[longest][3].kind == "string" or not left or self.random.random() < 0.03:
+                number, left = self.random.randrange(len(node.parts)), min(left, 1)
+            part = node.parts[number]
+            tokens.append(part[1] if node.kind == "object" else str(number))
+            node = part[3]
+        return "".join("/" + token.replace("~", "~0").replace("/", "~1") for token in tokens)
+
     def operation(self, text, kinds=OPERATIONS):
-        op = self.random.choice(kinds)
-        operation, put = {"op": op, "path": self.pointer(text)}, None
+        op, pointer = self.random.choice(kinds), self.deep_pointer if len(text) > 2100 else self.pointer
+        operation, put = {"op": op, "path": pointer(text)}, None
         if op in ("move", "copy"):
-            operation["from"] = self.pointer(text)
+            operation["from"] = pointer(text)
         if op in ("add", "replace", "test"):
             put = self.value(self.random.choice((0, 0, 1, 2)))
             if op == "test" and self.random.random() < 0.6:
@@ -131,10 +160,10 @@ class Texts:
             text = text if after is None else after
         return made
 
-    def many_operations(self, text):
+    def many_operations(self, text, most=70):
         """Some twenty-five, of which each but a few is accepted."""
         made = []
-        for _ in range(self.random.randrange(40, 70)):
+        for _ in range(self.random.randrange(most * 4 // 7, most)):
             operation = self.operation(text, MANY_OPERATIONS)
             if operation[0]["path"] in ("", "/w"):
                 continue
@@ -216,10 +245,11 @@ def by_rust(program, batch):
     return [next(answered) if pair else None for pair in said]
 
 
-def case_of(texts, wide, record):
+def case_of(texts, asked):
     """A text and a patch, its operations, and what is wanted: None where a byte is changed or cut off."""
-    text = texts.wide() if wide else texts.text(4)
-    operations = texts.many_operations(text) if wide else texts.operations(text)
+    record = asked.record
+    text = texts.wide() if asked.wide else texts.deep() if asked.deep else texts.text(4)
+    operations = texts.many_operations(text, 14 if asked.deep else 70) if asked.wide or asked.deep else texts.operations(text)
     patch = texts.written(operations)
     wanted = recorded(text, operations) if record else patched(text, operations)
     if texts.random.random() < 0.125:
@@ -267,6 +297,7 @@ def asked_for():
     words.add_argument("--ours", required=True)
     words.add_argument("--rust")
     words.add_argument("--wide", action="store_true")
+    words.add_argument("--deep", action="store_true")
     words.add_argument("--spoil", action="store_true")
     words.add_argument("--record", action="store_true")
     asked = words.parse_args()
@@ -279,7 +310,7 @@ def main():
     asked = asked_for()
     texts, came, wrong, done = Texts(asked.seed), Counter(), 0, 0
     while done < asked.cases:
-        batch = [case_of(texts, asked.wide, asked.record) for _ in range(min(BATCH, asked.cases - done))]
+        batch = [case_of(texts, asked) for _ in range(min(BATCH, asked.cases - done))]
         theirs = by_rust(asked.rust, batch) if asked.rust else [None] * len(batch)
         ours = answers(asked.ours, [pair for pair, *_ in batch])
         for (pair, operations, wanted), line, said in zip(batch, ours, theirs):
@@ -295,7 +326,7 @@ def main():
                 if wrong <= 5:
                     print(f"WRONG: {pair}\n  wanted {wanted}\n  got    {got}")
         done += len(batch)
-    kinds = (*OPERATIONS, *(() if asked.wide else KINDS), *((OTHERWISE,) if asked.rust and asked.spoil else ()))
+    kinds = (*OPERATIONS, *(() if asked.wide or asked.deep else KINDS), *((OTHERWISE,) if asked.rust and asked.spoil else ()))
     missing = [kind for kind in kinds if not came[kind]]
     print(f"{done} texts, seed {asked.seed}: {wrong} " + ("spoilt ones not found out" if asked.spoil else "wrong"))
     print(", ".join(f"{count} {kind}" for kind, count in sorted(came.items())))
