@@ -280,6 +280,26 @@ static void expect_deep(const nest *by, size_t turns, const json_patch_limits *l
     free(deep.bytes);
 }
 
+/* Five changes as deep as a text may nest, of which each level is long: all on the way is opened at once. */
+static void expect_long_way(const nest *by, const json_patch_limits *limits) {
+    size_t turns = (limits->depth - 1) / levels_of(by);
+    text document = {NULL, 0, 0}, patch = {NULL, 0, 0};
+    put_times(&document, by->open, turns);
+    put(&document, "[0,\"");
+    put_times(&document, "x", 3000);
+    put(&document, "\"]");
+    put_times(&document, by->close, turns);
+    for (int i = 0; i < 5; i++) {
+        put(&patch, "%s{\"op\":\"replace\",\"path\":\"", i ? "," : "[");
+        put_times(&patch, by->token, turns);
+        put(&patch, "/0\",\"value\":%d}", i + 1);
+    }
+    put(&patch, "]");
+    expect_each(&document, &patch, limits, JSON_PATCH_OK, 0, 0, "a long way");
+    free(document.bytes);
+    free(patch.bytes);
+}
+
 /* Two documents that differ in what stands innermost. Each level has a member beside it, so long that no level
    is replaced whole. */
 static text made_of(size_t turns, int goal) {
@@ -640,6 +660,7 @@ static void *made(void *unused) {
             if (levels_of(&nests[j]) <= limits.depth)
                 for (size_t k = 0; k < sizeof lengths / sizeof *lengths; k++)
                     expect_doubling(&nests[j], lengths[k], &limits);
+            expect_long_way(&nests[j], &limits);
             for (size_t turns = 0; turns <= 130; turns++)
                 expect_deep(&nests[j], turns, given.depth > MOST ? &given : &limits);
         }
