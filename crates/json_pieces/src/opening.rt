@@ -36,6 +36,8 @@ const LONG: usize = 2_048;
 #[derive(Clone, Copy)]
 pub(crate) struct Way<'w> {
     tokens: Tokens<'w>,
+    /// So many levels more may be opened at once.
+    levels: usize,
     /// Places of the value's text.
     places: Places<'w>,
 }
@@ -60,13 +62,14 @@ fn leads_through(
     alloc: Global,
     cut: &Cut<'_>,
     number: usize,
+    levels: usize,
     tokens: &mut Tokens<'_>,
 ) -> Result<Option<bool>, AllocError>
     requires { (j : Json) × IsTextOf cut.now.value.now j }
     ensures row { IfOk result (λ found. IfSome found (λ named. (cs : List Child) × IsTextOf cut.now.value.now (tree_in named cs))) }
     ensures fewer { IfOk result (λ found. OnSome found (length (tokens_left tokens.new) < length (tokens_left tokens.old))) }
 {
-    if cut.value.len() < LONG {
+    if levels == 0 || cut.value.len() < LONG {
         return Ok(None);
     }
     let Some(token) = tokens.next() else {
@@ -93,11 +96,16 @@ fn value_along<'a>(
     ensures { IfOk result (λ node. IsSound (view node) × (tree_text (view node) ≡ cut.now.value.now)) }
 {
     let mut tokens = way.tokens;
-    let Some(named) = leads_through(alloc, cut, number, &mut tokens)? else {
+    let Some(named) = leads_through(alloc, cut, number, way.levels, &mut tokens)? else {
         return Ok(Node::Closed(Text::kept(cut.value)));
     };
     let places = way.places.within(cut.place.start);
-    let way = Way { tokens, places };
+    let levels = way.levels.saturating_sub(1);
+    let way = Way {
+        tokens,
+        levels,
+        places,
+    };
     let row = row_of(alloc, Lent::new(cut.value), named, way, opened)?;
     *opened = opened.saturating_add(row.count());
     Ok(Node::Open(Box::new(alloc, row)?))
@@ -194,11 +202,16 @@ fn value_copied<'a>(
     ensures { IfOk result (λ node. IsSound (view node) × (tree_text (view node) ≡ cut.now.value.now)) }
 {
     let mut tokens = way.tokens;
-    let Some(named) = leads_through(alloc, cut, number, &mut tokens)? else {
+    let Some(named) = leads_through(alloc, cut, number, way.levels, &mut tokens)? else {
         return Ok(Node::Closed(Text::made(alloc, cut.value)?));
     };
     let places = way.places.within(cut.place.start);
-    let way = Way { tokens, places };
+    let levels = way.levels.saturating_sub(1);
+    let way = Way {
+        tokens,
+        levels,
+        places,
+    };
     let row = copied(alloc, Lent::new(cut.value), named, way, opened)?;
     *opened = opened.saturating_add(row.count());
     Ok(Node::Open(Box::new(alloc, row)?))
@@ -247,6 +260,9 @@ fn has_names(text: &str) -> Option<bool>
     }
 }
 
+/// So many levels are opened at once: more would take more of the stack than other calls do.
+const AT_ONCE: usize = 64;
+
 /// With so many tokens ahead it pays to look for the ends of all that is long first.
 const DEEP: usize = 8;
 
@@ -293,12 +309,33 @@ fn deep_row<'a>(
 {
     let bytes = text.as_str().as_bytes();
     let mut signposts = Signposts::new();
+    let levels = AT_ONCE;
     if leaves_signposts(bytes, MAX_DEPTH, &mut signposts) {
         let places = signposts.places();
-        return row_along(alloc, text, named, Way { tokens, places }, opened);
+        return row_along(
+            alloc,
+            text,
+            named,
+            Way {
+                tokens,
+                levels,
+                places,
+            },
+            opened,
+        );
     }
     let places = Places::none();
-    row_along(alloc, text, named, Way { tokens, places }, opened)
+    row_along(
+        alloc,
+        text,
+        named,
+        Way {
+            tokens,
+            levels,
+            places,
+        },
+        opened,
+    )
 }
 
 /// The row of a value that is closed, if it is an object or an array.
@@ -321,8 +358,18 @@ fn row_for<'a>(
     if text.len() >= LONG && is_deep(tokens) {
         return Ok(Some(deep_row(alloc, text, named, tokens, opened)?));
     }
-    let places = Places::none();
-    Ok(Some(row_along(alloc, text, named, Way { tokens, places }, opened)?))
+    let (levels, places) = (0, Places::none());
+    Ok(Some(row_along(
+        alloc,
+        text,
+        named,
+        Way {
+            tokens,
+            levels,
+            places,
+        },
+        opened,
+    )?))
 }
 
 /// Counts a question for a member.
