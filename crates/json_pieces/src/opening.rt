@@ -56,22 +56,18 @@ fn names(
     Ok(is_name_text(cut.name, name.as_str()))
 }
 
-/// Whether a value that is cut from a text, the one of this number, is long and the tokens lead through it: then
-/// whether it has names, and the first token is taken from them.
+/// Whether the tokens lead through a value that is cut from a text, the one of this number: then whether it has
+/// names, and the first token is taken from them.
 fn leads_through(
     alloc: Global,
     cut: &Cut<'_>,
     number: usize,
-    levels: usize,
     tokens: &mut Tokens<'_>,
 ) -> Result<Option<bool>, AllocError>
     requires { (j : Json) × IsTextOf cut.now.value.now j }
     ensures row { IfOk result (λ found. IfSome found (λ named. (cs : List Child) × IsTextOf cut.now.value.now (tree_in named cs))) }
     ensures fewer { IfOk result (λ found. OnSome found (length (tokens_left tokens.new) < length (tokens_left tokens.old))) }
 {
-    if levels == 0 || cut.value.len() < LONG {
-        return Ok(None);
-    }
     let Some(token) = tokens.next() else {
         return Ok(None);
     };
@@ -95,8 +91,11 @@ fn value_along<'a>(
     requires places { (t : List ℕ) × IsInner t cut.now.place cut.now.value.now × ArePlaces t way.places }
     ensures { IfOk result (λ node. IsSound (view node) × (tree_text (view node) ≡ cut.now.value.now)) }
 {
+    if way.levels == 0 || cut.value.len() < LONG {
+        return Ok(Node::Closed(Text::kept(cut.value)));
+    }
     let mut tokens = way.tokens;
-    let Some(named) = leads_through(alloc, cut, number, way.levels, &mut tokens)? else {
+    let Some(named) = leads_through(alloc, cut, number, &mut tokens)? else {
         return Ok(Node::Closed(Text::kept(cut.value)));
     };
     let places = way.places.within(cut.place.start);
@@ -201,8 +200,11 @@ fn value_copied<'a>(
     requires places { (t : List ℕ) × IsInner t cut.now.place cut.now.value.now × ArePlaces t way.places }
     ensures { IfOk result (λ node. IsSound (view node) × (tree_text (view node) ≡ cut.now.value.now)) }
 {
+    if way.levels == 0 || cut.value.len() < LONG {
+        return Ok(Node::Closed(Text::made(alloc, cut.value)?));
+    }
     let mut tokens = way.tokens;
-    let Some(named) = leads_through(alloc, cut, number, way.levels, &mut tokens)? else {
+    let Some(named) = leads_through(alloc, cut, number, &mut tokens)? else {
         return Ok(Node::Closed(Text::made(alloc, cut.value)?));
     };
     let places = way.places.within(cut.place.start);
