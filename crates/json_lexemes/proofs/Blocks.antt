@@ -1,11 +1,11 @@
 -- Brackets counted along a block, byte by byte and by masks.
-use Rattle.std.proofs.Common.{◌≡◌, ◌⊎◌, ℕ, zero, suc, ◌+◌, ◌<◌, ◌≤◌, Bool, true, false, cond, ◌==◌, max, List, ◌∷◌, length, drop, get_or, inl, inr, refl, sym, ap, ◌∙◌, subst, arith, add-zero}
+use Rattle.std.proofs.Common.{◌≡◌, ◌⊎◌, ℕ, zero, suc, ◌+◌, ◌<◌, ◌≤◌, Bool, true, false, cond, ◌==◌, ◌||◌, max, List, [], ◌∷◌, length, drop, get_or, inl, inr, refl, sym, ap, ◌∙◌, subst, arith, add-zero}
 use Rattle.std.proofs.lemmas.Bool.{cases_Bool}
 use Rattle.json.specs.Text.{content, plain}
 use Rattle.json.specs.Word.{is_operator, is_space, word}
 use Rattle.json.specs.Lex.{Lexeme, token, string_token, operator_lexeme, Class, quote, backslash, operator, space, other, class, Mode, between, in_word, in_string, in_escape, lex, lex_byte}
 use Rattle.json_lexemes.specs.Lexing.{next_mode}
-use Rattle.json_lexemes.specs.Skipped.{depth_after, if_open, most_open, skip}
+use Rattle.json_lexemes.specs.Skipped.{depth_after, if_open, most_open, nesting, one_less, skip}
 use Rattle.json_lexemes.specs.Places.{mode_at, depth_by}
 use Rattle.json_lexemes.specs.Blocks.{is_outside, mode_along, open_along}
 use Rattle.json_lexemes.proofs.Steps.{drop_step, mode_step, most_least, operator_class, operator_opens, flat_byte, flat_word, string_depth}
@@ -154,3 +154,28 @@ module _ (t : List ℕ) (at : ℕ) (m : Mode) where
   along_mode (suc i) h e =
       let next : at + suc i ≡ at + i + 1 = omega arith in
       ap (mode_at t) next ∙ mode_step t (at + i) (omega arith) ∙ ap (λ k. next_mode k (class (get_or t (at + i) 0))) (along_mode i (omega arith) e)
+
+-- ---- as many brackets as bytes at the most
+
+bytes_least : (a b : Bool) (n : ℕ) → cond a (suc n) (cond b (one_less n) n) ≤ suc n
+bytes_least true b n = omega arith
+bytes_least false true zero = omega arith
+bytes_least false true (suc n) = omega arith
+bytes_least false false n = omega arith
+
+byte_least : (b : Bool) (n x : ℕ) → cond b (depth_by n x) n ≤ suc n
+byte_least true n x = bytes_least ((x == 123) || (x == 91)) ((x == 125) || (x == 93)) n
+byte_least false n x = omega arith
+
+most_bytes : (m : Mode) (n : ℕ) (xs : List ℕ) → most_open n (lex m xs) ≤ n + length xs
+unfolding lex most_open
+most_bytes m n [] = omega arith
+most_bytes m n (x ∷ xs) =
+    let k = cond (is_outside m) (depth_by n x) n in
+    let e = byte_more m (class x) x xs n (byte_counts x) in
+    let l = byte_least (is_outside m) n x in
+    let r = most_bytes (next_mode m (class x)) k xs in
+    omega (arith, e, l, r)
+
+pub nests_least : (t : List ℕ) → nesting t ≤ length t
+nests_least t = let l = most_bytes between 0 t in omega (arith, l)

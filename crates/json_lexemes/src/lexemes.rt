@@ -664,6 +664,9 @@ fn is_deeper_from(text: &[u8], from: usize, depth: usize, most: usize) -> bool
 pub fn is_deeper(text: &[u8], most: usize) -> bool
     ensures { Decides result (most < nesting text.now) }
 {
+    if most >= text.len() {
+        return false;
+    }
     let first = bracket_from(text, 0);
     if most == 0 || first == text.len() || !is_opening(text[first]) {
         return is_deeper_from(text, first, 0, most);

@@ -301,6 +301,9 @@ impl<'a> Places<'a> {
             → IsEnd text.now result × ((result ≡ from) ⊎ HasEnd text.now result) }
         ensures boundary { IsUtf8 text.now → IsCharBoundary text.now from → IsCharBoundary text.now result }
     {
+        if self.spans.is_empty() {
+            return value_end(text, from);
+        }
         // What is no object and no array is passed as soon.
         if is_opening(byte_at(text, from)) {
             if let Some(end) = self.end_of(text, from) {

@@ -172,6 +172,25 @@ fn trail(
     }
 }
 
+/// The element of this number, of so many in an array, whose inside begins at `start`.
+fn element_at(own: Own<'_>, start: usize, number: usize, count: usize) -> Option<Numbered>
+    requires own { IsOwn own }
+    requires within { start ≤ length own.text.now }
+    requires count { (cs : List Child) → IsInside own.text.now false cs start → count ≡ length cs }
+    ensures found { (cs : List Child) → IsInside own.entry.text.now false cs start
+        → MatchOption result (drop number cs ≡ []) (IsNumbered own.entry.text.now false cs number) }
+    ensures order { IfSome result (λ r. (r.before ≤ r.part.start) × AreInOrder own.entry.text.now r.part) }
+    ensures boundary { (IsUtf8 own.entry.text.now → IsCharBoundary own.entry.text.now start) → IfSome result
+        (λ r. (IsUtf8 own.entry.text.now → IsCharBoundary own.entry.text.now r.before)
+        × CutNone own.entry.text.now r.part) }
+{
+    if number >= count {
+        return None;
+    }
+    let ahead = own.ahead(start, false, number);
+    part_at(own.text.as_bytes(), start, false, number, ahead)
+}
+
 /// The whole with a new element in an array, whose inside begins at `start`.
 fn with_element(
     alloc: Global,
@@ -192,13 +211,17 @@ fn with_element(
         return Ok(None);
     };
     let text = own.text;
-    let bytes = text.as_bytes();
-    let last = last_part(bytes, start, false, own.ahead(start, false, usize::MAX));
-    let Ok(number) = index.for_len_incl(count(last)) else {
+    let last = last_part(
+        text.as_bytes(),
+        start,
+        false,
+        own.ahead(start, false, usize::MAX),
+    );
+    let count = count(last);
+    let Ok(number) = index.for_len_incl(count) else {
         return Ok(None);
     };
-    let ahead = own.ahead(start, false, number);
-    if let Some(found) = part_at(bytes, start, false, number, ahead) {
+    if let Some(found) = element_at(own, start, number, count) {
         let trail = trail(alloc, text, start, number, found)?;
         let new = put_in(alloc, own, found.part.start, ("", trail.as_str()), value)?;
         return Ok(Some(new));

@@ -2,6 +2,7 @@ use Rattle.std.proofs.Common.{◌≡◌, ◌+◌, true, get_or, ap, ◌∙◌, s
 use Rattle.json_lexemes.specs.Blocks.{is_opening}
 use Rattle.json_lexemes.specs.Places.{left_at}
 use Rattle.json_lexemes.specs.Skipped.{most_open}
+use Rattle.json_lexemes.proofs.Blocks.{nests_least}
 use Rattle.json_lexemes.proofs.Passed.{opening_depth, opening_operator}
 use Rattle.json_lexemes.proofs.Steps.{most_step, operator_first}
 use Rattle.json_lexemes.proofs.lexemes.is_deeper.Goals as goal
@@ -18,3 +19,8 @@ returns c =
     let m = c.shallow_end-at.ensures.most in
     let r = c.is_deeper_from-2.ensures in
     (λ e. let f = r.0 e in omega (arith, f, m, d, s, p), λ h. r.1 (omega (arith, h, m, d, s, p)))
+
+pub returns-then-most-text : goal.returns-then-most-text
+returns-then-most-text c =
+    let l = nests_least c.args.text.now in
+    (λ e. cc, λ h. absurd (omega (arith, h, l, c.if-most-text.true)))

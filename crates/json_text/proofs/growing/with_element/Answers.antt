@@ -1,6 +1,6 @@
 use Rattle.std.proofs.Common.{◌≡◌, ◌≤◌, [], false, List, drop, sym, subst, arith}
 use Rattle.std.specs.Prelude.{MatchOption}
-use Rattle.std.specs.Str.{IsCharBoundary}
+use Rattle.std.specs.Str.{IsCharBoundary, IsUtf8}
 use Rattle.json_text.specs.Rows.{AreInOrder, Child, CutNone, IsComma, IsInside, IsLast, IsNumbered, IsTrail}
 use Rattle.json_text.proofs.Rows.Added.{alone_put, before_put, behind_put, chosen_slot, counted_by, no_index, past_end, same_last}
 use Rattle.json_text.proofs.growing.with_element.Goals as goal
@@ -13,13 +13,13 @@ returns-in_default-for_len_incl c =
     let t = c.args.own.text.now in
     let last = c.last_part-last.result in
     let counted = λ (cs : List Child) (h : IsInside t false cs c.args.start).
-    counted_by t cs last c.count.result ((subst (λ x. (cs : List Child) → IsInside x false cs c.args.start → MatchOption last (cs ≡ []) (λ r. IsLast x false cs r.0 r.1)) c.as_bytes-bytes.ensures.value c.last_part-last.ensures.last) cs h) c.count.ensures in
-    past_end t c.args.name.now c.args.start c.count.result c.in-Ok.index c.requires.row counted c.in-Ok.ensures.index c.in_default-for_len_incl.ensures.outside
+    counted_by t cs last c.count-count.result ((subst (λ x. (cs : List Child) → IsInside x false cs c.args.start → MatchOption last (cs ≡ []) (λ r. IsLast x false cs r.0 r.1)) c.as_bytes.ensures.value c.last_part-last.ensures.last) cs h) c.count-count.ensures in
+    past_end t c.args.name.now c.args.start c.count-count.result c.in-Ok.index c.requires.row counted c.in-Ok.ensures.index c.in_default-for_len_incl.ensures.outside
 
 pub trail-requires-clause-boundary : goal.trail-requires-clause-boundary
 trail-requires-clause-boundary c =
-    let b = c.in-Some.ensures.boundary (λ u. subst (λ x. IsCharBoundary x c.args.start) (sym c.as_bytes-bytes.ensures.value) c.requires.boundary) in
-    (subst (λ x. IsCharBoundary x c.in-Some.found.before) c.as_bytes-bytes.ensures.value (b.0 c.as_bytes-bytes.ensures.utf8), subst (λ x. CutNone x c.in-Some.found.part) c.as_bytes-bytes.ensures.value b.1)
+    let b = c.in-Some.ensures.boundary (λ u. c.requires.boundary) in
+    (b.0 (subst IsUtf8 c.as_bytes.ensures.value c.as_bytes.ensures.utf8), b.1)
 
 pub returns-in-Some : goal.returns-in-Some
 returns-in-Some c =
@@ -29,12 +29,12 @@ returns-in-Some c =
     let last = c.last_part-last.result in
     let m = c.in-Ok-for_len_incl.number in
     let slot = λ (cs : List Child) (h : IsInside t false cs c.args.start).
-    chosen_slot t k c.in-Ok.index c.count.result m cs c.in-Ok.ensures.index (counted_by t cs last c.count.result ((subst (λ x. (cs : List Child) → IsInside x false cs c.args.start → MatchOption last (cs ≡ []) (λ r. IsLast x false cs r.0 r.1)) c.as_bytes-bytes.ensures.value c.last_part-last.ensures.last) cs h) c.count.ensures) c.in-Ok-for_len_incl.ensures.place c.in-Ok-for_len_incl.ensures.within in
+    chosen_slot t k c.in-Ok.index c.count-count.result m cs c.in-Ok.ensures.index (counted_by t cs last c.count-count.result ((subst (λ x. (cs : List Child) → IsInside x false cs c.args.start → MatchOption last (cs ≡ []) (λ r. IsLast x false cs r.0 r.1)) c.as_bytes.ensures.value c.last_part-last.ensures.last) cs h) c.count-count.ensures) c.in-Ok-for_len_incl.ensures.place c.in-Ok-for_len_incl.ensures.within in
     λ v says. (
       _,
       c.in_ok-new.ensures,
-      (before_put t k c.args.value.now c.as_str.result.now c.args.start m r c.requires.row slot (subst (λ x. (cs : List Child) → IsInside x false cs c.args.start → IsNumbered x false cs m r) c.as_bytes-bytes.ensures.value c.in-Some.ensures.found)
-          (subst (λ x. AreInOrder x r.part) c.as_bytes-bytes.ensures.value c.in-Some.ensures.order.1) (subst (IsTrail t c.args.start m r) (sym c.as_str.ensures.value) c.in_ok-trail.ensures)) v says,
+      (before_put t k c.args.value.now c.as_str.result.now c.args.start m r c.requires.row slot c.in-Some.ensures.found
+          c.in-Some.ensures.order.1 (subst (IsTrail t c.args.start m r) (sym c.as_str.ensures.value) c.in_ok-trail.ensures)) v says,
     )
 
 pub returns-in_default-last : goal.returns-in_default-last
@@ -44,16 +44,16 @@ returns-in_default-last c =
     let last = c.last_part-last.result in
     let m = c.in-Ok-for_len_incl.number in
     let counted = λ (cs : List Child) (h : IsInside t false cs c.args.start).
-    counted_by t cs last c.count.result ((subst (λ x. (cs : List Child) → IsInside x false cs c.args.start → MatchOption last (cs ≡ []) (λ r. IsLast x false cs r.0 r.1)) c.as_bytes-bytes.ensures.value c.last_part-last.ensures.last) cs h) c.count.ensures in
+    counted_by t cs last c.count-count.result ((subst (λ x. (cs : List Child) → IsInside x false cs c.args.start → MatchOption last (cs ≡ []) (λ r. IsLast x false cs r.0 r.1)) c.as_bytes.ensures.value c.last_part-last.ensures.last) cs h) c.count-count.ensures in
     let slot = λ (cs : List Child) (h : IsInside t false cs c.args.start).
-    chosen_slot t k c.in-Ok.index c.count.result m cs c.in-Ok.ensures.index (counted cs h) c.in-Ok-for_len_incl.ensures.place c.in-Ok-for_len_incl.ensures.within in
+    chosen_slot t k c.in-Ok.index c.count-count.result m cs c.in-Ok.ensures.index (counted cs h) c.in-Ok-for_len_incl.ensures.place c.in-Ok-for_len_incl.ensures.within in
     let within = λ (cs : List Child) (h : IsInside t false cs c.args.start). subst (λ n. m ≤ n) (counted cs h) c.in-Ok-for_len_incl.ensures.within in
-    λ v says. (_, c.in_ok-new-2.ensures, (alone_put t k c.args.value.now c.args.start m c.requires.row slot within (subst (λ x. (cs : List Child) → IsInside x false cs c.args.start → cs ≡ []) c.as_bytes-bytes.ensures.value c.in_default-last.ensures.last) c.requires.within) v says)
+    λ v says. (_, c.in_ok-new-2.ensures, (alone_put t k c.args.value.now c.args.start m c.requires.row slot within (subst (λ x. (cs : List Child) → IsInside x false cs c.args.start → cs ≡ []) c.as_bytes.ensures.value c.in_default-last.ensures.last) c.requires.within) v says)
 
 pub comma-requires-clause-boundary : goal.comma-requires-clause-boundary
 comma-requires-clause-boundary c =
-    let b = c.in-Some-last.ensures.boundary (λ u. subst (λ x. IsCharBoundary x c.args.start) (sym c.as_bytes-bytes.ensures.value) c.requires.boundary) in
-    (subst (λ x. IsCharBoundary x c.in-Some-last.last.before) c.as_bytes-bytes.ensures.value (b.0 c.as_bytes-bytes.ensures.utf8), subst (λ x. CutNone x c.in-Some-last.last.part) c.as_bytes-bytes.ensures.value b.1)
+    let b = c.in-Some-last.ensures.boundary (λ u. subst (λ x. IsCharBoundary x c.args.start) (sym c.as_bytes.ensures.value) c.requires.boundary) in
+    (subst (λ x. IsCharBoundary x c.in-Some-last.last.before) c.as_bytes.ensures.value (b.0 c.as_bytes.ensures.utf8), subst (λ x. CutNone x c.in-Some-last.last.part) c.as_bytes.ensures.value b.1)
 
 pub returns : goal.returns
 returns c =
@@ -63,13 +63,19 @@ returns c =
     let last = c.last_part-last.result in
     let m = c.in-Ok-for_len_incl.number in
     let counted = λ (cs : List Child) (h : IsInside t false cs c.args.start).
-    counted_by t cs last c.count.result ((subst (λ x. (cs : List Child) → IsInside x false cs c.args.start → MatchOption last (cs ≡ []) (λ r. IsLast x false cs r.0 r.1)) c.as_bytes-bytes.ensures.value c.last_part-last.ensures.last) cs h) c.count.ensures in
+    counted_by t cs last c.count-count.result ((subst (λ x. (cs : List Child) → IsInside x false cs c.args.start → MatchOption last (cs ≡ []) (λ r. IsLast x false cs r.0 r.1)) c.as_bytes.ensures.value c.last_part-last.ensures.last) cs h) c.count-count.ensures in
     let slot = λ (cs : List Child) (h : IsInside t false cs c.args.start).
-    chosen_slot t k c.in-Ok.index c.count.result m cs c.in-Ok.ensures.index (counted cs h) c.in-Ok-for_len_incl.ensures.place c.in-Ok-for_len_incl.ensures.within in
+    chosen_slot t k c.in-Ok.index c.count-count.result m cs c.in-Ok.ensures.index (counted cs h) c.in-Ok-for_len_incl.ensures.place c.in-Ok-for_len_incl.ensures.within in
     let within = λ (cs : List Child) (h : IsInside t false cs c.args.start). subst (λ n. m ≤ n) (counted cs h) c.in-Ok-for_len_incl.ensures.within in
     λ v says. (
       _,
       c.in_ok-new-3.ensures,
-      (behind_put t k c.args.value.now c.as_str-2.result.now c.args.start m c.in-Some-last.number r c.requires.row slot within (subst (λ x. (cs : List Child) → IsInside x false cs c.args.start → drop m cs ≡ []) c.as_bytes-bytes.ensures.value c.in_default-part_at.ensures.found)
-          (same_last _ t false c.in-Some-last.number r c.args.start c.as_bytes-bytes.ensures.value c.in-Some-last.ensures.last) (subst (λ x. AreInOrder x r.part) c.as_bytes-bytes.ensures.value c.in-Some-last.ensures.order.1) (subst (IsComma t r.part.start) (sym c.as_str-2.ensures.value) c.in_ok-ahead.ensures)) v says,
+      (behind_put t k c.args.value.now c.as_str-2.result.now c.args.start m c.in-Some-last.number r c.requires.row slot within c.in_default-element_at.ensures.found
+          (same_last _ t false c.in-Some-last.number r c.args.start c.as_bytes.ensures.value c.in-Some-last.ensures.last) (subst (λ x. AreInOrder x r.part) c.as_bytes.ensures.value c.in-Some-last.ensures.order.1) (subst (IsComma t r.part.start) (sym c.as_str-2.ensures.value) c.in_ok-ahead.ensures)) v says,
     )
+
+pub element_at-requires-clause-count : goal.element_at-requires-clause-count
+element_at-requires-clause-count c = λ cs h.
+    let t = c.args.own.text.now in
+    let last = c.last_part-last.result in
+    counted_by t cs last c.count-count.result ((subst (λ x. (cs : List Child) → IsInside x false cs c.args.start → MatchOption last (cs ≡ []) (λ r. IsLast x false cs r.0 r.1)) c.as_bytes.ensures.value c.last_part-last.ensures.last) cs h) c.count-count.ensures
