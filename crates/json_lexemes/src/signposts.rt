@@ -77,7 +77,9 @@ fn insert(spans: &mut [Span; ROOM], count: usize, span: Span)
 impl Signposts {
     /// Room for them, and none as yet.
     #[inline(always)]
-    pub fn new() -> Signposts {
+    pub fn new() -> Signposts
+        ensures { (t : List ℕ) → AreSignposts t result }
+    {
         Signposts {
             spans: [Span { start: 0, end: 0 }; ROOM],
             ended: 0,

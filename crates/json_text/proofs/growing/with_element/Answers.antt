@@ -1,7 +1,7 @@
-use Rattle.std.proofs.Common.{◌≡◌, ◌≤◌, [], false, List, drop, sym, subst, arith}
+use Rattle.std.proofs.Common.{◌≡◌, ◌≤◌, [], false, List, sym, subst, arith}
 use Rattle.std.specs.Prelude.{MatchOption}
 use Rattle.std.specs.Str.{IsCharBoundary, IsUtf8}
-use Rattle.json_text.specs.Rows.{AreInOrder, Child, CutNone, IsComma, IsInside, IsLast, IsNumbered, IsTrail}
+use Rattle.json_text.specs.Rows.{AreInOrder, Child, CutNone, IsComma, IsInside, IsLast, IsTrail}
 use Rattle.json_text.proofs.Rows.Added.{alone_put, before_put, behind_put, chosen_slot, counted_by, no_index, past_end, same_last}
 use Rattle.json_text.proofs.growing.with_element.Goals as goal
 
